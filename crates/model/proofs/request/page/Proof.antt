@@ -1,0 +1,26 @@
+-- `page` meets its contract: each arm's tag leads to its event, and any other is looked for in `store`.
+use borrow.Author.Needs.{needs}
+use mathlib.Core.Path.{_∙_}
+use Rattle.model.specs.Requests.{pageKinds, storeKinds}
+use Rattle.model.proofs.Tagged.{passed}
+use Rattle.model.proofs.request.page.Statement.{statement}
+use Rattle.model.proofs.request.page.Tie as tie
+
+returns : tie.Need-returns
+returns c = let r = c .before .before .before .before .before .args .request in
+    c .store .ensures ∙ passed (r .kind) Unit (pageKinds r) (storeKinds r) (c .before .match .rest)
+
+pub page-spec : {M : Type 1} → statement M
+page-spec =
+    tie.close
+    (tie.spec
+    (λ c. search needs)
+    (λ c. search needs)
+    (λ c. search needs)
+    (λ c κs. search needs)
+    returns
+    (λ c. rw (c .match .keys1))
+    (λ c. rw (c .match .keys2))
+    (λ c. rw (c .match .keys3))
+    (λ c. rw (c .match .keys4))
+    (λ c. rw (c .match .keys5)))

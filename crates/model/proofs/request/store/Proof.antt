@@ -1,0 +1,23 @@
+-- `store` meets its contract: each arm's tag leads to its event, and any other is unknown.
+use borrow.Author.Needs.{needs}
+use mathlib.Core.List.{[]}
+use Rattle.model.specs.Requests.{storeKinds}
+use Rattle.model.proofs.Tagged.{passed}
+use Rattle.model.proofs.request.store.Statement.{statement}
+use Rattle.model.proofs.request.store.Tie as tie
+
+returns : tie.Need-returns
+returns c = let r = c .before .before .before .args .request in passed (r .kind) Unit (storeKinds r) [] (c .match .rest)
+
+pub store-spec : {M : Type 1} → statement M
+store-spec =
+    tie.close
+    (tie.spec
+    (λ c. search needs)
+    (λ c. search needs)
+    returns
+    (λ c. rw (c .match .keys1))
+    (λ c. rw (c .match .keys2))
+    (λ c. rw (c .match .keys3))
+    (λ c. rw (c .match .keys4))
+    (λ c. rw (c .match .keys5)))

@@ -1,0 +1,96 @@
+-- Lists of acts: events, restarts, and cuts with any choice of what lands and anything in memory after.
+use mathlib.Core.Bool.{Bool, true, false, _&&_}
+use mathlib.Core.List.{List, [], _∷_}
+use Prim.Native.Nat.{ℕ, zero, suc}
+use lib.Dec.{eqb}
+use Rattle.tables.specs.Base.{if}
+use Rattle.tables.specs.Rule.{test}
+use Rattle.model.specs.declared.sizes.Sizes.{Sizes}
+use Rattle.model.specs.declared.event.Design.the-variants.{Limit, Create, Delete, Activate, Deactivate}
+use Rattle.model.specs.declared.event.Page.the-variants.{Fault, Read, Write, Wire, Unwire}
+use Rattle.model.specs.declared.event.Store.the-variants.{Claim, Truncate, Update, PageDone, MapDone}
+use Rattle.model.specs.declared.event.Event.{Event}
+use Rattle.model.specs.declared.event.Event.the-variants as Event
+use Rattle.model.specs.State.{Disk, Memory, State, files, frames, WRITING}
+use Rattle.model.specs.Pages.{faultFrame}
+use Rattle.model.specs.Stores.{looking, beginsWrite, recordIn, storeFrame, storeImage}
+use Rattle.model.specs.Step.{Outcome, memoryLengths, step, restart}
+use Rattle.model.specs.Restart.{formatted}
+use Rattle.model.specs.Ledger as L
+
+pub data Act : Type 0 where
+  event : Event → Act
+  restarting : Act
+  -- which open writes land, by frame; which open updates, by slot; what the memory holds after
+  cutting : (ℕ → Bool) → (ℕ → Bool) → Memory → Act
+
+-- what an event that is carried out feeds the ledger
+unfoldable pub fed : Sizes → State → Event → L.Fed
+fed z st (Event.Design (Limit q n)) = L.nothing
+fed z st (Event.Design (Create s q n)) = L.created s
+fed z st (Event.Design (Delete s)) = L.deleted s
+fed z st (Event.Design (Activate s)) = L.activated s (st .disk)
+fed z st (Event.Design (Deactivate s)) = L.deactivated s
+fed z st (Event.Page (Fault s p)) = L.faulted s p (faultFrame st)
+fed z st (Event.Page (Read s p w)) = L.nothing
+fed z st (Event.Page (Write s p w x)) = L.wrote s p w x
+fed z st (Event.Page (Wire s p)) = L.nothing
+fed z st (Event.Page (Unwire s p)) = L.nothing
+fed z st (Event.Store Claim) = let f = looking z st .taken in L.claimed f (if (beginsWrite z st) (suc (recordIn z st f)) 0)
+fed z st (Event.Store (Truncate s k)) = L.truncated s k
+fed z st (Event.Store (Update s)) = L.began s
+fed z st (Event.Store (PageDone f good)) = L.pageEnd f good
+fed z st (Event.Store (MapDone s good)) = L.mapEnd s good
+
+-- ── a cut ──
+-- Each open write's record and open update's map is then old or new, whole, in any mix; the rest of the disk stays.
+unfoldable pub landWrites : Sizes → State → (ℕ → Bool) → ℕ → Disk → Disk
+landWrites z st lands zero d = d
+landWrites z st lands (suc f) d = let rest = landWrites z st lands f d in if (lands f && eqb (frames st .frame f .transfer) WRITING) (storeFrame z st f rest) rest
+
+unfoldable pub landUpdates : Sizes → State → (ℕ → Bool) → ℕ → Disk → Disk
+landUpdates z st lands zero d = d
+landUpdates z st lands (suc s) d = let rest = landUpdates z st lands s d in if (lands s && eqb (files st .updating s) 1) (storeImage z st s rest) rest
+
+unfoldable pub landed : Sizes → State → (ℕ → Bool) → (ℕ → Bool) → Disk
+landed z st writes updates = landUpdates z st updates (z .slots) (landWrites z st writes (z .frames) (st .disk))
+
+-- ── the world along a list of acts ──
+pub record World : Type 0 where
+  -- restarted since the format or the last cut
+  pub up : Bool
+  pub state : State
+  pub ledger : L.Ledger
+
+module _ (z : Sizes) where
+  -- a carried-out call is noted; a refused one leaves the ledger alone
+  unfoldable pub noted : Outcome State → L.Fed → L.Ledger → L.Ledger
+  noted o f l = if (eqb (o .answer .refusal) 0) (L.note z l f) l
+
+  unfoldable pub act : World → Act → World
+  act w (event e) = let o = step z (w .state) e in record { up = w .up; state = o .left; ledger = noted o (fed z (w .state) e) (w .ledger) }
+  act w restarting = let o = restart z (w .state) in record { up = if (eqb (o .answer .refusal) 0) true (w .up); state = o .left; ledger = noted o (L.restarted (w .state .disk)) (w .ledger) }
+  act w (cutting writes updates junk) = record {
+    up = false;
+    -- a second cut before the restart finds nothing open
+    state = record { disk = if (w .up) (landed z (w .state) writes updates) (w .state .disk); memory = junk };
+    ledger = L.note z (w .ledger) (L.cut writes updates);
+  }
+
+  -- Restart is the first call after a format or a cut, made again while refused. Memory keeps its lengths.
+  unfoldable pub allowed : World → Act → Bool
+  allowed w (event e) = w .up
+  allowed w restarting = true
+  allowed w (cutting writes updates junk) = test (memoryLengths z junk)
+
+  unfoldable pub legal : World → List Act → Bool
+  legal w [] = true
+  legal w (a ∷ acts) = let rest = legal (act w a) acts in allowed w a && rest
+
+  unfoldable pub run : World → List Act → World
+  run w [] = w
+  run w (a ∷ acts) = run (act w a) acts
+
+  -- a finished format; the memory holds anything
+  unfoldable pub start : Memory → World
+  start junk = record { up = false; state = record { disk = formatted z; memory = junk }; ledger = L.unwritten }

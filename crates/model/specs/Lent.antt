@@ -1,0 +1,27 @@
+-- What a caller lends, in the order in which the code takes it: the frames, the pool and the sixteen tables of numbers as one state.
+use mathlib.Core.Path.{_≡_, refl}
+use mathlib.Core.List.{List}
+use Prim.Native.Nat.{ℕ}
+use Rattle.model.specs.declared.frame.Frame.{Frame}
+use Rattle.model.specs.declared.frame.Pool.{Pool}
+use Rattle.model.specs.State.{Disk, Memory, State}
+
+abbrev pub diskOf : List ℕ → List ℕ → List ℕ → List ℕ → List ℕ → Disk
+diskOf records numbers accounts maps limits = record { records = records; numbers = numbers; accounts = accounts; maps = maps; limits = limits }
+
+abbrev pub stateOf : List Frame → Pool → List ℕ → List ℕ → List ℕ → List ℕ → List ℕ → List ℕ → List ℕ → List ℕ → List ℕ → List ℕ → List ℕ → List ℕ → List ℕ → List ℕ → List ℕ → List ℕ → State
+stateOf frames pool records numbers accounts maps limits words free-queue removal-list addresses states owners free-map active updating images used = record {
+  disk = diskOf records numbers accounts maps limits;
+  memory = record {
+    core = record { frames = frames; words = words; free-queue = free-queue; removal-list = removal-list };
+    held = record { addresses = addresses; states = states; owners = owners; free-map = free-map; pool = pool };
+    slots = record { active = active; updating = updating; images = images };
+    used = used;
+  };
+}
+
+-- two states are equal by their tables
+pub same-state : {f f′ : List Frame} {p p′ : Pool} {a a′ b b′ c c′ d d′ e e′ g g′ h h′ i i′ j j′ k k′ l l′ m m′ n n′ o o′ q q′ r r′ : List ℕ}
+    → f ≡ f′ → p ≡ p′ → a ≡ a′ → b ≡ b′ → c ≡ c′ → d ≡ d′ → e ≡ e′ → g ≡ g′ → h ≡ h′ → i ≡ i′ → j ≡ j′ → k ≡ k′ → l ≡ l′ → m ≡ m′ → n ≡ n′ → o ≡ o′ → q ≡ q′ → r ≡ r′
+    → stateOf f p a b c d e g h i j k l m n o q r ≡ stateOf f′ p′ a′ b′ c′ d′ e′ g′ h′ i′ j′ k′ l′ m′ n′ o′ q′ r′
+same-state ef ep ea eb ec ed ee eg eh ei ej ek el em en eo eq er = λ x. stateOf (ef x) (ep x) (ea x) (eb x) (ec x) (ed x) (ee x) (eg x) (eh x) (ei x) (ej x) (ek x) (el x) (em x) (en x) (eo x) (eq x) (er x)

@@ -1,0 +1,149 @@
+-- Lists of acts that are computed: short names, the sizes of the event program, and what a list answers and leaves.
+use mathlib.Core.Bool.{Bool, true, false, _&&_, _||_}
+use mathlib.Core.List.{List, [], _∷_, _++_}
+use Prim.Native.Nat.{ℕ, _*_}
+use lib.Dec.{eqb}
+use lib.ListN.{replicate}
+use Rattle.tables.specs.Base.{if, all, any, count, find, those, tab}
+use Rattle.tables.specs.Bits.{bits}
+use Rattle.tables.specs.Queue.{members, packed, times, without, tail, head, push-back, push-front, pop, remove, size, first}
+use Rattle.tables.specs.Questions.{firstNo}
+use Rattle.tables.specs.Rule.{test}
+use Rattle.tables.specs.Store.{choose, store}
+use Rattle.model.specs.declared.sizes.Sizes.{Sizes}
+use Rattle.model.specs.declared.event.Design.the-variants.{Limit, Create, Delete, Activate, Deactivate}
+use Rattle.model.specs.declared.event.Page.the-variants.{Fault, Read, Write, Wire, Unwire}
+use Rattle.model.specs.declared.event.Store.the-variants.{Claim, Truncate, Update, PageDone, MapDone}
+use Rattle.model.specs.declared.event.Event.the-variants as Event
+use Rattle.model.specs.State
+use Rattle.model.specs.Rules
+use Rattle.model.specs.Setters
+use Rattle.model.specs.Questions
+use Rattle.model.specs.Parts
+use Rattle.model.specs.Designs
+use Rattle.model.specs.Pages
+use Rattle.model.specs.Stores
+use Rattle.model.specs.Restart
+use Rattle.model.specs.Step
+use Rattle.model.specs.Ledger
+use Rattle.model.specs.Acts
+use Rattle.model.specs.Acts.{Act, World}
+
+-- ── the acts by short names ──
+abbrev pub limit : ℕ → ℕ → Act
+limit q n = Acts.event (Event.Design (Limit q n))
+
+abbrev pub create : ℕ → ℕ → ℕ → Act
+create s q n = Acts.event (Event.Design (Create s q n))
+
+abbrev pub delete : ℕ → Act
+delete s = Acts.event (Event.Design (Delete s))
+
+abbrev pub activate : ℕ → Act
+activate s = Acts.event (Event.Design (Activate s))
+
+abbrev pub deactivate : ℕ → Act
+deactivate s = Acts.event (Event.Design (Deactivate s))
+
+abbrev pub fault : ℕ → ℕ → Act
+fault s p = Acts.event (Event.Page (Fault s p))
+
+abbrev pub read : ℕ → ℕ → ℕ → Act
+read s p w = Acts.event (Event.Page (Read s p w))
+
+abbrev pub write : ℕ → ℕ → ℕ → ℕ → Act
+write s p w x = Acts.event (Event.Page (Write s p w x))
+
+abbrev pub wire : ℕ → ℕ → Act
+wire s p = Acts.event (Event.Page (Wire s p))
+
+abbrev pub unwire : ℕ → ℕ → Act
+unwire s p = Acts.event (Event.Page (Unwire s p))
+
+abbrev pub claim : Act
+claim = Acts.event (Event.Store Claim)
+
+abbrev pub truncate : ℕ → ℕ → Act
+truncate s k = Acts.event (Event.Store (Truncate s k))
+
+abbrev pub update : ℕ → Act
+update s = Acts.event (Event.Store (Update s))
+
+abbrev pub pageDone : ℕ → ℕ → Act
+pageDone f good = Acts.event (Event.Store (PageDone f good))
+
+abbrev pub mapDone : ℕ → ℕ → Act
+mapDone s good = Acts.event (Event.Store (MapDone s good))
+
+abbrev pub restart : Act
+restart = Acts.restarting
+
+-- ── sizes and memory ──
+abbrev pub sized : ℕ → ℕ → Sizes
+sized r f = record { words = 2; records = r; frames = f; slots = 2; pages = 3; accounts = 1 }
+
+-- the event program's: W 2, R 4, F 2, S 2, N 3, Q 1
+abbrev pub small : Sizes
+small = sized 4 2
+
+-- memory of the right lengths that holds nothing sensible
+unfoldable pub junk : Sizes → State.Memory
+junk z = record {
+  core = record {
+    frames = replicate (z .frames) (record { page = 9; used = 7; modified = 1; wired = 1; initial = 3; transfer = 2 });
+    words = replicate (z .frames * z .words) 5;
+    free-queue = replicate (z .frames) 1;
+    removal-list = replicate (z .frames) 1;
+  };
+  held = record {
+    addresses = replicate (State.allPages z) 1;
+    states = replicate (z .records) 3;
+    owners = replicate (z .records) 1;
+    free-map = replicate (State.mapWords z) 77;
+    pool = record { hand = 99; free = 99 };
+  };
+  slots = record { active = replicate (z .slots) 1; updating = replicate (z .slots) 1; images = replicate (State.allPages z) 2 };
+  used = replicate (z .accounts) 8;
+}
+
+-- a cut at which these frames' writes and these slots' updates land
+unfoldable pub among : List ℕ → ℕ → Bool
+among [] x = false
+among (y ∷ ys) x = eqb x y || among ys x
+
+abbrev pub cut : List ℕ → List ℕ → Act
+cut fs ss = Acts.cutting (among fs) (among ss) (junk small)
+
+-- ── what a list answers and leaves ──
+-- the answer and the result of one act (a cut has none)
+unfoldable pub said : Sizes → World → Act → List ℕ
+unfolding all any count find those tab bits members packed times without tail head push-back push-front pop remove size first firstNo test choose store State.charged State.payer State.usedOf State.freeCount State.freeWord Rules.diskRules Rules.rangeRules Rules.recordRules Rules.queueRules Rules.frameRules Rules.countRules Rules.memoryRules Rules.allRules Setters.counted Questions.wouldStore Parts.frameOf Parts.pick Designs.limit Designs.create Designs.delete Designs.activate Designs.deactivate Pages.beginRead Pages.serveZeros Pages.takeRecord Pages.read Pages.wordRead Pages.write Pages.wire Pages.unwire Pages.lookStart Pages.faultFrame Pages.fault Stores.look Stores.looking Stores.zeros Stores.freeFrame Stores.beginsWrite Stores.claim Stores.cutFrames Stores.truncate Stores.update Stores.readGood Stores.readFailed Stores.storeFrame Stores.writeGood Stores.writeFailed Stores.pageDone Stores.storeImage Stores.updateOver Stores.mapDone Restart.formatted Restart.isListed Restart.listedAt Restart.restarted Step.allFit Step.answer Step.carried Step.result Step.step Step.format Step.restart Step.look Ledger.noWrite Ledger.noUpdate Ledger.put Ledger.over Ledger.finishWrite Ledger.finishUpdate Ledger.strikeWrite Ledger.strikeUpdate Ledger.finishWrites Ledger.finishUpdates Ledger.lose Ledger.found Ledger.recount Ledger.note Ledger.unwritten Acts.fed Acts.landWrites Acts.landUpdates Acts.landed Acts.noted Acts.act Acts.allowed Acts.legal Acts.run Acts.start junk among
+said z w (Acts.event e) = let a = Step.step z (w .state) e .answer in a .refusal ∷ a .result ∷ []
+said z w Acts.restarting = let a = Step.restart z (w .state) .answer in a .refusal ∷ a .result ∷ []
+said z w (Acts.cutting writes updates m) = []
+
+-- the answers and results of a list
+unfoldable pub trace : Sizes → World → List Act → List ℕ
+unfolding said
+trace z w [] = []
+trace z w (a ∷ acts) = said z w a ++ trace z (Acts.act z w a) acts
+
+-- a formatted disk, memory junk
+unfoldable pub begin : Sizes → World
+unfolding said
+begin z = Acts.start z (junk z)
+
+-- answer and result of a list's last act, from a format on
+unfoldable pub says : Sizes → List Act → List ℕ
+unfolding begin
+says z acts = go (begin z) acts
+  where
+    go : World → List Act → List ℕ
+    go w [] = []
+    go w (a ∷ []) = said z w a
+    go w (a ∷ b ∷ acts′) = go (Acts.act z w a) (b ∷ acts′)
+
+-- the state that a list leaves
+unfoldable pub leaves : Sizes → List Act → State.State
+unfolding begin
+leaves z acts = Acts.run z (begin z) acts .state

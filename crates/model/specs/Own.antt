@@ -1,0 +1,45 @@
+-- An event by its own questions, once 1 and 2 are asked; and what `step` is in each case of 1 and 2. For code that asks them apart.
+use mathlib.Core.Path.{_≡_, refl, ap, _∙_}
+use mathlib.Core.Bool.{Bool, true, false}
+use Prim.Native.Nat.{ℕ, zero, suc}
+use Rattle.tables.specs.Base.{if}
+use Rattle.tables.specs.Questions.{Questions, ask, firstNo}
+use Rattle.tables.specs.Rule.{Rule, Holds, test, told, untold}
+use Rattle.model.specs.declared.sizes.Sizes.{Sizes}
+use Rattle.model.specs.declared.event.Event.{Event}
+use Rattle.model.specs.State.{State}
+use Rattle.model.specs.Rules.{allRules}
+use Rattle.model.specs.Questions.{questions}
+use Rattle.model.specs.Step.{Outcome, outcome, allFit, asked, answer, carried, result, step}
+
+unfoldable pub own : Sizes → State → Event → Outcome State
+own z st e = outcome (firstNo (questions z st e)) (result z st e) st (carried z st e)
+
+-- refused by question n
+abbrev pub refusal : ℕ → State → Outcome State
+refusal n st = record { answer = record { refusal = n; result = 0 }; left = st }
+
+-- the first question answered
+pub first-yes : (n : ℕ) (r : Rule) (q : Questions) → Holds r → firstNo (ask n r q) ≡ firstNo q
+unfolding firstNo
+first-yes n r q h = rw (told r h)
+
+pub first-no : (n : ℕ) (r : Rule) (q : Questions) → ¬ Holds r → firstNo (ask n r q) ≡ n
+unfolding firstNo
+first-no n r q h = rw (untold r h)
+
+module _ (z : Sizes) (st : State) (e : Event) where
+  abbrev by : ℕ → Outcome State
+  by n = outcome n (result z st e) st (carried z st e)
+
+  pub step-own : Holds (allFit z st) → Holds (allRules z st) → step z st e ≡ own z st e
+  unfolding step own answer
+  step-own f r = ap by (first-yes 1 (allFit z st) (ask 2 (allRules z st) (questions z st e)) f ∙ first-yes 2 (allRules z st) (questions z st e) r)
+
+  pub step-unfit : ¬ Holds (allFit z st) → step z st e ≡ refusal 1 st
+  unfolding step answer
+  step-unfit f = ap by (first-no 1 (allFit z st) (ask 2 (allRules z st) (questions z st e)) f)
+
+  pub step-unruled : Holds (allFit z st) → ¬ Holds (allRules z st) → step z st e ≡ refusal 2 st
+  unfolding step answer
+  step-unruled f r = ap by (first-yes 1 (allFit z st) (ask 2 (allRules z st) (questions z st e)) f ∙ first-no 2 (allRules z st) (questions z st e) r)

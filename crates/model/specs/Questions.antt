@@ -1,0 +1,178 @@
+-- The questions that come after 1 and 2: each stands once here, under paper 01's sentence and with its number.
+use Prim.Native.Nat.{ℕ, suc}
+use Rattle.tables.specs.Base.{at, if}
+use Rattle.tables.specs.Queue.{size}
+use Rattle.tables.specs.Questions.{Questions, none, ask}
+use Rattle.tables.specs.Rule.{Rule, same, below, non, _and_, _or_, _then_, each, named, test}
+use Rattle.model.specs.declared.sizes.Sizes.{Sizes}
+use Rattle.model.specs.declared.event.Design.{Design}
+use Rattle.model.specs.declared.event.Design.the-variants.{Limit, Create, Delete, Activate, Deactivate}
+use Rattle.model.specs.declared.event.Page.{Page}
+use Rattle.model.specs.declared.event.Page.the-variants.{Fault, Read, Write, Wire, Unwire}
+use Rattle.model.specs.declared.event.Store.{Store}
+use Rattle.model.specs.declared.event.Store.the-variants.{Claim, Truncate, Update, PageDone, MapDone}
+use Rattle.model.specs.declared.event.Event.{Event}
+use Rattle.model.specs.declared.event.Event.the-variants as Event
+use Rattle.model.specs.Lines.{NULLED, RELEASED, LEAVING}
+use Rattle.model.specs.State.{State, Files, Frames, files, frames, NONE, pageOf, framed, live, payer}
+use Rattle.model.specs.Rules.{isActive}
+
+module _ (z : Sizes) (st : State) where
+  abbrev v : Files
+  v = files st
+
+  abbrev c : Frames
+  c = frames st
+
+  -- ── what the questions ask ──
+  abbrev filled : ℕ → Rule
+  filled s = non (same (v .number s) 0)
+
+  abbrev page : ℕ → ℕ → ℕ
+  page s p = pageOf z s p
+
+  -- the page is in no transfer
+  abbrev still : ℕ → Rule
+  still i = each (z .frames) λ f. same (c .frame f .page) (suc i) then same (c .frame f .transfer) NONE
+
+  -- the page is in no wired frame
+  abbrev unwired : ℕ → Rule
+  unwired i = each (z .frames) λ f. same (c .frame f .page) (suc i) then non (same (c .frame f .wired) 1)
+
+  -- what an update now would store for a page
+  unfoldable pub wouldStore : ℕ → ℕ
+  wouldStore i = if (test (live v i)) (v .address i) 0
+
+  -- ── each question, with its number ──
+  -- 3. Slot, page, word, frame, account below their sizes, k at most N, good 0 or 1, number above 0?
+  abbrev q3 : Rule → Questions → Questions
+  q3 range = ask 3 range
+
+  -- 4. All slot events but create: slot filled?
+  abbrev q4 : ℕ → Questions → Questions
+  q4 s = ask 4 (filled s)
+
+  -- 5. Create: slot empty?
+  abbrev q5 : ℕ → Questions → Questions
+  q5 s = ask 5 (same (v .number s) 0)
+
+  -- 6. Create: number in no slot?
+  abbrev q6 : ℕ → Questions → Questions
+  q6 n = ask 6 (each (z .slots) λ s. non (same (v .number s) n))
+
+  -- 7. Delete: map all 0?
+  abbrev q7 : ℕ → Questions → Questions
+  q7 s = ask 7 (each (z .pages) λ p. same (v .map (page s p)) 0)
+
+  -- 8. Slot events but create, delete, activate: active?
+  abbrev q8 : ℕ → Questions → Questions
+  q8 s = ask 8 (isActive v s)
+
+  -- 9. Activate, delete: inactive?
+  abbrev q9 : ℕ → Questions → Questions
+  q9 s = ask 9 (non (isActive v s))
+
+  -- 10. Update, deactivate: no update of it under way?
+  abbrev q10 : ℕ → Questions → Questions
+  q10 s = ask 10 (same (v .updating s) 0)
+
+  -- 11. Deactivate: no page of it in a frame?
+  abbrev q11 : ℕ → Questions → Questions
+  q11 s = ask 11 (each (z .pages) λ p. non (framed z c (page s p)))
+
+  -- 12. Deactivate: map equals what an update now would store, no record of it nulled or released?
+  abbrev q12 : ℕ → Questions → Questions
+  q12 s = ask 12 ((each (z .pages) λ p. same (v .map (page s p)) (wouldStore (page s p)))
+      and each (z .records) λ r. same (v .owner r) s then non (same (v .state r) NULLED or same (v .state r) RELEASED))
+
+  -- 13. Read, write, wire, unwire: page in a frame?
+  abbrev q13 : ℕ → Questions → Questions
+  q13 i = ask 13 (framed z c i)
+
+  -- 14. These, fault, truncate: no page concerned (truncate: from k up) in transfer?
+  abbrev q14 : Rule → Questions → Questions
+  q14 concerned = ask 14 concerned
+
+  -- 15. Fault: page in no frame?
+  abbrev q15 : ℕ → Questions → Questions
+  q15 i = ask 15 (non (framed z c i))
+
+  -- 16. Wire, truncate: no page concerned wired?
+  abbrev q16 : Rule → Questions → Questions
+  q16 concerned = ask 16 concerned
+
+  -- 17. Unwire: wired?
+  abbrev q17 : ℕ → Questions → Questions
+  q17 i = ask 17 (non (unwired i))
+
+  -- 18. Fault without live address: used below limit?
+  abbrev q18 : ℕ → ℕ → Questions → Questions
+  q18 s i = ask 18 (live v i or below (at (st .memory .used) (payer v s)) (at (st .disk .limits) (payer v s)))
+
+  -- 19. Fault without address: a record free?
+  abbrev q19 : ℕ → Questions → Questions
+  q19 i = ask 19 (non (same (v .address i) 0) or below 0 (st .memory .held .pool .free))
+
+  -- 20. Fault: a frame free?
+  abbrev q20 : Questions → Questions
+  q20 = ask 20 (below 0 (size (st .memory .core .free-queue)))
+
+  -- 21. Claim: list not empty?
+  abbrev q21 : Questions → Questions
+  q21 = ask 21 (below 0 (size (st .memory .core .removal-list)))
+
+  -- 22. Done: such a transfer under way?
+  abbrev q22 : Rule → Questions → Questions
+  q22 underWay = ask 22 underWay
+
+  -- 23. Good map done: no leaving record in the image?
+  abbrev q23 : ℕ → ℕ → Questions → Questions
+  q23 s good = ask 23 (same good 1 then each (z .pages) λ p. named (v .image (page s p)) λ r. non (same (v .state r) LEAVING))
+
+  -- ── the questions of each event ──
+  abbrev slotRange : ℕ → Rule
+  slotRange s = below s (z .slots)
+
+  abbrev pageRange : ℕ → ℕ → Rule
+  pageRange s p = below s (z .slots) and below p (z .pages)
+
+  abbrev wordRange : ℕ → ℕ → ℕ → Rule
+  wordRange s p w = below s (z .slots) and below p (z .pages) and below w (z .words)
+
+  -- the questions of a read, a write and a page look
+  abbrev pub served : Rule → ℕ → ℕ → Questions
+  served range s p = q3 range (q4 s (q8 s (q13 (page s p) (q14 (still (page s p)) none))))
+
+  -- the pages that a truncate to k concerns
+  abbrev fromUp : ℕ → ℕ → (ℕ → Rule) → Rule
+  fromUp s k rule = each (z .pages) λ p. non (below p k) then rule (page s p)
+
+  abbrev pub designQuestions : Design → Questions
+  designQuestions (Limit q n) = q3 (below q (z .accounts) and below n 65536) none
+  designQuestions (Create s q n) = q3 (below s (z .slots) and below q (z .accounts) and below 0 n) (q5 s (q6 n none))
+  designQuestions (Delete s) = q3 (slotRange s) (q4 s (q7 s (q9 s none)))
+  designQuestions (Activate s) = q3 (slotRange s) (q4 s (q9 s none))
+  designQuestions (Deactivate s) = q3 (slotRange s) (q4 s (q8 s (q10 s (q11 s (q12 s none)))))
+
+  abbrev pub pageQuestions : Page → Questions
+  pageQuestions (Fault s p) = q3 (pageRange s p) (q4 s (q8 s (q14 (still (page s p)) (q15 (page s p) (q18 s (page s p) (q19 (page s p) (q20 none)))))))
+  pageQuestions (Read s p w) = served (wordRange s p w) s p
+  pageQuestions (Write s p w x) = served (wordRange s p w) s p
+  pageQuestions (Wire s p) = q3 (pageRange s p) (q4 s (q8 s (q13 (page s p) (q14 (still (page s p)) (q16 (unwired (page s p)) none)))))
+  pageQuestions (Unwire s p) = q3 (pageRange s p) (q4 s (q8 s (q13 (page s p) (q14 (still (page s p)) (q17 (page s p) none)))))
+
+  abbrev pub storeQuestions : Store → Questions
+  storeQuestions Claim = q21 none
+  storeQuestions (Truncate s k) = q3 (below s (z .slots) and below k (suc (z .pages))) (q4 s (q8 s (q14 (fromUp s k still) (q16 (fromUp s k unwired) none))))
+  storeQuestions (Update s) = q3 (slotRange s) (q4 s (q8 s (q10 s none)))
+  storeQuestions (PageDone f good) = q3 (below f (z .frames) and below good 2) (q22 (non (same (c .frame f .transfer) NONE)) none)
+  storeQuestions (MapDone s good) = q3 (below s (z .slots) and below good 2) (q4 s (q8 s (q22 (same (v .updating s) 1) (q23 s good none))))
+
+  abbrev pub questions : Event → Questions
+  questions (Event.Design e) = designQuestions e
+  questions (Event.Page e) = pageQuestions e
+  questions (Event.Store e) = storeQuestions e
+
+  -- a page look asks as a read does
+  abbrev pub lookQuestions : ℕ → ℕ → Questions
+  lookQuestions s p = served (pageRange s p) s p

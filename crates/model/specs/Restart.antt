@@ -1,0 +1,48 @@
+-- Format and restart.
+use mathlib.Core.Bool.{Bool}
+use mathlib.Core.List.{[]}
+use Prim.Native.Nat.{ℕ, suc, _*_}
+use lib.Dec.{eqb}
+use lib.ListN.{replicate}
+use Rattle.tables.specs.Base.{at, if, any, find, tab}
+use Rattle.tables.specs.Queue.{packed}
+use Rattle.model.specs.declared.sizes.Sizes.{Sizes}
+use Rattle.model.specs.Lines.{FREE, FILED}
+use Rattle.model.specs.State.{Disk, State, noFrame, allPages, slotOf, mapWords}
+use Rattle.model.specs.Setters.{counted}
+
+-- Format zeroes all of the disk part.
+unfoldable pub formatted : Sizes → Disk
+formatted z = record {
+  records = replicate (z .records * z .words) 0;
+  numbers = replicate (z .slots) 0;
+  accounts = replicate (z .slots) 0;
+  maps = replicate (allPages z) 0;
+  limits = replicate (z .accounts) 0;
+}
+
+-- a record is listed, and the page that lists it
+unfoldable pub isListed : Sizes → Disk → ℕ → Bool
+isListed z d r = any (allPages z) λ i. eqb (at (d .maps) i) (suc r)
+
+unfoldable pub listedAt : Sizes → Disk → ℕ → ℕ
+listedAt z d r = find (allPages z) (λ i. eqb (at (d .maps) i) (suc r)) 0
+
+-- Restart: from the disk part alone; memory may hold anything. All designs inactive, hand 0, free queue 0 to F−1, free frames zeroed.
+-- Restart sets all (states) anew: listed ones filed, others free.
+unfoldable pub restarted : Sizes → Disk → State
+restarted z d = counted z (record {
+  disk = d;
+  memory = record {
+    core = record { frames = replicate (z .frames) noFrame; words = replicate (z .frames * z .words) 0; free-queue = packed (z .frames) (tab (z .frames) (λ f. f) 0); removal-list = packed (z .frames) [] };
+    held = record {
+      addresses = replicate (allPages z) 0;
+      states = tab (z .records) (λ r. if (isListed z d r) FILED FREE) 0;
+      owners = tab (z .records) (λ r. if (isListed z d r) (slotOf z (listedAt z d r)) 0) 0;
+      free-map = [];
+      pool = record { hand = 0; free = 0 };
+    };
+    slots = record { active = replicate (z .slots) 0; updating = replicate (z .slots) 0; images = replicate (allPages z) 0 };
+    used = [];
+  };
+})

@@ -1,0 +1,110 @@
+-- Demand 3's claim and its invariant, computed after every act of lists with cuts: a wrong claim or a wrong event shows here before anything is proved.
+use mathlib.Core.Bool.{Bool, true, false, _&&_}
+use mathlib.Core.List.{List, [], _∷_, _++_}
+use Prim.Native.Nat.{ℕ}
+use lib.Dec.{T, eqb}
+use lib.ListN.{length}
+use Rattle.tables.specs.Rule.{test}
+use Rattle.model.specs.Rules.{allRules}
+use Rattle.model.specs.Ledger
+use Rattle.model.specs.Acts.{Act, World, act, legal}
+use Rattle.model.specs.Demand3.{lastInto, lastUpdate, eachOf, someOf, ownWords, liveListed, liveReads, demand3}
+use Rattle.model.specs.Linked.{linked}
+use Rattle.model.specs.Lists.{limit, create, delete, activate, deactivate, fault, read, write, wire, unwire, claim, truncate, update, pageDone, mapDone, restart, small, cut, said, trace, begin}
+
+-- the claim and the invariant hold, and once restarted the rules
+unfoldable pub right : World → Bool
+unfolding said lastInto lastUpdate eachOf someOf ownWords liveListed liveReads demand3 linked
+right w = test (demand3 small w) && test (linked small w) && rulesKept (w .up)
+  where
+    rulesKept : Bool → Bool
+    rulesKept true = test (allRules small (w .state))
+    rulesKept false = true
+
+-- each act is carried out, and all is right after it
+unfoldable pub accepted : World → Act → Bool
+unfolding said
+accepted w a = go (said small w a)
+  where
+    go : List ℕ → Bool
+    go [] = true
+    go (n ∷ ns) = eqb n 0
+
+unfoldable pub always : World → List Act → Bool
+unfolding right accepted begin
+always w [] = right w
+always w (a ∷ acts) = let rest = always (act small w a) acts in right w && accepted w a && rest
+
+-- the list is legal, each act of it is carried out, and after each act all is right
+unfoldable pub holds : List Act → Bool
+unfolding always
+holds acts = legal small (begin small) acts && always (begin small) acts
+
+-- a design with its page 0 in a frame; a page put on the disk: faulted, written, claimed, done good (by the frame that it takes)
+abbrev opened : List Act
+opened = restart ∷ limit 0 3 ∷ create 0 0 7 ∷ activate 0 ∷ []
+
+abbrev put : ℕ → ℕ → ℕ → List Act
+put p x f = fault 0 p ∷ write 0 p 1 x ∷ claim ∷ pageDone f 1 ∷ []
+
+abbrev reread : List Act
+reread = restart ∷ activate 0 ∷ fault 0 0 ∷ pageDone 0 1 ∷ read 0 0 1 ∷ []
+
+-- written, stored, listed; written again, and a cut at which the open write lands
+r₁ : T (holds (opened ++ put 0 9 0 ++ update 0 ∷ mapDone 0 1 ∷ fault 0 0 ∷ pageDone 1 1 ∷ write 0 0 1 5 ∷ claim ∷ cut (1 ∷ []) [] ∷ reread))
+unfolding holds
+r₁ = tt
+
+-- the same, and the open write does not land
+r₂ : T (holds (opened ++ put 0 9 0 ++ update 0 ∷ mapDone 0 1 ∷ fault 0 0 ∷ pageDone 1 1 ∷ write 0 0 1 5 ∷ claim ∷ cut [] [] ∷ reread))
+unfolding holds
+r₂ = tt
+
+-- an update lands at a cut, and the cut record of a truncated page is not taken before
+r₃ : T (holds (opened ++ put 0 9 0 ++ update 0 ∷ fault 0 1 ∷ truncate 0 0 ∷ fault 0 1 ∷ write 0 1 0 4 ∷ claim ∷ cut (1 ∷ 0 ∷ []) (0 ∷ []) ∷ reread))
+unfolding holds
+r₃ = tt
+
+-- two designs, failed dones, records freed and taken again, three cuts
+r₄ : T (holds (restart ∷ limit 0 4 ∷ create 0 0 7 ∷ create 1 0 8 ∷ activate 0 ∷ activate 1 ∷ fault 0 0 ∷ write 0 0 0 5 ∷ fault 1 0 ∷ write 1 0 1 6 ∷ claim ∷ claim ∷ pageDone 0 1 ∷ pageDone 1 0 ∷ claim ∷ pageDone 1 1
+    ∷ update 0 ∷ update 1 ∷ mapDone 0 1 ∷ mapDone 1 0 ∷ update 1 ∷ cut [] (1 ∷ []) ∷ cut (0 ∷ []) (0 ∷ []) ∷ restart ∷ activate 0 ∷ activate 1 ∷ truncate 0 0 ∷ update 0 ∷ mapDone 0 1
+    ∷ fault 1 1 ∷ write 1 1 0 3 ∷ fault 1 0 ∷ pageDone 1 1 ∷ write 1 0 0 2 ∷ claim ∷ claim ∷ update 1 ∷ cut (0 ∷ 1 ∷ []) []
+    ∷ restart ∷ activate 1 ∷ fault 1 0 ∷ pageDone 0 0 ∷ fault 1 0 ∷ pageDone 1 1 ∷ read 1 0 0 ∷ update 1 ∷ cut [] (1 ∷ []) ∷ restart ∷ []))
+unfolding holds
+r₄ = tt
+
+-- a design is put to rest and deleted, and its slot taken again
+r₅ : T (holds (opened ++ put 0 9 0 ++ update 0 ∷ mapDone 0 1 ∷ deactivate 0 ∷ activate 0 ∷ fault 0 0 ∷ pageDone 1 1 ∷ wire 0 0 ∷ unwire 0 0 ∷ truncate 0 0 ∷ update 0 ∷ mapDone 0 1 ∷ deactivate 0 ∷ delete 0
+    ∷ create 0 0 9 ∷ activate 0 ∷ fault 0 1 ∷ write 0 1 0 4 ∷ claim ∷ pageDone 0 1 ∷ update 0 ∷ cut [] (0 ∷ []) ∷ restart ∷ []))
+unfolding holds
+r₅ = tt
+
+-- a write that counts no more: the page was truncated and written again, and write and update land at one cut
+r₆ : T (holds (opened ++ put 0 9 0 ++ update 0 ∷ truncate 0 0 ∷ fault 0 0 ∷ write 0 0 1 5 ∷ claim ∷ cut (1 ∷ []) (0 ∷ []) ∷ restart ∷ activate 0 ∷ update 0 ∷ mapDone 0 1 ∷ restart ∷ []))
+unfolding holds
+r₆ = tt
+
+-- a fresh page is not listed
+r₇ : T (holds (opened ++ fault 0 0 ∷ update 0 ∷ mapDone 0 1 ∷ write 0 0 0 3 ∷ cut [] [] ∷ restart ∷ activate 0 ∷ fault 0 0 ∷ read 0 0 0 ∷ []))
+unfolding holds
+r₇ = tt
+
+-- a write under way when the update begins is not listed by it
+r₈ : T (holds (opened ++ fault 0 0 ∷ write 0 0 1 9 ∷ claim ∷ update 0 ∷ mapDone 0 1 ∷ pageDone 0 1 ∷ cut [] [] ∷ restart ∷ []))
+unfolding holds
+r₈ = tt
+
+-- the image is as it was begun: the page is truncated while the update is under way
+r₉ : T (holds (opened ++ put 0 9 0 ++ update 0 ∷ truncate 0 0 ∷ mapDone 0 1 ∷ fault 0 1 ∷ write 0 1 1 6 ∷ claim ∷ pageDone 1 1 ∷ cut [] [] ∷ reread))
+unfolding holds
+r₉ = tt
+
+-- a void record is not read: its write landed at a cut, but its page was never listed
+r₁₀ : T (holds (opened ++ fault 0 0 ∷ write 0 0 1 9 ∷ claim ∷ cut (0 ∷ []) [] ∷ restart ∷ activate 0 ∷ fault 0 0 ∷ claim ∷ fault 0 0 ∷ read 0 0 1 ∷ []))
+unfolding holds
+r₁₀ = tt
+
+-- a record leaves while its slot's update is under way, the update fails, and the next one frees it
+r₁₁ : T (holds (opened ++ put 0 9 0 ++ update 0 ∷ mapDone 0 1 ∷ truncate 0 0 ∷ fault 0 1 ∷ claim ∷ update 0 ∷ mapDone 0 0 ∷ update 0 ∷ mapDone 0 1 ∷ put 2 4 0 ++ cut [] [] ∷ restart ∷ []))
+unfolding holds
+r₁₁ = tt

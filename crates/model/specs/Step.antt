@@ -1,0 +1,124 @@
+-- Every call: the questions in number order, then the work; a refusal leaves all as it was, with result 0.
+use mathlib.Core.List.{List, []}
+use Prim.Native.Nat.{ℕ, zero, suc, _*_}
+use lib.Dec.{T}
+use lib.ListN.{length, take, drop}
+use Rattle.tables.specs.Questions.{Questions, none, ask, firstNo, above}
+use Rattle.tables.specs.Rule.{Rule, same, _and_}
+use Rattle.model.specs.declared.sizes.Sizes.{Sizes}
+use Rattle.model.specs.declared.event.Answer.{Answer}
+use Rattle.model.specs.declared.event.Design.{Design}
+use Rattle.model.specs.declared.event.Design.the-variants.{Limit, Create, Delete, Activate, Deactivate}
+use Rattle.model.specs.declared.event.Page.{Page}
+use Rattle.model.specs.declared.event.Page.the-variants.{Fault, Read, Write, Wire, Unwire}
+use Rattle.model.specs.declared.event.Store.{Store}
+use Rattle.model.specs.declared.event.Store.the-variants.{Claim, Truncate, Update, PageDone, MapDone}
+use Rattle.model.specs.declared.event.Event.{Event}
+use Rattle.model.specs.declared.event.Event.the-variants as Event
+use Rattle.model.specs.Sizes.{sizesFit}
+use Rattle.model.specs.State.{Disk, Memory, State, allPages, mapWords}
+use Rattle.model.specs.Rules.{diskRules, allRules}
+use Rattle.model.specs.Questions.{questions, lookQuestions}
+use Rattle.model.specs.Designs
+use Rattle.model.specs.Pages
+use Rattle.model.specs.Stores
+use Rattle.model.specs.Restart.{formatted, restarted}
+
+-- ── question 1: sizes within limits, every slice of its exact length? ──
+abbrev pub diskLengths : Sizes → Disk → Rule
+diskLengths z d = same (length (d .records)) (z .records * z .words) and same (length (d .numbers)) (z .slots) and same (length (d .accounts)) (z .slots)
+    and same (length (d .maps)) (allPages z) and same (length (d .limits)) (z .accounts)
+
+abbrev pub memoryLengths : Sizes → Memory → Rule
+memoryLengths z m = same (length (m .core .frames)) (z .frames) and same (length (m .core .words)) (z .frames * z .words) and same (length (m .core .free-queue)) (z .frames)
+    and same (length (m .core .removal-list)) (z .frames) and same (length (m .held .addresses)) (allPages z) and same (length (m .held .states)) (z .records)
+    and same (length (m .held .owners)) (z .records) and same (length (m .held .free-map)) (mapWords z) and same (length (m .slots .active)) (z .slots)
+    and same (length (m .slots .updating)) (z .slots) and same (length (m .slots .images)) (allPages z) and same (length (m .used)) (z .accounts)
+
+unfoldable pub allFit : Sizes → State → Rule
+allFit z st = sizesFit z and diskLengths z (st .disk) and memoryLengths z (st .memory)
+
+-- ── what each call asks ──
+abbrev pub asked : Sizes → State → Questions → Questions
+asked z st own = ask 1 (allFit z st) (ask 2 (allRules z st) own)
+
+-- the answer to an event: 0, or the number of the first question that fails
+unfoldable pub answer : Sizes → State → Event → ℕ
+answer z st e = firstNo (asked z st (questions z st e))
+
+module _ (z : Sizes) (st : State) where
+  -- the state once the event is carried out
+  unfoldable pub carried : Event → State
+  carried (Event.Design (Limit q n)) = Designs.limit z st q n
+  carried (Event.Design (Create s q n)) = Designs.create z st s q n
+  carried (Event.Design (Delete s)) = Designs.delete z st s
+  carried (Event.Design (Activate s)) = Designs.activate z st s
+  carried (Event.Design (Deactivate s)) = Designs.deactivate z st s
+  carried (Event.Page (Fault s p)) = Pages.fault z st s p
+  carried (Event.Page (Read s p w)) = Pages.read z st s p
+  carried (Event.Page (Write s p w x)) = Pages.write z st s p w x
+  carried (Event.Page (Wire s p)) = Pages.wire z st s p
+  carried (Event.Page (Unwire s p)) = Pages.unwire z st s p
+  carried (Event.Store Claim) = Stores.claim z st
+  carried (Event.Store (Truncate s k)) = Stores.truncate z st s k
+  carried (Event.Store (Update s)) = Stores.update z st s
+  carried (Event.Store (PageDone f good)) = Stores.pageDone z st f good
+  carried (Event.Store (MapDone s good)) = Stores.mapDone z st s good
+
+  -- its result: 0 unless paper 01 names one
+  unfoldable pub result : Event → ℕ
+  result (Event.Design e) = 0
+  result (Event.Page (Fault s p)) = Pages.faultFrame st
+  result (Event.Page (Read s p w)) = Pages.wordRead z st s p w
+  result (Event.Page (Write s p w x)) = 0
+  result (Event.Page (Wire s p)) = 0
+  result (Event.Page (Unwire s p)) = 0
+  result (Event.Store Claim) = Stores.looking z st .looks
+  result (Event.Store (Truncate s k)) = 0
+  result (Event.Store (Update s)) = 0
+  result (Event.Store (PageDone f good)) = 0
+  result (Event.Store (MapDone s good)) = 0
+
+-- ── the calls ──
+-- an answer and what it leaves
+pub record Outcome (A : Type 0) : Type 0 where
+  pub answer : Answer
+  pub left : A
+
+-- Carried out in full, or the number of the first question that fails, result 0, and everything lent as it was.
+abbrev pub outcome : {A : Type 0} → ℕ → ℕ → A → A → Outcome A
+outcome zero result old new = record { answer = record { refusal = 0; result = result }; left = new }
+outcome (suc n) result old new = record { answer = record { refusal = suc n; result = 0 }; left = old }
+
+unfoldable pub step : Sizes → State → Event → Outcome State
+step z st e = outcome (answer z st e) (result z st e) st (carried z st e)
+
+-- Format asks 1
+unfoldable pub format : Sizes → Disk → Outcome Disk
+format z d = outcome (firstNo (ask 1 (sizesFit z and diskLengths z d) none)) 0 d (formatted z)
+
+-- Restart asks 1 and 2 (disk rules only)
+unfoldable pub restart : Sizes → State → Outcome State
+restart z st = outcome (firstNo (ask 1 (allFit z st) (ask 2 (diskRules z st) none))) 0 st (restarted z (st .disk))
+
+-- A page look asks as read; it hands back a part of the frames' words, or an empty part.
+unfoldable pub look : Sizes → State → ℕ → ℕ → Outcome (List ℕ)
+look z st s p = outcome (firstNo (asked z st (lookQuestions z st s p))) 0 [] (take (z .words) (drop (Pages.lookStart z st s p) (st .memory .core .words)))
+
+-- Asked in number order, 1 to 3 first.
+pub in-order : (z : Sizes) (st : State) (e : Event) → T (above 0 (asked z st (questions z st e)))
+in-order z st (Event.Design (Limit q n)) = tt
+in-order z st (Event.Design (Create s q n)) = tt
+in-order z st (Event.Design (Delete s)) = tt
+in-order z st (Event.Design (Activate s)) = tt
+in-order z st (Event.Design (Deactivate s)) = tt
+in-order z st (Event.Page (Fault s p)) = tt
+in-order z st (Event.Page (Read s p w)) = tt
+in-order z st (Event.Page (Write s p w x)) = tt
+in-order z st (Event.Page (Wire s p)) = tt
+in-order z st (Event.Page (Unwire s p)) = tt
+in-order z st (Event.Store Claim) = tt
+in-order z st (Event.Store (Truncate s k)) = tt
+in-order z st (Event.Store (Update s)) = tt
+in-order z st (Event.Store (PageDone f good)) = tt
+in-order z st (Event.Store (MapDone s good)) = tt

@@ -1,0 +1,25 @@
+// What comes back by value from the work of an event: the frames, 64 of them whatever F is, the pool, and the answer.
+use crate::event::Answer;
+use crate::frame::Frame;
+use crate::frame::Pool;
+
+// Of an event that changes frames.
+pub struct Framed {
+    pub frames: [Frame; 64],
+    pub answer: Answer,
+}
+
+// Of an event that changes the pool too.
+pub struct Applied {
+    pub frames: [Frame; 64],
+    pub pool: Pool,
+    pub answer: Answer,
+}
+
+// Of a page look, for a caller that cannot be handed a reference: which part of the frames' words it is.
+#[repr(C)]
+pub struct Part {
+    pub refusal: u32,
+    pub start: usize,
+    pub count: usize,
+}

@@ -1,0 +1,72 @@
+// The events that a restarted keeper carries out, in three families, and what it answers.
+
+// Events about a design or an account.
+pub enum Design {
+    Limit {
+        account: usize,
+        pages: usize,
+    },
+    Create {
+        slot: usize,
+        account: usize,
+        number: u32,
+    },
+    Delete {
+        slot: usize,
+    },
+    Activate {
+        slot: usize,
+    },
+    Deactivate {
+        slot: usize,
+    },
+}
+
+// Events about one page.
+pub enum Page {
+    Fault {
+        slot: usize,
+        page: usize,
+    },
+    Read {
+        slot: usize,
+        page: usize,
+        word: usize,
+    },
+    Write {
+        slot: usize,
+        page: usize,
+        word: usize,
+        value: u32,
+    },
+    Wire {
+        slot: usize,
+        page: usize,
+    },
+    Unwire {
+        slot: usize,
+        page: usize,
+    },
+}
+
+// Events that free frames and records, or that move pages and maps to the disk.
+pub enum Store {
+    Claim,
+    Truncate { slot: usize, count: usize },
+    Update { slot: usize },
+    PageDone { frame: usize, good: usize },
+    MapDone { slot: usize, good: usize },
+}
+
+pub enum Event {
+    Design(Design),
+    Page(Page),
+    Store(Store),
+}
+
+// refusal: 0, or the number of the first question that fails; result: 0 on every refusal.
+#[repr(C)]
+pub struct Answer {
+    pub refusal: u32,
+    pub result: u32,
+}

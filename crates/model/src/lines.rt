@@ -1,0 +1,28 @@
+// The lines along which a record moves from state to state.
+ghost use mathlib.Core.Path.{_≡_};
+ghost use Rattle.model.specs.Lines.{allowed};
+
+const STATES: usize = 6;
+
+// Free, filed, nulled, live, released, leaving: a row for each state that a record leaves, a cell for each that it enters.
+const LINES: [[bool; STATES]; STATES] = [
+    [false, false, true, false, false, false],
+    [false, false, false, true, false, false],
+    [false, false, false, true, true, true],
+    [false, true, true, false, true, false],
+    [false, false, false, false, false, true],
+    [true, false, false, false, true, false],
+];
+
+// Whether a record may move from one state to another. A number that is no state leads nowhere.
+pub fn may_move(from: u8, to: u8) -> bool
+    ensures { λ r. ⌜ r ≡ allowed from to ⌝ }
+{
+    let i = from as usize;
+    let j = to as usize;
+    if i < STATES && j < STATES {
+        LINES[i][j]
+    } else {
+        false
+    }
+}

@@ -1,0 +1,99 @@
+// A request as numbers, and the event that it asks for.
+ghost use mathlib.Core.List.{_++_};
+ghost use mathlib.Core.Path.{_≡_};
+ghost use Rattle.model.specs.Requests.{tagged, pageKinds, storeKinds, decoded};
+use crate::event::Design;
+use crate::event::Event;
+use crate::event::Page;
+use crate::event::Store;
+
+// kind: the event program's tag; then the event's values, in that program's order. What a kind has no use for is ignored.
+#[repr(C)]
+pub struct Request {
+    pub kind: u32,
+    pub first: u32,
+    pub second: u32,
+    pub third: u32,
+    pub fourth: u32,
+}
+
+pub enum Decoded {
+    Known(Event),
+    Unknown,
+}
+
+// Looks first among the kinds about a design or an account.
+pub fn decode(request: Request) -> Decoded
+    ensures { λ r. ⌜ r ≡ decoded request ⌝ }
+{
+    let kind = request.kind;
+    let first = request.first as usize;
+    let second = request.second as usize;
+    let event = match kind {
+        1 => Design::Create {
+            slot: first,
+            account: second,
+            number: request.third,
+        },
+        2 => Design::Delete { slot: first },
+        3 => Design::Activate { slot: first },
+        4 => Design::Deactivate { slot: first },
+        15 => Design::Limit {
+            account: first,
+            pages: second,
+        },
+        _ => return page(request),
+    };
+    Decoded::Known(Event::Design(event))
+}
+
+// .. then among those about one page.
+fn page(request: Request) -> Decoded
+    ensures { λ r. ⌜ r ≡ tagged (request .kind) (pageKinds request ++ storeKinds request) ⌝ }
+{
+    let kind = request.kind;
+    let slot = request.first as usize;
+    let page = request.second as usize;
+    let word = request.third as usize;
+    let event = match kind {
+        5 => Page::Fault { slot, page },
+        6 => Page::Read { slot, page, word },
+        7 => Page::Write {
+            slot,
+            page,
+            word,
+            value: request.fourth,
+        },
+        9 => Page::Wire { slot, page },
+        10 => Page::Unwire { slot, page },
+        _ => return store(request),
+    };
+    Decoded::Known(Event::Page(event))
+}
+
+// .. and last among those that free or move.
+fn store(request: Request) -> Decoded
+    ensures { λ r. ⌜ r ≡ tagged (request .kind) (storeKinds request) ⌝ }
+{
+    let kind = request.kind;
+    let first = request.first as usize;
+    let second = request.second as usize;
+    let event = match kind {
+        8 => Store::Claim,
+        11 => Store::Truncate {
+            slot: first,
+            count: second,
+        },
+        12 => Store::Update { slot: first },
+        13 => Store::PageDone {
+            frame: first,
+            good: second,
+        },
+        14 => Store::MapDone {
+            slot: first,
+            good: second,
+        },
+        _ => return Decoded::Unknown,
+    };
+    Decoded::Known(Event::Store(event))
+}

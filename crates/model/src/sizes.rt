@@ -1,0 +1,91 @@
+// The sizes of a design disk and of the memory that serves it, and their limits.
+ghost use mathlib.Core.Path.{_≡_};
+ghost use Rattle.tables.specs.Rule.{test};
+ghost use Rattle.model.specs.Sizes.{upTo, sized, sizesFit};
+
+#[repr(C)]
+pub struct Sizes {
+    pub words: usize,
+    pub records: usize,
+    pub frames: usize,
+    pub slots: usize,
+    pub pages: usize,
+    pub accounts: usize,
+}
+
+// What comes of making sizes: all six are within their limits, or one is not.
+pub enum Sized {
+    Within(Sizes),
+    Outside,
+}
+
+// From 1 to the most.
+fn up_to(n: usize, most: usize) -> bool
+    ensures { λ r. ⌜ r ≡ test (upTo n most) ⌝ }
+{
+    (0 < n) & (n <= most)
+}
+
+impl Sizes {
+    pub const MOST_WORDS: usize = 1024;
+
+    pub const MOST_RECORDS: usize = 4096;
+
+    pub const MOST_FRAMES: usize = 64;
+
+    pub const MOST_SLOTS: usize = 64;
+
+    pub const MOST_PAGES: usize = 256;
+
+    pub const MOST_ACCOUNTS: usize = 16;
+
+    // Tests all six, with no branch.
+    pub fn new(
+        words: usize,
+        records: usize,
+        frames: usize,
+        slots: usize,
+        pages: usize,
+        accounts: usize,
+    ) -> Sized
+        ensures { λ r. ⌜ r ≡ sized (record { words = words; records = records; frames = frames; slots = slots; pages = pages; accounts = accounts }) ⌝ }
+    {
+        let fit = up_to(words, Self::MOST_WORDS)
+            & up_to(records, Self::MOST_RECORDS)
+            & up_to(frames, Self::MOST_FRAMES)
+            & up_to(slots, Self::MOST_SLOTS)
+            & up_to(pages, Self::MOST_PAGES)
+            & up_to(accounts, Self::MOST_ACCOUNTS);
+        if fit {
+            Sized::Within(Self {
+                words,
+                records,
+                frames,
+                slots,
+                pages,
+                accounts,
+            })
+        } else {
+            Sized::Outside
+        }
+    }
+
+    // Question 1 of sizes that are lent: they can be made.
+    pub fn within(self) -> bool
+        ensures { λ r. ⌜ r ≡ test (sizesFit self) ⌝ }
+    {
+        let made = Self::new(
+            self.words,
+            self.records,
+            self.frames,
+            self.slots,
+            self.pages,
+            self.accounts,
+        );
+        if let Sized::Within(_) = made {
+            true
+        } else {
+            false
+        }
+    }
+}
