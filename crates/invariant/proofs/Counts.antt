@@ -1,0 +1,54 @@
+-- The counts: where an event sets them they hold by definition; where it does not, what they count is the same.
+use mathlib.Core.Path.{_≡_, refl, ap, sym, _∙_}
+use mathlib.Core.Bool.{Bool, _&&_}
+use mathlib.Core.Logic.{inl, inr}
+use Prim.Native.Nat.{ℕ, _<_}
+use lib.Dec.{ltb, eqb}
+use Rattle.tables.specs.Base.{if}
+use Rattle.tables.specs.Laws.{at-tab0, length-tab, count-same}
+use Rattle.tables.specs.Rule.{test, alike}
+use Rattle.model.specs.declared.sizes.Sizes.{Sizes}
+use Rattle.model.specs.State.{Core, State, Files, Frames, files, frames, frameAt, allPages, slotOf, mapWords, charged, payer, usedOf, freeWord}
+use Rattle.model.specs.Setters.{onCore, counted}
+use Rattle.model.specs.Ruled.{OfCounts}
+use Rattle.model.specs.Fit.{Fit}
+use Rattle.invariant.proofs.Lengths.{Long, long-fit}
+use Rattle.invariant.proofs.Framed.{Framed, Framing}
+
+pub counted-counts : (z : Sizes) (st : State) → st .memory .held .pool .hand < z .records → OfCounts z (counted z st)
+unfolding counted
+counted-counts z st h = record {
+  hand = h;
+  free = refl;
+  free-map = λ k l. at-tab0 (mapWords z) (freeWord z (files st .state)) k 0 l;
+  used = λ q l. at-tab0 (z .accounts) (usedOf z (files st) (frames st)) q 0 l;
+}
+
+pub counted-fit : (z : Sizes) (st : State) → Long z st → Fit z (counted z st)
+unfolding counted
+counted-fit z st l = long-fit z (counted z st) (record { sizes = l .sizes; disk = l .disk; core = l .core; held = record { addresses = l .held .addresses; states = l .held .states; owners = l .held .owners }; slots = l .slots })
+    (length-tab (mapWords z) (freeWord z (files st .state)) 0) (length-tab (z .accounts) (usedOf z (files st) (frames st)) 0)
+
+-- an event that ends by setting the counts
+pub counted-framed : (z : Sizes) (st : State) → Framing z st → Framed z (counted z st)
+unfolding counted
+counted-framed z st h = record { queues = record { free-queue = h .queues .free-queue; removal-list = h .queues .removal-list }; frames = h .frames; counts = counted-counts z st (h .hand); lengths = counted-fit z st (h .lengths) }
+
+-- the same frames' pages, the same used counts
+pub used-same : (z : Sizes) (v : Files) (c d : Frames) → ((f : ℕ) → f < z .frames → c .frame f .page ≡ d .frame f .page) → (q : ℕ) → usedOf z v c q ≡ usedOf z v d q
+unfolding usedOf charged
+used-same z v c d e q = count-same (allPages z) (λ i. eqb (payer v (slotOf z i)) q && if (eqb (v .active (slotOf z i)) 1) (test (charged z v c i)) (ltb 0 (v .map i)))
+    (λ i. eqb (payer v (slotOf z i)) q && if (eqb (v .active (slotOf z i)) 1) (test (charged z v d i)) (ltb 0 (v .map i)))
+    (λ i h. ap (λ (b : Bool). eqb (payer v (slotOf z i)) q && if (eqb (v .active (slotOf z i)) 1) b (ltb 0 (v .map i)))
+    (alike (charged z v c i) (charged z v d i)
+    (λ k. elim k [ inl x ↦ inl x | inr x ↦ inr (x .0, x .1, sym (e (x .0) (x .1)) ∙ x .2) ])
+    (λ k. elim k [ inl x ↦ inl x | inr x ↦ inr (x .0, x .1, e (x .0) (x .1) ∙ x .2) ])))
+
+-- an event that changes only the core, and no frame's page
+pub core-framed : (z : Sizes) (st : State) (x : Core) → Fit z st → OfCounts z st → Framing z (onCore (λ c. x) st) → ((f : ℕ) → f < z .frames → frameAt (st .memory .core .frames) f .page ≡ frameAt (x .frames) f .page) → Framed z (onCore (λ c. x) st)
+core-framed z st x f c h e = record {
+  queues = h .queues;
+  frames = h .frames;
+  counts = record { hand = c .hand; free = c .free; free-map = c .free-map; used = λ q l. c .used q l ∙ used-same z (files st) (frames st) (frames (onCore (λ k. x) st)) e q };
+  lengths = long-fit z (onCore (λ k. x) st) (h .lengths) (f .memory .free-map) (f .memory .used);
+}

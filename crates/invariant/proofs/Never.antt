@@ -1,0 +1,122 @@
+-- Over every legal list of acts from a finished format no event is answered 1 or 2, and no restart is refused.
+use mathlib.Core.Path.{_≡_, refl, ap, sym, _∙_, subst}
+use mathlib.Core.Bool.{Bool, true, false, _&&_}
+use mathlib.Core.List.{List, [], _∷_}
+use Prim.Native.Nat.{ℕ, zero, suc, _<_}
+use native.Mathlib.Omega.{arith}
+use lib.Dec.{T, ltb, ltb→lt, lt→ltb}
+use Rattle.tables.specs.Base.{if}
+use Rattle.tables.specs.Laws.{and-left, and-right}
+use Rattle.tables.specs.Questions.{Questions, ask, none, above, firstNo}
+use Rattle.tables.specs.Rule.{Holds, test, sound}
+use Rattle.model.specs.declared.sizes.Sizes.{Sizes}
+use Rattle.model.specs.declared.event.Event.{Event}
+use Rattle.model.specs.Sizes.{sizesFit}
+use Rattle.model.specs.State.{Memory, State, files}
+use Rattle.model.specs.Rules.{diskRules, allRules}
+use Rattle.model.specs.Ruled.{ruled, disk-ruled, rules-disk}
+use Rattle.model.specs.Questions.{questions, lookQuestions}
+use Rattle.model.specs.Step.{Outcome, outcome, diskLengths, memoryLengths, allFit, asked, answer, carried, result, step, restart, look, in-order}
+use Rattle.model.specs.Restart as R
+use Rattle.model.specs.Fit.{DiskFit, disk-fit, fit-disk, fit, all-fit}
+use Rattle.model.specs.Own.{first-yes}
+use Rattle.model.specs.Acts.{Act, event, restarting, cutting, World, act, allowed, legal, run, start}
+use Rattle.model.specs.Acts as A
+use Rattle.invariant.proofs.Records.{disk-alone}
+use Rattle.invariant.proofs.RecordsCut.{formatted-fit, landed-fit}
+use Rattle.invariant.proofs.Kept.{Good, kept, restarted, formatted, landed}
+
+-- an answer that does not blame sizes, lengths or tables
+abbrev pub Blameless : ℕ → Type 0
+Blameless n = (¬ (n ≡ 1)) × (¬ (n ≡ 2))
+
+-- what is said of one act in a world: an event is not answered 1 or 2, a restart is carried out
+abbrev pub Answered : Sizes → World → Act → Type 0
+Answered z w (event e) = Blameless (step z (w .state) e .answer .refusal)
+Answered z w restarting = restart z (w .state) .answer .refusal ≡ 0
+Answered z w (cutting writes updates junk) = Unit {0}
+
+-- and of each act of a list
+abbrev pub AllAnswered : Sizes → World → List Act → Type 0
+AllAnswered z w [] = Unit {0}
+AllAnswered z w (a ∷ acts) = Answered z w a × AllAnswered z (act z w a) acts
+
+-- what every world of a list keeps: lengths and disk rules always, once restarted all rules
+pub record Safe (z : Sizes) (w : World) : Type 0 where
+  pub sizes : Holds (sizesFit z)
+  pub disk : Holds (diskLengths z (w .state .disk))
+  pub memory : Holds (memoryLengths z (w .state .memory))
+  pub rules : Holds (diskRules z (w .state))
+  pub up : T (w .up) → Good z (w .state)
+
+safe-fit : (z : Sizes) (w : World) → Safe z w → Holds (allFit z (w .state))
+unfolding allFit
+safe-fit z w s = (s .sizes, (s .disk, s .memory))
+
+good-safe : (z : Sizes) (w : World) → Good z (w .state) → Safe z w
+unfolding allFit allRules
+good-safe z w g = record { sizes = g .0 .0; disk = g .0 .1 .0; memory = g .0 .1 .1; rules = g .1 .0; up = λ u. g }
+
+-- after a yes to 1 and 2, the answer is 0 or above 2
+later : (k : ℕ) (q : Questions) → T (above k q) → ¬ (firstNo q ≡ 0) → T (ltb k (firstNo q))
+unfolding firstNo
+later k none t n = absurd (n refl)
+later k (ask m r q) t n = go (test r) (later m q (and-right (ltb k m) (above m q) t)) n
+  where
+    go : (b : Bool) → (¬ (firstNo q ≡ 0) → T (ltb m (firstNo q))) → ¬ (if b (firstNo q) m ≡ 0) → T (ltb k (if b (firstNo q) m))
+    go true f ne = lt→ltb k (firstNo q) (omega (arith, ltb→lt m (firstNo q) (f ne), ltb→lt k m (and-left (ltb k m) (above m q) t)))
+    go false f ne = and-left (ltb k m) (above m q) t
+
+blameless : (z : Sizes) (st : State) (q : Questions) → T (above 2 q) → Good z st → Blameless (firstNo (asked z st q))
+blameless z st q t g =
+    let e : firstNo (asked z st q) ≡ firstNo q = first-yes 1 (allFit z st) (ask 2 (allRules z st) q) (g .0) ∙ first-yes 2 (allRules z st) q (g .1) in
+    let big : ¬ (firstNo q ≡ 0) → 2 < firstNo q = λ n. ltb→lt 2 (firstNo q) (later 2 q t n) in
+    (λ h. omega (arith, big (λ n. omega (arith, e, h, n)), e, h), λ h. omega (arith, big (λ n. omega (arith, e, h, n)), e, h))
+
+own-above : (z : Sizes) (st : State) (e : Event) → T (above 2 (questions z st e))
+own-above z st e = in-order z st e
+
+said : {A : Type 0} (n r : ℕ) (old new : A) → Blameless n → Blameless (outcome n r old new .answer .refusal)
+said zero r old new b = b
+said (suc n) r old new b = b
+
+-- once restarted, no event and no page look is answered 1 or 2
+pub event-blameless : (z : Sizes) (st : State) (e : Event) → Good z st → Blameless (step z st e .answer .refusal)
+unfolding step answer
+event-blameless z st e g = said (firstNo (asked z st (questions z st e))) (result z st e) st (carried z st e) (blameless z st (questions z st e) (own-above z st e) g)
+
+pub look-blameless : (z : Sizes) (st : State) (s p : ℕ) → Good z st → Blameless (look z st s p .answer .refusal)
+unfolding look
+look-blameless z st s p g = said (firstNo (asked z st (lookQuestions z st s p))) 0 [] _ (blameless z st (lookQuestions z st s p) tt g)
+
+-- each act is answered so, and leaves a safe world
+one : (z : Sizes) (w : World) (a : Act) → T (allowed z w a) → Safe z w → Answered z w a × Safe z (act z w a)
+unfolding allowed act
+one z w (event e) t s = (event-blameless z (w .state) e (s .up t), good-safe z _ (kept z (w .state) e (s .up t)))
+one z w restarting t s = let r = restarted z (w .state) (safe-fit z w s) (s .rules) in (r .0, good-safe z _ (r .1))
+one z w (cutting writes updates junk) t s = (tt, go (w .up) refl)
+  where
+    go : (b : Bool) → w .up ≡ b → Safe z (record { up = false; state = record { disk = if b (A.landed z (w .state) writes updates) (w .state .disk); memory = junk }; ledger = act z w (cutting writes updates junk) .ledger })
+    go true e = let g = s .up (rw e tt) in record {
+      sizes = s .sizes;
+      disk = fit-disk z (A.landed z (w .state) writes updates) (landed-fit z (w .state) (fit z (w .state) (g .0)) (ruled z (w .state) (g .1)) writes updates);
+      memory = sound (memoryLengths z junk) t;
+      rules = landed z (w .state) writes updates junk g;
+      up = λ u. absurd u;
+    }
+    go false e = record { sizes = s .sizes; disk = s .disk; memory = sound (memoryLengths z junk) t; rules = rules-disk z _ (disk-alone z (files (w .state)) (disk-ruled z (w .state) (s .rules)) _ _ _ _ _ _); up = λ u. absurd u }
+
+pub all-answered : (z : Sizes) (w : World) (acts : List Act) → T (legal z w acts) → Safe z w → AllAnswered z w acts × Safe z (run z w acts)
+unfolding legal run
+all-answered z w [] t s = (tt, s)
+all-answered z w (a ∷ acts) t s =
+    let o = one z w a (and-left (allowed z w a) (legal z (act z w a) acts) t) s in
+    let rest = all-answered z (act z w a) acts (and-right (allowed z w a) (legal z (act z w a) acts) t) (o .1) in
+    ((o .0, rest .0), rest .1)
+
+pub start-safe : (z : Sizes) (junk : Memory) → Holds (sizesFit z) → Holds (memoryLengths z junk) → Safe z (start z junk)
+unfolding start
+start-safe z junk f m = record { sizes = f; disk = fit-disk z (R.formatted z) (formatted-fit z); memory = m; rules = formatted z junk f; up = λ u. absurd u }
+
+pub never-2 : (z : Sizes) (junk : Memory) (acts : List Act) → Holds (sizesFit z) → Holds (memoryLengths z junk) → T (legal z (start z junk) acts) → AllAnswered z (start z junk) acts
+never-2 z junk acts f m t = all-answered z (start z junk) acts t (start-safe z junk f m) .0

@@ -1,0 +1,89 @@
+-- What the events' proofs share about the rules of disk, pages, records and slots: stores, lines, and who owns a listed record.
+use mathlib.Core.Path.{_≡_, sym, _∙_, subst}
+use mathlib.Core.Logic.{_⊎_, inl, inr}
+use Prim.Native.Nat.{ℕ, suc, _<_}
+use native.Mathlib.Omega.{arith}
+use native.Mathlib.Decide.{ℕ-discrete}
+use lib.Dec.{T}
+use lib.ListN.{length, getD}
+use Rattle.tables.specs.Base.{if}
+use Rattle.tables.specs.Rule.{Rule, Holds, test, decided, told, untold, complete}
+use Rattle.tables.specs.Store.{Split}
+use Rattle.model.specs.declared.sizes.Sizes.{Sizes}
+use Rattle.model.specs.Lines.{LIVE, line, lines, led, allowed}
+use Rattle.model.specs.State.{State, Files, files, allPages, slotOf, live}
+use Rattle.model.specs.Setters.{counted}
+use Rattle.model.specs.Ruled.{OnDisk, OfRecords}
+use Rattle.model.specs.Questions.{wouldStore}
+
+-- the rules of disk, pages, records and slots
+abbrev pub Kept : Sizes → State → Type 0
+Kept z st = OnDisk z (files st) × OfRecords z (files st)
+
+-- the disk rules speak of numbers, accounts and maps alone
+pub disk-alone : (z : Sizes) (v : Files) → OnDisk z v → (address′ state′ owner′ active′ updating′ image′ : ℕ → ℕ) →
+    OnDisk z (record { number = v .number; account = v .account; map = v .map; address = address′; state = state′; owner = owner′; active = active′; updating = updating′; image = image′ })
+disk-alone z v d address′ state′ owner′ active′ updating′ image′ =
+    record { empty-account = d .empty-account; empty-map = d .empty-map; map-fit = d .map-fit; map-once = d .map-once; number-once = d .number-once; account-fit = d .account-fit }
+
+-- ── the lines ──
+-- each record's state stays, or moves along one of the eleven lines
+abbrev pub Moves : Sizes → (ℕ → ℕ) → (ℕ → ℕ) → Type 0
+Moves z state state′ = (r : ℕ) → r < z .records → (state′ r ≡ state r) ⊎ T (allowed (state r) (state′ r))
+
+-- line k of the list, counted from 0, leads from a to b
+pub along-line : (k : ℕ) → k < length lines → {a b : ℕ} → a ≡ (getD lines k (line 0 0)) .from → b ≡ (getD lines k (line 0 0)) .to → T (allowed a b)
+unfolding allowed
+along-line k h {a} {b} e f = complete (led a b) (k, h, (e, f))
+
+-- the rules are kept and the records move along the lines
+abbrev pub Done : Sizes → State → State → Type 0
+Done z st st′ = Kept z st′ × Moves z (files st .state) (files st′ .state)
+
+-- the counts are no table of these
+pub counted-done : (z : Sizes) (st st′ : State) → Done z st st′ → Done z st (counted z st′)
+unfolding counted
+counted-done z st st′ k = k
+
+-- ── an entry after a store ──
+-- an entry that is not the one stored is as it was
+pub was : {A : Type 0} {a x b y : ℕ} → Split A a x b → a ≡ y → ¬ (y ≡ x) → (¬ A) × (b ≡ y)
+was (inl t) e d = absurd (d (sym e ∙ t .1))
+was (inr t) e d = (t .0, sym (t .1) ∙ e)
+
+pub turns : {A : Type 0} {a x b : ℕ} → Split A a x b → A → a ≡ x
+turns (inl t) h = t .1
+turns (inr t) h = absurd (t .0 h)
+
+pub stays : {A : Type 0} {a x b : ℕ} → Split A a x b → ¬ A → a ≡ b
+stays (inl t) h = absurd (h (t .0))
+stays (inr t) h = t .1
+
+-- a choice by a rule's test
+pub split-if : {A : Type 0} (g : Rule) (x y : A) → Split (Holds g) (if (test g) x y) x y
+split-if g x y = elim (decided g) [ yes h ↦ inl (h, rw (told g h)) | no h ↦ inr (h, rw (untold g h)) ]
+
+-- what an update now would store is a live address
+module _ (z : Sizes) (st : State) where
+  pub would-live : (i r : ℕ) → wouldStore z st i ≡ suc r → (files st .address i ≡ suc r) × (files st .state r ≡ LIVE)
+  unfolding wouldStore
+  would-live i r e = elim (split-if (live (files st) i) (files st .address i) 0) [
+    | inl t ↦ let p : files st .address i ≡ suc r = sym (t .1) ∙ e in
+        let q : t .0 .0 ≡ r = omega (arith, t .0 .1, p) in (p, subst (λ (n : ℕ). files st .state n ≡ LIVE) q (t .0 .2))
+    | inr t ↦ absurd (omega (arith, t .1, e))
+  ]
+
+  pub live-would : (i r : ℕ) → files st .address i ≡ suc r → files st .state r ≡ LIVE → wouldStore z st i ≡ suc r
+  unfolding wouldStore
+  live-would i r p e = turns (split-if (live (files st) i) (files st .address i) 0) (r, p, e) ∙ p
+
+-- ── a listed record belongs to the slot that lists it ──
+module _ (z : Sizes) (v : Files) (k : OfRecords z v) where
+  pub map-owner : (i : ℕ) → i < allPages z → (r : ℕ) → v .map i ≡ suc r → v .owner r ≡ slotOf z i
+  map-owner i h r p = elim (ℕ-discrete (v .active (slotOf z i)) 1) [
+    | yes a ↦ elim (k .mapped i h r p a) [ inl e ↦ k .held i h r e .0 | inr e ↦ e .0 ]
+    | no a ↦ k .filed i h r p a .0
+  ]
+
+  pub image-owner : (i : ℕ) → i < allPages z → (r : ℕ) → v .image i ≡ suc r → v .owner r ≡ slotOf z i
+  image-owner i h r p = elim (k .imaged i h r p) [ inl e ↦ k .held i h r e .0 | inr e ↦ e .0 ]

@@ -1,0 +1,63 @@
+-- Every event keeps the rules of disk, pages, records and slots.
+use Prim.Native.Nat.{ℕ}
+use Rattle.tables.specs.Questions.{Asked}
+use Rattle.model.specs.declared.sizes.Sizes.{Sizes}
+use Rattle.model.specs.declared.event.Event.{Event}
+use Rattle.model.specs.declared.event.Event.the-variants as Event
+use Rattle.model.specs.declared.event.Design.the-variants.{Limit, Create, Delete, Activate, Deactivate}
+use Rattle.model.specs.declared.event.Page.the-variants.{Fault, Read, Write, Wire, Unwire}
+use Rattle.model.specs.declared.event.Store.the-variants.{Claim, Truncate, Update, PageDone, MapDone}
+use Rattle.model.specs.State.{State}
+use Rattle.model.specs.Questions.{questions}
+use Rattle.model.specs.Ruled.{Ruled}
+use Rattle.model.specs.Fit.{Fit}
+use Rattle.model.specs.Designs
+use Rattle.model.specs.Pages
+use Rattle.model.specs.Step.{carried}
+use Rattle.invariant.proofs.Records.{Kept}
+use Rattle.invariant.proofs.RecordsNamed.{create-records, delete-records}
+use Rattle.invariant.proofs.RecordsTurned.{activate-records, deactivate-records}
+use Rattle.invariant.proofs.RecordsPaged.{fault-records, claim-records, pageDone-records}
+use Rattle.invariant.proofs.RecordsDropped.{truncate-records, update-records}
+use Rattle.invariant.proofs.RecordsStored.{mapDone-records}
+
+module _ (z : Sizes) (st : State) (f : Fit z st) (r : Ruled z st) where
+  -- ── the events that change no table of these ──
+  pub limit-records : (q n : ℕ) → Asked (questions z st (Event.Design (Limit q n))) → Kept z (Designs.limit z st q n)
+  unfolding Designs.limit
+  limit-records q n a = (r .disk, r .records)
+
+  pub read-records : (s p w : ℕ) → Asked (questions z st (Event.Page (Read s p w))) → Kept z (Pages.read z st s p)
+  unfolding Pages.read
+  read-records s p w a = (r .disk, r .records)
+
+  pub write-records : (s p w x : ℕ) → Asked (questions z st (Event.Page (Write s p w x))) → Kept z (Pages.write z st s p w x)
+  unfolding Pages.write
+  write-records s p w x a = (r .disk, r .records)
+
+  pub wire-records : (s p : ℕ) → Asked (questions z st (Event.Page (Wire s p))) → Kept z (Pages.wire z st s p)
+  unfolding Pages.wire
+  wire-records s p a = (r .disk, r .records)
+
+  pub unwire-records : (s p : ℕ) → Asked (questions z st (Event.Page (Unwire s p))) → Kept z (Pages.unwire z st s p)
+  unfolding Pages.unwire
+  unwire-records s p a = (r .disk, r .records)
+
+-- ── every event ──
+pub kept-records : (z : Sizes) (st : State) (e : Event) → Fit z st → Ruled z st → Asked (questions z st e) → Kept z (carried z st e)
+unfolding carried
+kept-records z st (Event.Design (Limit q n)) f r a = limit-records z st f r q n a
+kept-records z st (Event.Design (Create s q n)) f r a = create-records z st f r s q n a
+kept-records z st (Event.Design (Delete s)) f r a = delete-records z st f r s a
+kept-records z st (Event.Design (Activate s)) f r a = activate-records z st f r s a
+kept-records z st (Event.Design (Deactivate s)) f r a = deactivate-records z st f r s a
+kept-records z st (Event.Page (Fault s p)) f r a = fault-records z st f r s p a
+kept-records z st (Event.Page (Read s p w)) f r a = read-records z st f r s p w a
+kept-records z st (Event.Page (Write s p w x)) f r a = write-records z st f r s p w x a
+kept-records z st (Event.Page (Wire s p)) f r a = wire-records z st f r s p a
+kept-records z st (Event.Page (Unwire s p)) f r a = unwire-records z st f r s p a
+kept-records z st (Event.Store Claim) f r a = claim-records z st f r a
+kept-records z st (Event.Store (Truncate s k)) f r a = truncate-records z st f r s k a
+kept-records z st (Event.Store (Update s)) f r a = update-records z st f r s a
+kept-records z st (Event.Store (PageDone g good)) f r a = pageDone-records z st f r g good a
+kept-records z st (Event.Store (MapDone s good)) f r a = mapDone-records z st f r s good a
