@@ -1,0 +1,123 @@
+-- Demand 3, over every legal list of acts with cuts anywhere, from a finished format on: the induction over the list.
+use mathlib.Core.Path.{_≡_, refl, ap, sym, _∙_, subst}
+use mathlib.Core.Bool.{Bool, true, false}
+use mathlib.Core.List.{List, [], _∷_}
+use Prim.Native.Nat.{ℕ, zero, suc, _<_}
+use native.Mathlib.Omega.{arith}
+use lib.Dec.{T, eqb}
+use borrow.Author.Tests.{ne-eqb}
+use Rattle.tables.specs.Base.{if}
+use Rattle.tables.specs.Laws.{and-left, and-right}
+use Rattle.tables.specs.Rule.{Holds, sound}
+use Rattle.tables.specs.Questions.{firstNo, ask, none}
+use Rattle.model.specs.declared.sizes.Sizes.{Sizes}
+use Rattle.model.specs.declared.event.Event.{Event}
+use Rattle.model.specs.State.{Disk, Memory, State, files}
+use Rattle.model.specs.Rules.{diskRules}
+use Rattle.model.specs.Ruled as R
+use Rattle.model.specs.Step.{outcome, answer, carried, result, step, restart, allFit, memoryLengths}
+use Rattle.model.specs.Fit.{Fit, fit, memory-fit}
+use Rattle.model.specs.Restart.{restarted}
+use Rattle.model.specs.Ledger as L
+use Rattle.model.specs.Ledger.{Ledger, note, lose, finishWrite, finishUpdate, finishWrites, finishUpdates}
+use Rattle.model.specs.Acts.{Act, event, restarting, cutting, World, fed, landed, noted, act, allowed, legal, run, start}
+use Rattle.model.specs.Demand3.{Demand3}
+use Rattle.invariant.proofs.Kept.{carried-kept, restarted-good}
+use Rattle.crash.proofs.Writes.{no-write, no-update}
+use Rattle.crash.proofs.Link.{OnDisk, Tied}
+use Rattle.crash.proofs.Steps.{Good, before}
+use Rattle.crash.proofs.Events.{steps}
+use Rattle.crash.proofs.Says.{says}
+use Rattle.crash.proofs.Start.{start-good}
+use Rattle.crash.proofs.Restarted.{restart-tied}
+use Rattle.crash.proofs.Cut.{all-landed}
+
+-- nothing open, nothing finished at a cut
+none-written : (n : ℕ) (lands : ℕ → Bool) (l : Ledger) → ((f : ℕ) → f < n → ¬ (T (l .pending .writing f))) → finishWrites n lands l ≡ l
+unfolding finishWrites
+none-written zero lands l c = refl
+none-written (suc f) lands l c = go (lands f) (none-written f lands l (λ g h. c g (omega arith)))
+  where
+    go : (b : Bool) → finishWrites f lands l ≡ l → if b (finishWrite f (finishWrites f lands l)) (finishWrites f lands l) ≡ l
+    go true e = ap (finishWrite f) e ∙ no-write f l (c f (omega arith))
+    go false e = e
+
+none-updated : (n : ℕ) (lands : ℕ → Bool) (l : Ledger) → ((s : ℕ) → s < n → ¬ (T (l .pending .updating s))) → finishUpdates n lands l ≡ l
+unfolding finishUpdates
+none-updated zero lands l c = refl
+none-updated (suc s) lands l c = go (lands s) (none-updated s lands l (λ t h. c t (omega arith)))
+  where
+    go : (b : Bool) → finishUpdates s lands l ≡ l → if b (finishUpdate s (finishUpdates s lands l)) (finishUpdates s lands l) ≡ l
+    go true e = ap (finishUpdate s) e ∙ no-update s l (c s (omega arith))
+    go false e = e
+
+-- what a cut leaves: the disk, and the ledger's finished part
+lost : (z : Sizes) (st : State) (l : Ledger) (junk : Memory) → Holds (memoryLengths z junk) → Fit z st → R.OnDisk z (files st) → OnDisk z st l → Good z (record { up = false; state = record { disk = st .disk; memory = junk }; ledger = lose l })
+unfolding lose
+lost z st l junk lengths f r d = record {
+  fit = record { sizes = f .sizes; disk = f .disk; memory = memory-fit z junk lengths };
+  rules = record { empty-account = r .empty-account; empty-map = r .empty-map; map-fit = r .map-fit; map-once = r .map-once; number-once = r .number-once; account-fit = r .account-fit };
+  disk = record { designs = d .designs; listing = d .listing };
+  ruled = λ u. absurd u;
+  memory = λ u. absurd u;
+  closed = λ n. record { writing = λ f h t. t; updating = λ s h t. t };
+}
+
+-- a restarted keeper
+up-good : (z : Sizes) (u : Bool) (st : State) (l : Ledger) → T u → Fit z st → R.Ruled z st → Tied z st l → Good z (record { up = u; state = st; ledger = l })
+up-good z u st l t f r k = record { fit = f; rules = r .disk; disk = k .disk; ruled = λ x. r; memory = λ x. k .memory; closed = λ n. absurd (n t) }
+
+module _ (z : Sizes) where
+  event-keeps : (w : World) (e : Event) → T (w .up) → Good z w → Good z (act z w (event e))
+  unfolding act step noted
+  event-keeps w e u k = go (answer z (w .state) e) refl
+    where
+      go : (n : ℕ) → answer z (w .state) e ≡ n → (let o = outcome n (result z (w .state) e) (w .state) (carried z (w .state) e) in Good z (record { up = w .up; state = o .left; ledger = noted z o (fed z (w .state) e) (w .ledger) }))
+      go zero a =
+          let q = before z (w .state) (w .ledger) e a (record { disk = k .disk; memory = k .memory u }) in
+          let b = carried-kept z (w .state) e (q .fit) (q .ruled) (q .asked) in
+          up-good z (w .up) (carried z (w .state) e) (note z (w .ledger) (fed z (w .state) e)) u (b .0) (b .1) (steps z e (w .state) (w .ledger) q)
+      go (suc n) a = rw (ne-eqb (suc n) 0 (λ x. omega (arith, x))) k
+
+  restart-keeps : (w : World) → Good z w → Good z (act z w restarting)
+  unfolding act restart noted
+  restart-keeps w k = go (firstNo (ask 1 (allFit z (w .state)) (ask 2 (diskRules z (w .state)) none)))
+    where
+      go : (n : ℕ) → (let o = outcome n 0 (w .state) (restarted z (w .state .disk)) in Good z (record { up = if (eqb (o .answer .refusal) 0) true (w .up); state = o .left; ledger = noted z o (L.restarted (w .state .disk)) (w .ledger) }))
+      go zero =
+          let b = restarted-good z (w .state) (k .fit) (k .rules) in
+          up-good z true (restarted z (w .state .disk)) (note z (w .ledger) (L.restarted (w .state .disk))) tt (b .0) (b .1) (restart-tied z (w .state) (w .ledger) (k .fit .sizes .pages) (k .rules) (k .disk))
+      go (suc n) = rw (ne-eqb (suc n) 0 (λ x. omega (arith, x))) k
+
+  cut-keeps : (w : World) (writes updates : ℕ → Bool) (junk : Memory) → Holds (memoryLengths z junk) → Good z w → Good z (act z w (cutting writes updates junk))
+  unfolding act landed note
+  cut-keeps w writes updates junk lengths k = go (w .up) refl
+    where
+      after : Disk → Ledger → World
+      after d l = record { up = false; state = record { disk = d; memory = junk }; ledger = lose l }
+
+      go : (b : Bool) → w .up ≡ b → Good z (record { up = false; state = record { disk = if b (landed z (w .state) writes updates) (w .state .disk); memory = junk }; ledger = note z (w .ledger) (L.cut writes updates) })
+      go true e =
+          let u : T (w .up) = rw e tt in
+          let t = all-landed z (w .state) writes updates (w .ledger) (record { fit = k .fit; ruled = k .ruled u; tied = record { disk = k .disk; memory = k .memory u } }) in
+          subst (λ (d : Disk). Good z (after d (finishUpdates (z .slots) updates (finishWrites (z .frames) writes (w .ledger))))) (t .2) (lost z (t .0) _ junk lengths (t .1 .fit) (t .1 .ruled .disk) (t .1 .tied .disk))
+      go false e =
+          let c = k .closed (λ u. rw e at u) in
+          let same : finishUpdates (z .slots) updates (finishWrites (z .frames) writes (w .ledger)) ≡ w .ledger =
+          ap (finishUpdates (z .slots) updates) (none-written (z .frames) writes (w .ledger) (c .writing)) ∙ none-updated (z .slots) updates (w .ledger) (c .updating) in
+          subst (λ (l : Ledger). Good z (after (w .state .disk) l)) (sym same) (lost z (w .state) (w .ledger) junk lengths (k .fit) (k .rules) (k .disk))
+
+  act-keeps : (w : World) (a : Act) → T (allowed z w a) → Good z w → Good z (act z w a)
+  unfolding allowed
+  act-keeps w (event e) t k = event-keeps w e t k
+  act-keeps w restarting t k = restart-keeps w k
+  act-keeps w (cutting writes updates junk) t k = cut-keeps w writes updates junk (sound (memoryLengths z junk) t) k
+
+  run-keeps : (acts : List Act) (w : World) → T (legal z w acts) → Good z w → Good z (run z w acts)
+  unfolding run legal
+  run-keeps [] w t k = k
+  run-keeps (a ∷ acts) w t k = run-keeps acts (act z w a) (and-right (allowed z w a) (legal z (act z w a) acts) t) (act-keeps w a (and-left (allowed z w a) (legal z (act z w a) acts) t) k)
+
+-- Demand 3.
+pub demand3 : Demand3
+demand3 z junk acts sizes lengths t = says z (run z (start z junk) acts) (run-keeps z acts (start z junk) t (start-good z junk sizes lengths))

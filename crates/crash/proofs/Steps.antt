@@ -1,0 +1,51 @@
+-- What an event's lemma is given and what it shows, and what a list of acts keeps.
+use mathlib.Core.Path.{_≡_, ap, sym, _∙_, subst₂}
+use Prim.Native.Nat.{ℕ, _+_, _*_, _/_, _%_}
+use native.Mathlib.Nat.{div-add-mod'}
+use lib.Dec.{T}
+use Rattle.tables.specs.Questions.{Asked, all-yes}
+use Rattle.model.specs.declared.sizes.Sizes.{Sizes}
+use Rattle.model.specs.declared.event.Event.{Event}
+use Rattle.model.specs.State.{State, files}
+use Rattle.model.specs.Ruled.{Ruled, ruled}
+use Rattle.model.specs.Ruled as R
+use Rattle.model.specs.Questions.{questions}
+use Rattle.model.specs.Step.{answer, asked, carried, in-order}
+use Rattle.model.specs.Fit.{Fit, fit}
+use Rattle.model.specs.Ledger.{Ledger, note}
+use Rattle.model.specs.Acts.{World, fed}
+use Rattle.crash.proofs.Link.{OnDisk, InMemory, Tied, Closed}
+
+-- ── one event ──
+pub record Before (z : Sizes) (st : State) (l : Ledger) (e : Event) : Type 0 where
+  pub fit : Fit z st
+  pub ruled : Ruled z st
+  pub asked : Asked (questions z st e)
+  pub tied : Tied z st l
+
+-- the event, carried out and noted, keeps the invariant
+abbrev pub Step : Sizes → Event → Type 0
+Step z e = (st : State) (l : Ledger) → Before z st l e → Tied z (carried z st e) (note z l (fed z st e))
+
+-- the same where state and ledger after are known by an equation
+pub tied-at : {z : Sizes} {st st′ : State} {l l′ : Ledger} → st ≡ st′ → l ≡ l′ → Tied z st′ l′ → Tied z st l
+tied-at {z} p q k = subst₂ (λ (a : State) (b : Ledger). Tied z a b) (sym p) (sym q) k
+
+-- an event that is carried out has its questions' rules
+pub before : (z : Sizes) (st : State) (l : Ledger) (e : Event) → answer z st e ≡ 0 → Tied z st l → Before z st l e
+unfolding answer
+before z st l e a t = let q = all-yes 0 (asked z st (questions z st e)) (in-order z st e) a in record { fit = fit z st (q .0); ruled = ruled z st (q .1 .0); asked = q .1 .1; tied = t }
+
+-- ── lists of acts ──
+pub record Good (z : Sizes) (w : World) : Type 0 where
+  pub fit : Fit z (w .state)
+  pub rules : R.OnDisk z (files (w .state))
+  pub disk : OnDisk z (w .state) (w .ledger)
+  pub ruled : T (w .up) → Ruled z (w .state)
+  pub memory : T (w .up) → InMemory z (w .state) (w .ledger)
+  pub closed : ¬ (T (w .up)) → Closed z (w .ledger)
+
+-- ── pages and slots ──
+-- two pages of one slot with one number within it
+pub same-page : (n i j : ℕ) → i / n ≡ j / n → i % n ≡ j % n → i ≡ j
+same-page n i j p q = sym (div-add-mod' i n) ∙ ap (λ (x : ℕ). x * n + i % n) p ∙ ap (λ (x : ℕ). j / n * n + x) q ∙ div-add-mod' j n
