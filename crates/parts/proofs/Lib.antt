@@ -1,0 +1,4 @@
+pub mod Along
+pub mod Bits
+pub mod Freeing
+pub mod Queues

@@ -1,0 +1,6 @@
+pub mod Counts
+pub mod FrameLaws
+pub mod FreeMap
+pub mod Freed
+pub mod Picks
+pub mod Released

@@ -1,0 +1,53 @@
+// The frames by value, 64 of them, of which the first F are in use.
+ghost use mathlib.Core.Path.{_≡_};
+ghost use Prim.Native.Nat.{ℕ, suc, _+_, _<_, _≤_};
+ghost use lib.Dec.{eqb};
+ghost use lib.ListN.{set};
+ghost use Rattle.tables.specs.Base.{find};
+ghost use Rattle.model.specs.State.{frameAt};
+use model::frame::Frame;
+
+// A frame, empty past the end.
+pub fn frame_at(frames: [Frame; 64], f: usize) -> Frame
+    ensures { λ r. ⌜ r ≡ frameAt frames f ⌝ }
+{
+    if f < 64 {
+        return frames[f];
+    }
+    Frame {
+        page: 0,
+        used: 0,
+        modified: 0,
+        wired: 0,
+        initial: 0,
+        transfer: 0,
+    }
+}
+
+// The frames with one stored anew; none past the end.
+pub fn with_frame(frames: [Frame; 64], f: usize, frame: Frame) -> [Frame; 64]
+    ensures { λ r. ⌜ r ≡ set frames f frame ⌝ }
+{
+    let mut stored = frames;
+    if f < 64 {
+        stored[f] = frame;
+    }
+    stored
+}
+
+// The first frame that the page is in, or the count of frames where it is in none.
+pub fn frame_of(frames: [Frame; 64], count: usize, page: usize) -> usize
+    requires { ⌜ (count ≤ 64) × (page < 65535) ⌝ }
+    ensures { λ r. ⌜ r ≡ find count (λ f. eqb (frameAt frames f .page) (suc page)) 0 ⌝ }
+{
+    let entry = (page + 1) as u16;
+    let mut f = 0;
+    while f < count {
+        let frame = frames[f];
+        if frame.page == entry {
+            return f;
+        }
+        f += 1;
+    }
+    f
+}

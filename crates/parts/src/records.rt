@@ -1,0 +1,67 @@
+// A record is taken from the free ones or given back: its state, its slot and its bit of the free map.
+ghost use mathlib.Core.Path.{_≡_};
+ghost use Prim.Native.Nat.{ℕ, _<_, _≤_};
+ghost use lib.ListN.{length, set};
+ghost use Rattle.tables.specs.Base.{at};
+ghost use Rattle.tables.specs.Rule.{same, _and_};
+ghost use Rattle.tables.specs.Store.{store};
+ghost use Rattle.model.specs.Lines.{FREE, NULLED, LEAVING};
+ghost use Rattle.model.specs.State.{freeCount};
+ghost use Rattle.parts.specs.FreeMap.{freeMap};
+ghost use Rattle.parts.specs.Freed.{MapFits, Freed};
+use crate::cells::put8;
+use crate::pool::clear_free;
+use crate::pool::set_free;
+use crate::states::move_record;
+use model::sizes::Sizes;
+
+// A free record becomes a nulled one of the slot.
+pub fn take_record(
+    sizes: Sizes,
+    states: &mut [u8],
+    owners: &mut [u8],
+    map: &mut [u32],
+    r: usize,
+    slot: u8,
+)
+    requires { ⌜ (r < sizes .records) × (at (now states) r ≡ FREE) × MapFits sizes (now states) (now map) ⌝ }
+    ensures { λ _. ⌜ (now (states .exit) ≡ set (now (states .entry)) r NULLED) × (now (owners .exit) ≡ set (now (owners .entry)) r slot) × (now (map .exit) ≡ freeMap sizes (at (now (states .exit)))) ⌝ }
+{
+    clear_free(map, r);
+    move_record(states, r, 2);
+    put8(owners, r, slot);
+}
+
+// A leaving record becomes a free one of no slot.
+pub fn free_record(sizes: Sizes, states: &mut [u8], owners: &mut [u8], map: &mut [u32], r: usize)
+    requires { ⌜ (r < sizes .records) × (at (now states) r ≡ LEAVING) × MapFits sizes (now states) (now map) ⌝ }
+    ensures { λ _. ⌜ (now (states .exit) ≡ set (now (states .entry)) r FREE) × (now (owners .exit) ≡ set (now (owners .entry)) r 0) × (now (map .exit) ≡ freeMap sizes (at (now (states .exit)))) ⌝ }
+{
+    set_free(map, r);
+    move_record(states, r, 0);
+    put8(owners, r, 0);
+}
+
+// The slot's leaving records become free. The result is the count of free records then.
+pub fn free_leaving(
+    sizes: Sizes,
+    states: &mut [u8],
+    owners: &mut [u8],
+    map: &mut [u32],
+    slot: usize,
+    free: u32,
+) -> u32
+    requires { ⌜ (length (now owners) ≡ sizes .records) × (sizes .records < 4097) × (free ≡ freeCount sizes (at (now states))) × MapFits sizes (now states) (now map) ⌝ }
+    ensures { λ n. ⌜ Freed sizes slot (now (states .entry)) (now (owners .entry)) (now (states .exit)) (now (owners .exit)) (now (map .exit)) n ⌝ }
+{
+    let mut count = free;
+    let mut r = 0;
+    while r < states.len() {
+        if states[r] == 5 && owners[r] as usize == slot {
+            free_record(sizes, states, owners, map, r);
+            count += 1;
+        }
+        r += 1;
+    }
+    count
+}

@@ -1,0 +1,55 @@
+// The states of the records: every store of one goes along one of the eleven lines.
+ghost use mathlib.Core.Path.{_≡_};
+ghost use Prim.Native.Nat.{ℕ, suc, _<_, _≤_};
+ghost use lib.Dec.{T};
+ghost use lib.ListN.{length, set};
+ghost use Rattle.tables.specs.Base.{at};
+ghost use Rattle.tables.specs.Rule.{same, some, _and_};
+ghost use Rattle.tables.specs.Store.{store};
+ghost use Rattle.model.specs.Lines.{RELEASED, allowed};
+ghost use Rattle.model.specs.State.{allPages};
+ghost use Rattle.model.specs.Parts.{fromPage};
+ghost use Rattle.parts.specs.Released.{Releasing};
+use crate::cells::at16;
+use model::sizes::Sizes;
+
+// The record moves to another state, along a line.
+pub fn move_record(states: &mut [u8], r: usize, to: u8)
+    requires { ⌜ T (allowed (at (now states) r) to) ⌝ }
+    ensures { λ _. ⌜ now (states .exit) ≡ set (now (states .entry)) r to ⌝ }
+{
+    if r < states.len() {
+        states[r] = to;
+    }
+}
+
+// Every record of the slot that is in one state moves to another.
+pub fn move_all(states: &mut [u8], owners: &[u8], slot: usize, from: u8, to: u8)
+    requires { ⌜ (length (now states) ≤ length (now owners)) × T (allowed from to) ⌝ }
+    ensures { λ _. ⌜ now (states .exit) ≡ store (now (states .entry)) (λ r. same (at (now (states .entry)) r) from and same (at (now (owners .entry)) r) slot) (λ r. to) ⌝ }
+{
+    let mut r = 0;
+    while r < states.len() {
+        if states[r] == from && owners[r] as usize == slot {
+            move_record(states, r, to);
+        }
+        r += 1;
+    }
+}
+
+// The records of the slot's pages from page k up are released.
+pub fn release_from(sizes: Sizes, states: &mut [u8], addresses: &[u16], slot: usize, k: usize)
+    requires { ⌜ Releasing sizes slot k (now states) (now addresses) ⌝ }
+    ensures { λ _. ⌜ now (states .exit) ≡ store (now (states .entry)) (λ r. some (allPages sizes) λ i. fromPage sizes slot k i and same (at (now (addresses .entry)) i) (suc r)) (λ r. RELEASED) ⌝ }
+{
+    let pages = sizes.pages;
+    let end = slot * pages + pages;
+    let mut i = slot * pages + k;
+    while i < end {
+        let address = at16(addresses, i);
+        if address != 0 {
+            move_record(states, address as usize - 1, 4);
+        }
+        i += 1;
+    }
+}
