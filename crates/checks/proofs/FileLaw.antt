@@ -1,0 +1,100 @@
+-- The passes over pages, records and slots are the memory rules of pages, records and slots.
+use mathlib.Core.Path.{_≡_, refl, ap, sym, _∙_}
+use mathlib.Core.Logic.{_⊎_, inl, inr}
+use mathlib.Core.List.{List}
+use Prim.Native.Nat.{ℕ, suc, _+_, _*_, _/_, _<_, _≤_}
+use native.Mathlib.Omega.{arith}
+use lib.ListN.{length}
+use Rattle.tables.specs.Base.{at}
+use Rattle.tables.specs.Rule.{Rule, Holds}
+use Rattle.model.specs.declared.sizes.Sizes.{Sizes}
+use Rattle.model.specs.State.{State, files}
+use Rattle.model.specs.Ruled.{OfRecords}
+use Rattle.passes.specs.Passes.{pageEntries}
+use Rattle.checks.specs.Parts.{filePasses, FilesLong}
+use Rattle.checks.proofs.Shapes.{by-row, of-row}
+
+module _ (z : Sizes) (st : State) (long : FilesLong z (st .disk .numbers) (st .disk .maps) (st .memory .held .addresses) (st .memory .held .states) (st .memory .held .owners)
+    (st .memory .slots .active) (st .memory .slots .updating) (st .memory .slots .images)) where
+  abbrev map : ℕ → ℕ
+  map = at (st .disk .maps)
+
+  abbrev address : ℕ → ℕ
+  address = at (st .memory .held .addresses)
+
+  abbrev state : ℕ → ℕ
+  state = at (st .memory .held .states)
+
+  abbrev owner : ℕ → ℕ
+  owner = at (st .memory .held .owners)
+
+  abbrev image : ℕ → ℕ
+  image = at (st .memory .slots .images)
+
+  -- what the passes say of page i of slot s
+  abbrev Entries : ℕ → ℕ → Type 0
+  Entries s i = Holds (pageEntries s (at (st .memory .slots .active) s) (at (st .memory .slots .updating) s) (map i) (address i) (image i) state owner)
+
+  abbrev passes : Rule
+  passes = filePasses (z .slots) (z .pages) (z .records) (st .disk .numbers) (st .disk .maps) (st .memory .held .addresses) (st .memory .held .states) (st .memory .held .owners)
+      (st .memory .slots .active) (st .memory .slots .updating) (st .memory .slots .images)
+
+  -- a filed record is no active page's
+  not-filed : (s i r : ℕ) → Entries s i → map i ≡ suc r → state r ≡ 1 → ¬ (at (st .memory .slots .active) s ≡ 1)
+  not-filed s i r e m f on = elim (e .0 r m .1 on) [
+    | inl a ↦ elim (e .1 .0 r a .0 .1) [ inl n ↦ omega (arith, f, n) | inr n ↦ omega (arith, f, n) ]
+    | inr a ↦ elim (a .1) [ inl n ↦ omega (arith, f, n) | inr n ↦ omega (arith, f, n) ]
+  ]
+
+  pub of-files : Holds (filePasses (z .slots) (z .pages) (z .records) (st .disk .numbers) (st .disk .maps) (st .memory .held .addresses) (st .memory .held .states) (st .memory .held .owners)
+      (st .memory .slots .active) (st .memory .slots .updating) (st .memory .slots .images)) → OfRecords z (files st)
+  of-files ((a, g), (s, (e, h))) =
+      let held = rw (long .addresses-long) at a in
+      let begun = rw (long .images-long) at g in
+      let rows = rw (long .maps-long) at h in
+      let entries : (i : ℕ) → i < z .slots * z .pages → Entries (i / z .pages) i = by-row (z .slots) (z .pages) (long .within .pages) Entries e in
+      record {
+        address-fit = held .0;
+        image-fit = begun .0;
+        state-fit = λ r k. rows r k .1 .0;
+        owner-fit = λ r k. rows r k .0;
+        active-fit = λ x k. s x k .0;
+        updating-fit = λ x k. s x k .1 .0;
+        held-once = held .1;
+        held = λ i k r q. entries i k .1 .0 r q .0;
+        held-by = λ r k. rows r k .1 .1 .0;
+        filed = λ i k r q. entries i k .0 r q .0;
+        filed-by = λ r k f. let x = rows r k .1 .1 .1 .0 f in (x .0, x .1, (x .2, not-filed (x .0 / z .pages) (x .0) r (entries (x .0) (x .1)) (x .2) f));
+        mapped = λ i k r q. entries i k .0 r q .1;
+        imaged = λ i k r q. entries i k .1 .1 r q .0;
+        image-once = λ i k j l r p q n. begun .1 i k j l r p q;
+        image-zero = λ i k r q. entries i k .1 .1 r q .1;
+        leaving-begun = λ r k. rows r k .1 .1 .1 .1;
+        active-filled = λ x k. s x k .1 .1 .0;
+        address-active = λ i k r q. entries i k .1 .0 r q .1;
+        update-active = λ x k. s x k .1 .1 .1;
+      }
+
+  module _ (o : OfRecords z (files st)) where
+    -- a record in an image is of the image's slot
+    image-owner : (i : ℕ) → i < z .slots * z .pages → (r : ℕ) → image i ≡ suc r → owner r ≡ i / z .pages
+    image-owner i k r q = elim (o .imaged i k r q) [ inl a ↦ o .held i k r a .0 | inr a ↦ a .0 ]
+
+    pub files-of : Holds (filePasses (z .slots) (z .pages) (z .records) (st .disk .numbers) (st .disk .maps) (st .memory .held .addresses) (st .memory .held .states) (st .memory .held .owners)
+        (st .memory .slots .active) (st .memory .slots .updating) (st .memory .slots .images))
+    files-of = (
+      (
+        rw (long .addresses-long) (o .address-fit, o .held-once),
+        rw (long .images-long) (o .image-fit, λ i k j l r p q. o .image-once i k j l r p q (sym (image-owner i k r p) ∙ image-owner j l r q)),
+      ),
+      (
+        λ s k. (o .active-fit s k, (o .updating-fit s k, (o .active-filled s k, o .update-active s k))),
+        (
+          of-row (z .slots) (z .pages) (long .within .pages) Entries (λ i k. (
+            λ r q. (o .filed i k r q, o .mapped i k r q),
+            (λ r q. (o .held i k r q, o .address-active i k r q), λ r q. (o .imaged i k r q, o .image-zero i k r q)),
+          )),
+          rw (long .maps-long) (λ r k. (o .owner-fit r k, (o .state-fit r k, (o .held-by r k, (λ f. let x = o .filed-by r k f in (x .0, x .1, x .2 .0), o .leaving-begun r k))))),
+        ),
+      ),
+    )

@@ -1,0 +1,61 @@
+-- The passes over frames and queues are the memory rules of frames and queues.
+use mathlib.Core.Path.{_≡_, refl, ap, sym, _∙_, subst}
+use mathlib.Core.List.{List}
+use Prim.Native.Nat.{ℕ, suc, _+_, _*_, _/_, _<_, _≤_}
+use lib.ListN.{length}
+use Rattle.tables.specs.Base.{at}
+use Rattle.tables.specs.Queue.{members, times}
+use Rattle.tables.specs.Rule.{Rule, Holds, test, alike}
+use Rattle.model.specs.declared.frame.Frame.{Frame}
+use Rattle.model.specs.declared.sizes.Sizes.{Sizes}
+use Rattle.model.specs.State.{State, files, frames, frameAt}
+use Rattle.model.specs.Ruled.{OfFrames, OfQueues}
+use Rattle.passes.specs.Passes.{inverse, frameRow, cleanFrame}
+use Rattle.checks.specs.Parts.{framePasses}
+
+-- frames that are the same below `count`
+module _ (count words pages total : ℕ) (g h : ℕ → Frame) (e : (f : ℕ) → f < count → g f ≡ h f) where
+  page-of : (f : ℕ) → f < count → g f .page ≡ h f .page
+  page-of f l = ap (λ (x : Frame). x .page) (e f l)
+
+  pub passes-same : (records word free-queue removal-list addresses states active : List ℕ) → Holds (framePasses count words pages total g records word free-queue removal-list addresses states active)
+      → Holds (framePasses count words pages total h records word free-queue removal-list addresses states active)
+  passes-same records word free-queue removal-list addresses states active (((d, o), q), (r, c)) = (
+    ((λ f l i p. d f l i (page-of f l ∙ p), λ i l j k r p q. o i l j k r (page-of i l ∙ p) (page-of j k ∙ q)), q),
+    (
+      λ f l. subst (λ (x : Frame). Holds (frameRow pages active addresses states (times (members free-queue) f) (times (members removal-list) f) x)) (e f l) (r f l),
+      λ f l. subst (λ (x : Frame). Holds (cleanFrame words x f word records addresses states)) (e f l) (c f l),
+    ),
+  )
+
+  pub inverse-same : (size : ℕ) (t : List ℕ) → Holds (inverse size count (λ f. g f .page) t) → Holds (inverse size count (λ f. h f .page) t)
+  inverse-same size t v = (λ f l i p. v .0 f l i (page-of f l ∙ p), λ i l f p. let x = v .1 i l f p in (x .0, sym (page-of f (x .0)) ∙ x .1))
+
+module _ (z : Sizes) (st : State) where
+  pub of-frames : Holds (framePasses (z .frames) (z .words) (z .pages) (z .slots * z .pages) (frames st .frame) (st .disk .records) (st .memory .core .words) (st .memory .core .free-queue)
+      (st .memory .core .removal-list) (st .memory .held .addresses) (st .memory .held .states) (st .memory .slots .active)) → OfFrames z (files st) (frames st) (at (st .disk .records)) × OfQueues z st
+  of-frames (((d, o), (q, p)), (r, c)) = (
+    record {
+      fit = λ f l. (d f l, r f l .0);
+      in-one-place = λ f l. r f l .1 .0;
+      active = λ f l i e. r f l .1 .1 .1 i e .0;
+      once = o;
+      held = λ f l i e. r f l .1 .1 .1 i e .1;
+      writing = λ f l. r f l .1 .1 .0 .0;
+      free = λ f l. r f l .1 .1 .0 .1 .0;
+      busy = λ f l. r f l .1 .1 .0 .1 .1;
+      clean = c;
+    },
+    record { free-queue = q; removal-list = p },
+  )
+
+  pub frames-of : OfFrames z (files st) (frames st) (at (st .disk .records)) → OfQueues z st
+      → Holds (framePasses (z .frames) (z .words) (z .pages) (z .slots * z .pages) (frames st .frame) (st .disk .records) (st .memory .core .words) (st .memory .core .free-queue)
+      (st .memory .core .removal-list) (st .memory .held .addresses) (st .memory .held .states) (st .memory .slots .active))
+  frames-of o q = (
+    ((λ f l. o .fit f l .0, o .once), (q .free-queue, q .removal-list)),
+    (
+      λ f l. (o .fit f l .1, (o .in-one-place f l, ((o .writing f l, (o .free f l, o .busy f l)), λ i e. (o .active f l i e, o .held f l i e)))),
+      o .clean,
+    ),
+  )

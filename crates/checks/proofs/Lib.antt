@@ -1,0 +1,7 @@
+pub mod Shapes
+pub mod PartLaws
+pub mod DiskLaw
+pub mod FileLaw
+pub mod FrameLaw
+pub mod CountLaw
+pub mod RulesLaw

@@ -1,0 +1,111 @@
+-- What the parts' proofs cite: tests joined, and tables made on the way put in place of what they tell.
+use mathlib.Core.Path.{_≡_, refl, ap, sym, _∙_}
+use mathlib.Core.Bool.{Bool, true, false, _&&_}
+use mathlib.Core.Logic.{_⊎_, inl, inr}
+use mathlib.Core.List.{List}
+use Prim.Native.Nat.{ℕ, suc, _+_, _-_, _*_, _/_, _<_, _≤_}
+use native.Mathlib.Omega.{arith}
+use native.Mathlib.Decide.{ℕ-discrete}
+use lib.Dec.{eqb, ltb}
+use lib.ListN.{length}
+use Rattle.tables.specs.Base.{at}
+use Rattle.tables.specs.Queue.{members, times, queue}
+use Rattle.tables.specs.Rule.{Rule, same, below, non, _and_, _or_, _then_, each, some, Holds, test, alike}
+use Rattle.tables.specs.Turn.{not-so, unlearn, learn}
+use Rattle.model.specs.declared.frame.Frame.{Frame}
+use Rattle.model.specs.declared.sizes.Sizes.{Sizes}
+use Rattle.model.specs.State.{frameAt}
+use Rattle.model.specs.Rules.{fit}
+use Rattle.passes.specs.Passes.{distinct, inverse, counted, frameRow, frameRows, recordRow, recordRows, usedPages, usedTable, PagesFit}
+use Rattle.checks.specs.Parts.{heldRow, heldRows, FilesLong}
+use Rattle.checks.proofs.Shapes.{each-same}
+
+-- ── tests that came out true, or false ──
+pub both-true : (a b : Bool) → a && b ≡ true → (a ≡ true) × (b ≡ true)
+both-true true b e = (refl, e)
+both-true false b e = (e, absurd (unlearn-false e))
+  where
+    unlearn-false : false ≡ true → ⊥
+    unlearn-false q = let z : _≡_ {A = ℕ} 0 1 = cc in omega arith
+
+pub three-true : (a b c : Bool) → (a && b) && c ≡ true → (a ≡ true) × (b ≡ true) × (c ≡ true)
+three-true a b c e = let x = both-true (a && b) c e in let y = both-true a b (x .0) in (y .0, y .1, x .1)
+
+pub four-true : (a b c d : Bool) → ((a && b) && c) && d ≡ true → a ≡ true
+four-true a b c d e = three-true a b c (both-true ((a && b) && c) d e .0) .0
+
+pub first-no : (f g : Rule) → false ≡ test f → false ≡ test (f and g)
+first-no f g e = not-so (f and g) (λ h. unlearn f e (h .0))
+
+pub second-told : (f g : Rule) (b : Bool) → Holds f → b ≡ test g → b ≡ test (f and g)
+second-told f g b h e = e ∙ alike g (f and g) (λ k. (h, k)) (λ k. k .1)
+
+pub same-told : (a b x : ℕ) → x ≡ b → eqb a x ≡ test (same a b)
+unfolding test
+same-told a b x e = rw e
+
+pub below-told : (a b : ℕ) → ltb a b ≡ test (below a b)
+unfolding test
+below-told a b = refl
+
+-- ── a record by its holder, or by a table of holders ──
+-- the table's place is 0 just where no entry names the record
+module _ (size n : ℕ) (entry : ℕ → ℕ) (t : List ℕ) (v : Holds (inverse size n entry t)) (r : ℕ) (less : r < size) where
+  pub table-some : ¬ (at t r ≡ 0) → (i : ℕ) × (i < n) × (entry i ≡ suc r)
+  table-some d = let q = v .1 r less (at t r - 1) (omega arith) in (at t r - 1, q .0, q .1)
+
+  pub some-table : (i : ℕ) × (i < n) × (entry i ≡ suc r) → ¬ (at t r ≡ 0)
+  some-table x z = omega (arith, z, v .0 (x .0) (x .1) r (x .2))
+
+module _ (records slots : ℕ) (holders listers maps addresses states owners updating : List ℕ) (small : records ≤ 4096)
+    (h : Holds (inverse 4096 (length maps) (at addresses) holders)) (l : Holds (inverse 4096 (length maps) (at maps) listers)) where
+  pub rows-held : test (recordRows records slots holders listers states owners updating) ≡ test (heldRows records slots maps addresses states owners updating)
+  rows-held = each-same records _ _ (λ r k. let s : r < 4096 = omega arith in alike
+      (recordRow slots (at holders r) (at listers r) (at states r) (at owners r) (at updating))
+      (heldRow slots (length maps) (at addresses) (at maps) (at states r) (at owners r) (at updating) r)
+      (λ x. (x .0, (x .1 .0, (λ e. table-some 4096 (length maps) (at addresses) holders h r s (x .1 .1 .0 e), (λ e. table-some 4096 (length maps) (at maps) listers l r s (x .1 .1 .1 .0 e), x .1 .1 .1 .1)))))
+      (λ x. (x .0, (x .1 .0, (λ e. some-table 4096 (length maps) (at addresses) holders h r s (x .1 .1 .0 e), (λ e. some-table 4096 (length maps) (at maps) listers l r s (x .1 .1 .1 .0 e), x .1 .1 .1 .1))))))
+
+-- ── the tables of pages, once they are known to fit ──
+pub pages-fit : (z : Sizes) (numbers maps addresses states owners active updating images : List ℕ) → FilesLong z numbers maps addresses states owners active updating images
+    → Holds (fit (length maps) (z .records) (at maps)) → Holds (distinct (length addresses) (z .records) (at addresses)) → Holds (distinct (length images) (z .records) (at images))
+    → PagesFit maps addresses images states owners
+pages-fit z numbers maps addresses states owners active updating images long m a g = record {
+  addresses-long = one;
+  images-long = two;
+  owners-long = long .owners-long ∙ sym (long .states-long);
+  maps-fit = rw (long .states-long) m;
+  addresses-fit = rw (long .states-long, ← one) (a .0);
+  images-fit = rw (long .states-long, ← two) (g .0);
+}
+  where
+    one : length addresses ≡ length maps
+    one = long .addresses-long ∙ sym (long .maps-long)
+
+    two : length images ≡ length maps
+    two = long .images-long ∙ sym (long .maps-long)
+
+-- ── frames by the tables of their places ──
+pub rows-placed : (n pages : ℕ) (frames : List Frame) (active addresses states free removal queued removing : List ℕ) → n ≤ 64 → Holds (counted 64 free queued) → Holds (counted 64 removal removing)
+    → test (frameRows n pages frames active addresses states queued removing) ≡ test (each n λ f. frameRow pages active addresses states (times (members free) f) (times (members removal) f) (frameAt frames f))
+rows-placed n pages frames active addresses states free removal queued removing h a b = each-same n _ _ (λ f l. rw (a f (omega arith), b f (omega arith)))
+
+-- ── used counts by the table of totals ──
+pub used-told : (accounts slots pages : ℕ) (used account active maps addresses inFrames states t : List ℕ) → accounts ≤ 16 → Holds (usedTable slots pages account active maps addresses inFrames states t)
+    → test (each accounts λ q. same (at used q) (at t q)) ≡ test (each accounts λ q. same (at used q) (usedPages pages (slots * pages) q account active maps addresses inFrames states))
+used-told accounts slots pages used account active maps addresses inFrames states t h e = each-same accounts _ _ (λ q l. rw (e q (omega arith)))
+
+-- twelve tests, joined from the left or from the right
+pub twelve : (a b c d e f g h i j k l : Bool) → ((((((((((a && b) && c) && d) && e) && f) && g) && h) && i) && j) && k) && l ≡ a && (b && (c && (d && (e && (f && (g && (h && (i && (j && (k && l))))))))))
+twelve false b c d e f g h i j k l = refl
+twelve true false c d e f g h i j k l = refl
+twelve true true false d e f g h i j k l = refl
+twelve true true true false e f g h i j k l = refl
+twelve true true true true false f g h i j k l = refl
+twelve true true true true true false g h i j k l = refl
+twelve true true true true true true false h i j k l = refl
+twelve true true true true true true true false i j k l = refl
+twelve true true true true true true true true false j k l = refl
+twelve true true true true true true true true true false k l = refl
+twelve true true true true true true true true true true false l = refl
+twelve true true true true true true true true true true true l = refl

@@ -1,0 +1,123 @@
+-- All passes together are all rules.
+use mathlib.Core.Path.{_≡_, refl, ap, sym, _∙_}
+use mathlib.Core.Bool.{Bool, true, false}
+use mathlib.Core.List.{List, [], _∷_}
+use Prim.Native.Nat.{ℕ, zero, suc, _+_, _*_, _/_, _<_, _≤_}
+use native.Mathlib.Omega.{arith}
+use lib.ListN.{length, take}
+use lib.Seq.{getD-take}
+use Rattle.tables.specs.Base.{at}
+use Rattle.tables.specs.Rule.{Rule, Holds, test, alike}
+use Rattle.tables.specs.Turn.{not-so, unlearn}
+use Rattle.model.specs.declared.frame.Frame.{Frame}
+use Rattle.model.specs.declared.sizes.Sizes.{Sizes}
+use Rattle.model.specs.State.{State, files, frames, frameAt, noFrame}
+use Rattle.model.specs.Fit.{Fit}
+use Rattle.model.specs.Rules.{allRules}
+use Rattle.model.specs.Ruled.{Ruled, OfFrames, OfQueues, ruled, rules}
+use Rattle.passes.specs.Passes.{inverse}
+use Rattle.checks.specs.Parts.{diskPasses, filePasses, framePasses, countPasses, DiskLong, FilesLong, FramesLong, CountsLong}
+use Rattle.checks.proofs.DiskLaw.{on-disk, disk-on}
+use Rattle.checks.proofs.FileLaw.{of-files, files-of}
+use Rattle.checks.proofs.FrameLaw.{passes-same, inverse-same, of-frames, frames-of}
+use Rattle.checks.proofs.CountLaw.{of-counts, counts-of}
+
+-- question 1 gives each subject its lengths
+module _ (z : Sizes) (st : State) (fit : Fit z st) where
+  pub disk-long : DiskLong z (st .disk .numbers) (st .disk .accounts) (st .disk .maps)
+  disk-long = record { within = fit .sizes; numbers-long = fit .disk .numbers; accounts-long = fit .disk .accounts; maps-long = fit .disk .maps }
+
+  pub files-long : FilesLong z (st .disk .numbers) (st .disk .maps) (st .memory .held .addresses) (st .memory .held .states) (st .memory .held .owners) (st .memory .slots .active) (st .memory .slots .updating) (st .memory .slots .images)
+  files-long = record {
+    within = fit .sizes;
+    numbers-long = fit .disk .numbers;
+    maps-long = fit .disk .maps;
+    addresses-long = fit .memory .addresses;
+    states-long = fit .memory .states;
+    owners-long = fit .memory .owners;
+    active-long = fit .memory .active;
+    updating-long = fit .memory .updating;
+    images-long = fit .memory .images;
+  }
+
+  pub frames-long : FramesLong z (st .disk .records) (st .memory .core .words) (st .memory .core .free-queue) (st .memory .core .removal-list) (st .memory .held .addresses) (st .memory .held .states) (st .memory .slots .active)
+  frames-long = record {
+    within = fit .sizes;
+    records-long = fit .disk .records;
+    words-long = fit .memory .words;
+    free-long = fit .memory .free-queue;
+    removal-long = fit .memory .removal-list;
+    addresses-long = fit .memory .addresses;
+    states-long = fit .memory .states;
+    active-long = fit .memory .active;
+  }
+
+  pub counts-long : CountsLong z (st .disk .accounts) (st .disk .maps) (st .memory .held .addresses) (st .memory .held .states) (st .memory .held .free-map) (st .memory .slots .active) (st .memory .used)
+  counts-long = record {
+    within = fit .sizes;
+    accounts-long = fit .disk .accounts;
+    maps-long = fit .disk .maps;
+    addresses-long = fit .memory .addresses;
+    states-long = fit .memory .states;
+    free-map-long = fit .memory .free-map;
+    active-long = fit .memory .active;
+    used-long = fit .memory .used;
+  }
+
+  abbrev disk-passes : Rule
+  disk-passes = diskPasses (z .slots) (z .pages) (z .records) (z .accounts) (st .disk .numbers) (st .disk .accounts) (st .disk .maps)
+
+  abbrev file-passes : Rule
+  file-passes = filePasses (z .slots) (z .pages) (z .records) (st .disk .numbers) (st .disk .maps) (st .memory .held .addresses) (st .memory .held .states) (st .memory .held .owners) (st .memory .slots .active)
+      (st .memory .slots .updating) (st .memory .slots .images)
+
+  pub no-disk : false ≡ test (diskPasses (z .slots) (z .pages) (z .records) (z .accounts) (st .disk .numbers) (st .disk .accounts) (st .disk .maps)) → false ≡ test (allRules z st)
+  no-disk e = not-so (allRules z st) (λ h. unlearn disk-passes e (disk-on z st disk-long (ruled z st h .disk)))
+
+  pub no-files : false ≡ test (filePasses (z .slots) (z .pages) (z .records) (st .disk .numbers) (st .disk .maps) (st .memory .held .addresses) (st .memory .held .states) (st .memory .held .owners) (st .memory .slots .active)
+      (st .memory .slots .updating) (st .memory .slots .images)) → false ≡ test (allRules z st)
+  no-files e = not-so (allRules z st) (λ h. unlearn file-passes e (files-of z st files-long (ruled z st h .records)))
+
+  -- the frames that the code has are the state's
+  module _ (frame : ℕ → Frame) (same : (f : ℕ) → f < z .frames → frame f ≡ frames st .frame f) where
+    abbrev frame-passes : Rule
+    frame-passes = framePasses (z .frames) (z .words) (z .pages) (z .slots * z .pages) frame (st .disk .records) (st .memory .core .words) (st .memory .core .free-queue) (st .memory .core .removal-list)
+        (st .memory .held .addresses) (st .memory .held .states) (st .memory .slots .active)
+
+    pub no-frames : false ≡ test (framePasses (z .frames) (z .words) (z .pages) (z .slots * z .pages) frame (st .disk .records) (st .memory .core .words) (st .memory .core .free-queue) (st .memory .core .removal-list)
+        (st .memory .held .addresses) (st .memory .held .states) (st .memory .slots .active)) → false ≡ test (allRules z st)
+    no-frames e = not-so (allRules z st) (λ h. unlearn frame-passes e
+        (passes-same (z .frames) (z .words) (z .pages) (z .slots * z .pages) (frames st .frame) frame (λ f l. sym (same f l)) (st .disk .records) (st .memory .core .words) (st .memory .core .free-queue) (st .memory .core .removal-list) (st .memory .held .addresses) (st .memory .held .states) (st .memory .slots .active) (frames-of z st (ruled z st h .frames) (ruled z st h .queues))))
+
+    -- all others hold: the counts decide
+    pub counts-decide : (t : List ℕ) (b : Bool) → Holds (inverse 16384 (z .frames) (λ f. frame f .page) t)
+        → Holds (diskPasses (z .slots) (z .pages) (z .records) (z .accounts) (st .disk .numbers) (st .disk .accounts) (st .disk .maps))
+        → Holds (filePasses (z .slots) (z .pages) (z .records) (st .disk .numbers) (st .disk .maps) (st .memory .held .addresses) (st .memory .held .states) (st .memory .held .owners) (st .memory .slots .active)
+        (st .memory .slots .updating) (st .memory .slots .images))
+        → Holds (framePasses (z .frames) (z .words) (z .pages) (z .slots * z .pages) frame (st .disk .records) (st .memory .core .words) (st .memory .core .free-queue) (st .memory .core .removal-list)
+        (st .memory .held .addresses) (st .memory .held .states) (st .memory .slots .active))
+        → b ≡ test (countPasses (z .slots) (z .pages) (z .records) (z .accounts) (st .memory .held .pool .hand) (st .memory .held .pool .free) (st .disk .accounts) (st .disk .maps) (st .memory .held .addresses)
+        (st .memory .held .states) (st .memory .held .free-map) (st .memory .slots .active) (st .memory .used) t)
+        → b ≡ test (allRules z st)
+    counts-decide t b v d f c e = e ∙ alike count-passes (allRules z st)
+        (λ h. rules z st (record { disk = on-disk z st disk-long d; records = of-files z st files-long f; queues = fq .1; frames = fq .0; counts = of-counts z st (fit .sizes) t w h }))
+        (λ h. counts-of z st (fit .sizes) t w (ruled z st h .counts))
+      where
+        w : Holds (inverse 16384 (z .frames) (λ f. frames st .frame f .page) t)
+        w = inverse-same (z .frames) (z .words) (z .pages) (z .slots * z .pages) frame (frames st .frame) same 16384 t v
+
+        fq : OfFrames z (files st) (frames st) (at (st .disk .records)) × OfQueues z st
+        fq = of-frames z st (passes-same (z .frames) (z .words) (z .pages) (z .slots * z .pages) frame (frames st .frame) same (st .disk .records) (st .memory .core .words) (st .memory .core .free-queue) (st .memory .core .removal-list) (st .memory .held .addresses) (st .memory .held .states) (st .memory .slots .active) c)
+
+        count-passes : Rule
+        count-passes = countPasses (z .slots) (z .pages) (z .records) (z .accounts) (st .memory .held .pool .hand) (st .memory .held .pool .free) (st .disk .accounts) (st .disk .maps) (st .memory .held .addresses)
+            (st .memory .held .states) (st .memory .held .free-map) (st .memory .slots .active) (st .memory .used) t
+
+-- the first frames are the state's
+pub frames-taken : (n count : ℕ) (fs : List Frame) → length (take count fs) ≡ n → (f : ℕ) → f < n → frameAt fs f ≡ frameAt (take count fs) f
+frames-taken n count fs e f h = sym (getD-take count fs f noFrame (omega (arith, e, take-short count fs)))
+  where
+    take-short : (m : ℕ) (l : List Frame) → length (take m l) ≤ m
+    take-short zero l = omega arith
+    take-short (suc m) [] = omega arith
+    take-short (suc m) (x ∷ l) = omega (arith, take-short m l)

@@ -1,0 +1,6 @@
+pub mod Inverse
+pub mod Entries
+pub mod FrameTests
+pub mod Words
+pub mod Places
+pub mod Tally

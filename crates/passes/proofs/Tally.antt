@@ -1,0 +1,128 @@
+-- Counting along a loop: one more number, one more bit, one more row.
+use mathlib.Core.Path.{_≡_, refl, ap, sym, _∙_}
+use mathlib.Core.Bool.{Bool, true, false, _&&_}
+use mathlib.Core.Logic.{inl, inr}
+use mathlib.Core.List.{List}
+use Prim.Native.Nat.{ℕ, zero, suc, _+_, _-_, _*_, _/_, _^_, _<_, _≤_}
+use native.Mathlib.Nat.{mul-add-div-right, div-eq-of-lt, pow-le-pow-right, suc-mul, mul-le-mul-right, add-zero}
+use native.Mathlib.Numerals.{add-one}
+use native.Mathlib.Omega.{arith}
+use native.Mathlib.Decide.{ℕ-discrete}
+use lib.Dec.{T, eqb}
+use lib.ListN.{length, set, length-set}
+use lib.Seq.{getD-set-same, getD-set-other}
+use borrow.Author.Tests.{eq-eqb, ne-eqb}
+use Rattle.tables.specs.Base.{at, if, count}
+use Rattle.tables.specs.Bits.{bits}
+use Rattle.tables.specs.BitLaws.{bits-none, bits-suc, bits-lt}
+use Rattle.tables.specs.Laws.{count-same, count-bound}
+use Rattle.tables.specs.CountLaws.{count-none, count-row}
+use Rattle.tables.specs.Rule.{Rule, same, each, names, Holds, test, alike}
+use Rattle.tables.specs.Turn.{yes-so, not-so}
+use Rattle.passes.specs.Passes.{chargedPage, usedPage, usedPages, usedTable}
+
+pub one-le : (b : Bool) → if b 1 0 ≤ 1
+one-le true = omega arith
+one-le false = omega arith
+
+pub count-start : (p : ℕ → Bool) → 0 ≡ count 0 p
+unfolding count
+count-start p = refl
+
+pub count-next : (i n x : ℕ) (p : ℕ → Bool) → n ≡ count i p → x ≡ if (p i) 1 0 → n + x ≡ count (i + 1) p
+unfolding count
+count-next i n x p e f = rw (add-one i, e, f)
+
+pub count-end : (i n x : ℕ) (p : ℕ → Bool) → x ≡ count i p → i ≤ n → n ≤ i → x ≡ count n p
+count-end i n x p e h l = let q : i ≡ n = omega arith in e ∙ ap (λ (m : ℕ). count m p) q
+
+-- what is counted so far is at most as much as was looked at
+pub count-few : (i n : ℕ) (p : ℕ → Bool) → n ≡ count i p → n ≤ i
+count-few i n p e = omega (arith, count-bound i p)
+
+-- ── the bits of a word, from the last down ──
+module _ (p : ℕ → Bool) (from : ℕ) where
+  pub word-start : 0 ≡ bits 0 p (from + (32 - 0))
+  word-start = sym (bits-none p (from + (32 - 0)))
+
+  module _ (n word : ℕ) (h : n < 32) (e : word ≡ bits n p (from + (32 - n))) where
+    pub word-small : 2 * word + 1 < 4294967296
+    word-small = let s : bits n p (from + (32 - n)) < 2 ^ n = bits-lt n p (from + (32 - n)) in let u : n ≤ 31 = omega arith in let z : 0 < 2 = omega arith in let t : 2 ^ n ≤ 2 ^ 31 = pow-le-pow-right z u in omega arith
+
+    pub word-next : (b : ℕ) → b ≡ if (p (from + (31 - n))) 1 0 → b + 2 * word ≡ bits (n + 1) p (from + (32 - (n + 1)))
+    word-next b f =
+        let i : from + (32 - suc n) ≡ from + (31 - n) = omega arith in
+        let j : suc (from + (31 - n)) ≡ from + (32 - n) = omega arith in
+        rw (add-one n, i, bits-suc n p (from + (31 - n)), j, f, e)
+
+  pub word-end : (n word : ℕ) → n ≤ 32 → 32 ≤ n → word ≡ bits n p (from + (32 - n)) → word ≡ bits 32 p from
+  word-end n word h l e = let q : n ≡ 32 = omega arith in rw (q, add-zero from) at e
+
+-- ── a charged page ──
+module _ (a f : ℕ) (state : ℕ → ℕ) (none : f ≡ 0) where
+  pub no-address : a ≡ 0 → false ≡ test (chargedPage a f state)
+  no-address z = not-so (chargedPage a f state) (λ h. elim h [ inl x ↦ omega (arith, z, x .1) | inr x ↦ x none ])
+
+  pub by-state : ¬ (a ≡ 0) → eqb (state (a - 1)) 3 ≡ test (chargedPage a f state)
+  unfolding test
+  by-state d = told ∙ alike (same (state (a - 1)) 3) (chargedPage a f state) (λ h. inl (a - 1, omega arith, h)) (λ h. elim h [
+    | inl x ↦ (let e : a ≡ suc (x .0) = x .1 in let q : a - 1 ≡ x .0 = omega arith in rw q (x .2))
+    | inr x ↦ absurd (x none)
+  ])
+    where
+      told : eqb (state (a - 1)) 3 ≡ test (same (state (a - 1)) 3)
+      told = refl
+
+-- ── each account's used pages, slot by slot ──
+module _ (pages : ℕ) (account active maps addresses inFrames states : List ℕ) where
+  -- the first s slots are counted
+  pub record Totals (slots : ℕ) (t : List ℕ) (s : ℕ) : Type 0 where
+    pub within : s ≤ slots
+    pub sized : length t ≡ 16
+    pub counted : (q : ℕ) → q < 16 → at t q ≡ usedPages pages (s * pages) q account active maps addresses inFrames states
+
+  abbrev used : ℕ → ℕ → Bool
+  used s i = usedPage (at active s) (at maps i) (at addresses i) (at inFrames i) (at states)
+
+  abbrev counts : ℕ → ℕ → Bool
+  counts q i = eqb (at account (i / pages)) q && used (i / pages) i
+
+  pub totals-start : (slots : ℕ) (t : List ℕ) → length t ≡ 16 → Holds (each 16 (λ q. same (at t q) 0)) → Totals slots t 0
+  totals-start slots t l z = record { within = omega arith; sized = l; counted = λ q h. z q h ∙ count-start (counts q) ∙ ap (λ (m : ℕ). count m (counts q)) (zero-times pages) }
+    where
+      zero-times : (n : ℕ) → 0 ≡ 0 * n
+      zero-times n = omega arith
+
+  pub totals-few : (slots : ℕ) (t : List ℕ) (s : ℕ) → Totals slots t s → (q : ℕ) → q < 16 → at t q ≤ s * pages
+  totals-few slots t s p q h = count-few (s * pages) (at t q) (counts q) (p .counted q h)
+
+  module _ (pos : 0 < pages) (slots : ℕ) (t : List ℕ) (s : ℕ) (p : Totals slots t s) (less : s < slots) where
+    in-row : (i : ℕ) → i < pages → (s * pages + i) / pages ≡ s
+    in-row i h = mul-add-div-right pos s i ∙ (let e : i / pages ≡ 0 = div-eq-of-lt h in omega arith)
+
+    row : (q : ℕ) → count ((s + 1) * pages) (counts q) ≡ count (s * pages) (counts q) + count pages (λ i. eqb (at account s) q && used s (s * pages + i))
+    row q = rw (add-one s, count-row s pages (counts q)) (ap (λ (m : ℕ). count (s * pages) (counts q) + m)
+        (count-same pages (λ i. counts q (s * pages + i)) (λ i. eqb (at account s) q && used s (s * pages + i)) (λ i h. ap (λ (x : ℕ). eqb (at account x) q && used x (s * pages + i)) (in-row i h))))
+
+    mine : (q : ℕ) → at account s ≡ q → count pages (λ i. eqb (at account s) q && used s (s * pages + i)) ≡ count pages (λ i. used s (s * pages + i))
+    mine q e = rw (eq-eqb (at account s) q e)
+
+    others : (q : ℕ) → ¬ (at account s ≡ q) → count pages (λ i. eqb (at account s) q && used s (s * pages + i)) ≡ 0
+    others q e = rw (ne-eqb (at account s) q e) (count-none pages (λ i. false) (λ i h x. x))
+
+    pub totals-next : (x : ℕ) → at account s < 16 → x ≡ count pages (λ i. usedPage (at active s) (at maps (s * pages + i)) (at addresses (s * pages + i)) (at inFrames (s * pages + i)) (at states))
+        → Totals slots (set t (at account s) (at t (at account s) + x)) (s + 1)
+    totals-next x h e = record {
+      within = omega arith;
+      sized = length-set t a (at t a + x) ∙ p .sized;
+      counted = λ q l. elim (ℕ-discrete a q) [
+        | yes f ↦ (let k : at (set t a (at t a + x)) q ≡ at t q + x = rw (← f) (getD-set-same t a (at t a + x) 0 (omega (arith, p .sized))) in omega (arith, k, p .counted q l, row q, mine q f))
+        | no f ↦ (let k : at (set t a (at t a + x)) q ≡ at t q = getD-set-other t a q (at t a + x) 0 (λ y. f (sym y)) in omega (arith, k, p .counted q l, row q, others q f))
+      ];
+    }
+      where
+        a : ℕ
+        a = at account s
+
+  pub totals-end : (slots : ℕ) (t : List ℕ) (s : ℕ) → Totals slots t s → slots ≤ s → Holds (usedTable slots pages account active maps addresses inFrames states t)
+  totals-end slots t s p l q h = let e : s ≡ slots = omega (arith, p .within) in rw e at (p .counted q h)

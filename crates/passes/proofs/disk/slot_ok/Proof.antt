@@ -1,0 +1,13 @@
+-- The two tests are the rule's.
+use mathlib.Core.Bool.{and-assoc}
+use Rattle.tables.specs.Rule.{test}
+use Rattle.tables.specs.Turn.{if-then}
+use Rattle.passes.proofs.disk.slot_ok.Statement.{statement}
+use Rattle.passes.proofs.disk.slot_ok.Tie as tie
+
+returns : tie.Need-returns
+unfolding test
+returns c = simp (if-then, and-assoc)
+
+pub slot-ok-spec : {M : Type 1} → statement M
+slot-ok-spec = tie.close (tie.spec returns)

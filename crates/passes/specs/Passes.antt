@@ -1,0 +1,158 @@
+-- What one pass of the code decides, where that is not a rule of the model as it stands: an inverse table, a row of entries, a record, a frame.
+use mathlib.Core.Path.{_≡_}
+use mathlib.Core.Bool.{Bool, _&&_}
+use mathlib.Core.List.{List}
+use Prim.Native.Nat.{ℕ, suc, _+_, _*_, _/_}
+use lib.Dec.{eqb, ltb}
+use lib.ListN.{length}
+use Rattle.tables.specs.Base.{at, if, count}
+use Rattle.tables.specs.Bits.{bits}
+use Rattle.tables.specs.Queue.{members, times, queue}
+use Rattle.tables.specs.Rule.{Rule, same, below, non, _and_, _or_, _then_, each, some, named, names, Holds, test}
+use Rattle.model.specs.declared.frame.Frame.{Frame}
+use Rattle.model.specs.Lines.{FREE, FILED, NULLED, LIVE, RELEASED, LEAVING}
+use Rattle.model.specs.State.{NONE, READING, WRITING, frameAt}
+use Rattle.model.specs.declared.sizes.Sizes.{Sizes}
+use Rattle.model.specs.Rules.{fit, once}
+use Rattle.model.specs.Fit.{Within}
+
+-- each of the first n entries names a number below m or none, and none is named twice
+abbrev pub distinct : ℕ → ℕ → (ℕ → ℕ) → Rule
+distinct n m entry = fit n m entry and once n entry
+
+-- table t tells for each number which of the first n entries names it (entry + 1, or 0)
+abbrev pub inverse : ℕ → ℕ → (ℕ → ℕ) → List ℕ → Rule
+inverse size n entry t = (each n λ i. named (entry i) λ r. same (at t r) (suc i)) and each size λ r. named (at t r) λ i. below i n and same (entry i) (suc r)
+
+-- ── slots ──
+abbrev pub diskSlot : (accounts number account : ℕ) → Rule
+diskSlot accounts number account = (same number 0 then same account 0) and below account accounts
+
+abbrev pub memorySlot : (number active updating : ℕ) → Rule
+memorySlot number active updating = below active 2 and below updating 2 and (same active 1 then below 0 number) and (same updating 1 then same active 1)
+
+-- a filled slot's number stands in no slot before it
+abbrev pub newNumber : List ℕ → ℕ → Rule
+newNumber numbers s = non (same (at numbers s) 0) then each s λ t. non (same (at numbers t) (at numbers s))
+
+abbrev pub newNumbers : ℕ → List ℕ → Rule
+newNumbers slots numbers = each slots λ s. newNumber numbers s
+
+-- the row of an empty slot is zero
+abbrev pub emptyRow : (pages s number : ℕ) (maps : List ℕ) → Rule
+emptyRow pages s number maps = same number 0 then each pages λ p. same (at maps (s * pages + p)) 0
+
+abbrev pub emptyRows : (slots pages : ℕ) (numbers maps : List ℕ) → Rule
+emptyRows slots pages numbers maps = each slots λ s. emptyRow pages s (at numbers s) maps
+
+-- ── a page's three entries, by its slot's switches and by the states and slots of the records that they name ──
+module _ (s switch address : ℕ) (state owner : ℕ → ℕ) where
+  -- switch: active
+  abbrev pub mapRecord : ℕ → Rule
+  mapRecord r = (non (same switch 1) then same (owner r) s and same (state r) FILED)
+      and (same switch 1 then same address (suc r) or same (owner r) s and (same (state r) RELEASED or same (state r) LEAVING))
+
+  -- switch: active
+  abbrev pub addressRecord : ℕ → Rule
+  addressRecord r = (same (owner r) s and (same (state r) NULLED or same (state r) LIVE)) and same switch 1
+
+  -- switch: updating
+  abbrev pub imageRecord : ℕ → Rule
+  imageRecord r = (same address (suc r) or same (owner r) s and same (state r) RELEASED) and same switch 1
+
+abbrev pub mapEntry : (s active map address : ℕ) (state owner : ℕ → ℕ) → Rule
+mapEntry s active map address state owner = named map (mapRecord s active address state owner)
+
+abbrev pub addressEntry : (s active address : ℕ) (state owner : ℕ → ℕ) → Rule
+addressEntry s active address state owner = named address (addressRecord s active address state owner)
+
+abbrev pub imageEntry : (s updating image address : ℕ) (state owner : ℕ → ℕ) → Rule
+imageEntry s updating image address state owner = named image (imageRecord s updating address state owner)
+
+abbrev pub pageEntries : (s active updating map address image : ℕ) (state owner : ℕ → ℕ) → Rule
+pageEntries s active updating map address image state owner = mapEntry s active map address state owner and addressEntry s active address state owner and imageEntry s updating image address state owner
+
+abbrev pub rowEntries : (pages s active updating : ℕ) (maps addresses images states owners : List ℕ) → Rule
+rowEntries pages s active updating maps addresses images states owners =
+    each pages λ p. pageEntries s active updating (at maps (s * pages + p)) (at addresses (s * pages + p)) (at images (s * pages + p)) (at states) (at owners)
+
+abbrev pub allEntries : (slots pages : ℕ) (active updating maps addresses images states owners : List ℕ) → Rule
+allEntries slots pages active updating maps addresses images states owners = each slots λ s. rowEntries pages s (at active s) (at updating s) maps addresses images states owners
+
+-- ── a record, by the entries that hold and list it ──
+abbrev pub recordRow : (slots holder lister state owner : ℕ) (updating : ℕ → ℕ) → Rule
+recordRow slots holder lister state owner updating = below owner slots and below state 6 and ((same state NULLED or same state LIVE) then non (same holder 0))
+    and (same state FILED then non (same lister 0)) and (same state LEAVING then same (updating owner) 1)
+
+abbrev pub recordRows : (records slots : ℕ) (holders listers states owners updating : List ℕ) → Rule
+recordRows records slots holders listers states owners updating = each records λ r. recordRow slots (at holders r) (at listers r) (at states r) (at owners r) (at updating)
+
+-- ── the tables of pages are of one length, and name records that there are ──
+pub record PagesFit (maps addresses images states owners : List ℕ) : Type 0 where
+  pub addresses-long : length addresses ≡ length maps
+  pub images-long : length images ≡ length maps
+  pub owners-long : length owners ≡ length states
+  pub maps-fit : Holds (fit (length maps) (length states) (at maps))
+  pub addresses-fit : Holds (fit (length maps) (length states) (at addresses))
+  pub images-fit : Holds (fit (length maps) (length states) (at images))
+
+-- ── queues and frames ──
+-- one entry of a queue of n numbers, with the entry after it
+abbrev pub queueEntry : (n entry next : ℕ) → Rule
+queueEntry n entry next = (named entry λ f. below f n) and (same entry 0 then same next 0)
+
+-- table t tells how often each number below `size` is in the queue
+abbrev pub counted : ℕ → List ℕ → List ℕ → Rule
+counted size q t = each size λ f. same (at t f) (times (members q) f)
+
+abbrev pub switches : Frame → Rule
+switches x = below (x .used) 2 and below (x .modified) 2 and below (x .wired) 2 and below (x .initial) 2 and below (x .transfer) 3
+
+abbrev pub onePlace : (queued removing : ℕ) → Frame → Rule
+onePlace queued removing x = same (queued + removing + x .wired + if (eqb (x .transfer) NONE) 0 1) 1
+
+abbrev pub freeOrBusy : ℕ → Frame → Rule
+freeOrBusy queued x = (same (x .transfer) WRITING then same (x .modified) 1)
+    and (non (same queued 0) then same (x .page) 0 and same (x .used) 0 and same (x .modified) 0 and same (x .wired) 0 and same (x .initial) 0)
+    and (same queued 0 then non (same (x .page) 0))
+
+abbrev pub framePage : (pages : ℕ) (active address state : ℕ → ℕ) (transfer i : ℕ) → Rule
+framePage pages active address state transfer i = same (active (i / pages)) 1 and non (same (address i) 0) and (same transfer READING then names (address i) λ r. same (state r) LIVE)
+
+abbrev pub frameRow : (pages : ℕ) (active addresses states : List ℕ) (queued removing : ℕ) → Frame → Rule
+frameRow pages active addresses states queued removing x = switches x and onePlace queued removing x and freeOrBusy queued x
+    and named (x .page) (framePage pages (at active) (at addresses) (at states) (x .transfer))
+
+abbrev pub frameRows : (count pages : ℕ) (frames : List Frame) (active addresses states queued removing : List ℕ) → Rule
+frameRows count pages frames active addresses states queued removing = each count λ f. frameRow pages active addresses states (at queued f) (at removing f) (frameAt frames f)
+
+-- ── the words of a frame ──
+abbrev pub content : (w f r state : ℕ) (words records : List ℕ) → Rule
+content w f r state words records = each w λ k. same (at words (f * w + k)) (if (eqb state LIVE) (at records (r * w + k)) 0)
+
+abbrev pub cleanFrame : (w : ℕ) → Frame → (f : ℕ) (words records addresses states : List ℕ) → Rule
+cleanFrame w x f words records addresses states = named (x .page) λ i. same (x .transfer) NONE then same (x .modified) 0 then named (at addresses i) λ r. content w f r (at states r) words records
+
+abbrev pub cleanFrames : (w count : ℕ) (frames : List Frame) (words records addresses states : List ℕ) → Rule
+cleanFrames w count frames words records addresses states = each count λ f. cleanFrame w (frameAt frames f) f words records addresses states
+
+-- ── counts ──
+-- what is said of a page that counts as used
+abbrev pub chargedPage : (address inFrame : ℕ) (state : ℕ → ℕ) → Rule
+chargedPage address inFrame state = (names address λ r. same (state r) LIVE) or non (same inFrame 0)
+
+abbrev pub usedPage : (active map address inFrame : ℕ) (state : ℕ → ℕ) → Bool
+usedPage active map address inFrame state = if (eqb active 1) (test (chargedPage address inFrame state)) (ltb 0 map)
+
+abbrev pub usedPages : (pages n q : ℕ) (account active maps addresses inFrames states : List ℕ) → ℕ
+usedPages pages n q account active maps addresses inFrames states =
+    count n λ i. eqb (at account (i / pages)) q && usedPage (at active (i / pages)) (at maps i) (at addresses i) (at inFrames i) (at states)
+
+abbrev pub usedTable : (slots pages : ℕ) (account active maps addresses inFrames states t : List ℕ) → Rule
+usedTable slots pages account active maps addresses inFrames states t = each 16 λ q. same (at t q) (usedPages pages (slots * pages) q account active maps addresses inFrames states)
+
+abbrev pub freeRecord : (records : ℕ) (states : List ℕ) → ℕ → Bool
+freeRecord records states r = ltb r records && eqb (at states r) FREE
+
+abbrev pub freeWords : (records : ℕ) (map states : List ℕ) (n : ℕ) → Rule
+freeWords records map states n = each n λ k. same (at map k) (bits 32 (freeRecord records states) (32 * k))

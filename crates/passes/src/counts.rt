@@ -1,0 +1,174 @@
+// The free count, the free map and the used counts.
+ghost use mathlib.Core.Path.{_≡_};
+ghost use mathlib.Core.Bool.{_&&_};
+ghost use Prim.Native.Nat.{_+_, _*_, _/_, _≤_, _<_};
+ghost use lib.Dec.{eqb};
+ghost use lib.ListN.{length};
+ghost use Rattle.tables.specs.Base.{at, if, count};
+ghost use Rattle.tables.specs.Bits.{bits};
+ghost use Rattle.tables.specs.Rule.{same, below, each, test, Holds};
+ghost use Rattle.model.specs.Lines.{FREE};
+ghost use Rattle.model.specs.Rules.{fit};
+ghost use Rattle.passes.specs.Passes.{chargedPage, usedPage, usedTable, freeRecord, freeWords};
+
+// 1 where the state is free.
+fn free_one(state: u8) -> usize
+    ensures { λ r. ⌜ r ≡ if (eqb state FREE) 1 0 ⌝ }
+{
+    if state == 0 {
+        return 1;
+    }
+    0
+}
+
+// The count of free records.
+pub fn free_count(records: usize, states: &[u8]) -> usize
+    requires { ⌜ records ≤ length (now states) ⌝ }
+    ensures { λ r. ⌜ r ≡ count records (λ k. eqb (at (now (states .entry)) k) FREE) ⌝ }
+{
+    let mut n = 0;
+    let mut r = 0;
+    while r < records {
+        n += free_one(states[r]);
+        r += 1;
+    }
+    n
+}
+
+// A record's bit: on where there is such a record and it is free.
+fn free_bit(records: usize, r: usize, states: &[u8]) -> u32
+    requires { ⌜ records ≤ length (now states) ⌝ }
+    ensures { λ x. ⌜ x ≡ if (freeRecord records (now (states .entry)) r) 1 0 ⌝ }
+{
+    if r < records {
+        if states[r] == 0 {
+            return 1;
+        }
+        return 0;
+    }
+    0
+}
+
+// The word of 32 records from `from` up, from the last down.
+fn free_word(records: usize, from: usize, states: &[u8]) -> u32
+    requires { ⌜ (records ≤ length (now states)) × (from ≤ 65536) ⌝ }
+    ensures { λ x. ⌜ x ≡ bits 32 (freeRecord records (now (states .entry))) from ⌝ }
+{
+    let mut word: u32 = 0;
+    let mut n = 0;
+    while n < 32 {
+        word = free_bit(records, from + (31 - n), states) + 2 * word;
+        n += 1;
+    }
+    word
+}
+
+// Bit r % 32 of word r / 32 is on where record r is free; bits from R up are off.
+pub fn free_map_ok(records: usize, n: usize, map: &[u32], states: &[u8]) -> bool
+    requires { ⌜ (records ≤ length (now states)) × (n ≤ length (now map)) × (n ≤ 2048) ⌝ }
+    ensures { λ x. ⌜ x ≡ test (freeWords records (now (map .entry)) (now (states .entry)) n) ⌝ }
+{
+    let mut k = 0;
+    while k < n {
+        if map[k] != free_word(records, 32 * k, states) {
+            return false;
+        }
+        k += 1;
+    }
+    true
+}
+
+// A page is charged if its address is live or it is in a frame.
+fn charged(address: u16, in_frame: u8, states: &[u8]) -> bool
+    requires { ⌜ address ≤ length (now states) ⌝ }
+    ensures { λ r. ⌜ r ≡ test (chargedPage address «in_frame» (at (now (states .entry)))) ⌝ }
+{
+    if in_frame != 0 {
+        return true;
+    }
+    if address == 0 {
+        return false;
+    }
+    states[address as usize - 1] == 3
+}
+
+// 1 where a page counts as used: charged in an active design, listed in an inactive one.
+fn used_one(active: u8, map: u16, address: u16, in_frame: u8, states: &[u8]) -> usize
+    requires { ⌜ address ≤ length (now states) ⌝ }
+    ensures { λ r. ⌜ r ≡ if (usedPage active map address «in_frame» (at (now (states .entry)))) 1 0 ⌝ }
+{
+    if active == 1 {
+        if charged(address, in_frame, states) {
+            return 1;
+        }
+        return 0;
+    }
+    if 0 < map {
+        return 1;
+    }
+    0
+}
+
+// The used pages of a slot.
+fn row_used(
+    pages: usize,
+    s: usize,
+    active: u8,
+    maps: &[u16],
+    addresses: &[u16],
+    in_frames: &[u8; 16384],
+    states: &[u8],
+) -> usize
+    requires { ⌜ (s * pages + pages ≤ length (now maps)) × (length (now addresses) ≡ length (now maps)) × (length (now maps) ≤ 16384) × Holds (fit (length (now addresses)) (length (now states)) (at (now addresses))) ⌝ }
+    ensures { λ r. ⌜ r ≡ count pages (λ p. usedPage active (at (now (maps .entry)) (s * pages + p)) (at (now (addresses .entry)) (s * pages + p)) (at (now («in_frames» .entry)) (s * pages + p)) (at (now (states .entry)))) ⌝ }
+{
+    let base = s * pages;
+    let mut n = 0;
+    let mut p = 0;
+    while p < pages {
+        let i = base + p;
+        n += used_one(active, maps[i], addresses[i], in_frames[i], states);
+        p += 1;
+    }
+    n
+}
+
+// Each account's used pages, from a table of zeros.
+pub fn totals(
+    slots: usize,
+    pages: usize,
+    none: [usize; 16],
+    accounts: &[u16],
+    active: &[u8],
+    maps: &[u16],
+    addresses: &[u16],
+    in_frames: &[u8; 16384],
+    states: &[u8],
+) -> [usize; 16]
+    requires { ⌜ (0 < pages) × (slots ≤ length (now accounts)) × (slots ≤ length (now active)) × (slots * pages ≤ length (now maps)) × (length (now addresses) ≡ length (now maps)) × (length (now maps) ≤ 16384) × Holds (fit (length (now addresses)) (length (now states)) (at (now addresses))) × Holds (each slots (λ s. below (at (now accounts) s) 16)) × (length none ≡ 16) × Holds (each 16 (λ q. same (at none q) 0)) ⌝ }
+    ensures { λ r. ⌜ Holds (usedTable slots pages (now (accounts .entry)) (now (active .entry)) (now (maps .entry)) (now (addresses .entry)) (now («in_frames» .entry)) (now (states .entry)) r) ⌝ }
+{
+    let mut t = none;
+    let mut s = 0;
+    while s < slots {
+        let q = accounts[s] as usize;
+        t[q] += row_used(pages, s, active[s], maps, addresses, in_frames, states);
+        s += 1;
+    }
+    t
+}
+
+// Used counts equal their definition.
+pub fn used_ok(accounts: usize, totals: [usize; 16], used: &[u16]) -> bool
+    requires { ⌜ (accounts ≤ 16) × (accounts ≤ length (now used)) ⌝ }
+    ensures { λ r. ⌜ r ≡ test (each accounts (λ q. same (at (now (used .entry)) q) (at totals q))) ⌝ }
+{
+    let mut q = 0;
+    while q < accounts {
+        if used[q] as usize != totals[q] {
+            return false;
+        }
+        q += 1;
+    }
+    true
+}
