@@ -1,0 +1,7 @@
+pub mod Tests
+pub mod Places
+pub mod Live
+pub mod Carried
+pub mod Kept
+pub mod Filed
+pub mod Turned

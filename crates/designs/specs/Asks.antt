@@ -1,0 +1,54 @@
+-- The questions about a design, in the parts in which the code asks them.
+use mathlib.Core.List.{List}
+use Prim.Native.Nat.{ℕ, suc, _+_, _*_}
+use Rattle.tables.specs.Base.{at, if}
+use Rattle.tables.specs.Questions.{Questions, none, ask}
+use Rattle.tables.specs.Rule.{Rule, same, below, non, _and_, _or_, _then_, each, some, names, test}
+use Rattle.model.specs.declared.sizes.Sizes.{Sizes}
+use Rattle.model.specs.declared.frame.Frame.{Frame}
+use Rattle.model.specs.Lines.{NULLED, LIVE, RELEASED}
+use Rattle.model.specs.State.{frameAt}
+
+-- 3 and 4: the slot below its size; filled
+abbrev pub filledAsked : Sizes → ℕ → List ℕ → Questions
+filledAsked z s numbers = ask 3 (below s (z .slots)) (ask 4 (non (same (at numbers s) 0)) none)
+
+-- 6: the number in no slot
+abbrev pub newNumber : ℕ → List ℕ → ℕ → Rule
+newNumber slots numbers n = each slots λ s. non (same (at numbers s) n)
+
+-- 7: the slot's map all 0
+abbrev pub zeroMap : List ℕ → ℕ → ℕ → Rule
+zeroMap maps pages s = each pages λ p. same (at maps (s * pages + p)) 0
+
+-- 7 and 9: the map all 0; the slot inactive
+abbrev pub emptyAsked : List ℕ → List ℕ → ℕ → ℕ → Questions
+emptyAsked maps active pages s = ask 7 (zeroMap maps pages s) (ask 9 (non (same (at active s) 1)) none)
+
+-- 9
+abbrev pub inactiveAsked : List ℕ → ℕ → Questions
+inactiveAsked active s = ask 9 (non (same (at active s) 1)) none
+
+-- 8 and 10: the slot active; no update of it under way
+abbrev pub activeAsked : ℕ → List ℕ → List ℕ → Questions
+activeAsked s active updating = ask 8 (same (at active s) 1) (ask 10 (same (at updating s) 0) none)
+
+-- 11: no page of the slot in a frame
+abbrev pub unframed : ℕ → List Frame → ℕ → ℕ → Rule
+unframed count fs pages s = each pages λ p. non (some count λ f. same (frameAt fs f .page) (suc (s * pages + p)))
+
+-- what an update now would store for a page: its live address, or 0
+abbrev pub liveAddress : List ℕ → List ℕ → ℕ → ℕ
+liveAddress addresses states i = if (test (names (at addresses i) λ r. same (at states r) LIVE)) (at addresses i) 0
+
+-- 12: the slot's map is what an update now would store,
+abbrev pub trueMap : List ℕ → List ℕ → List ℕ → ℕ → ℕ → Rule
+trueMap maps addresses states pages s = each pages λ p. same (at maps (s * pages + p)) (liveAddress addresses states (s * pages + p))
+
+-- .. and no record of it nulled or released
+abbrev pub settled : ℕ → List ℕ → List ℕ → ℕ → Rule
+settled records states owners s = each records λ r. same (at owners r) s then non (same (at states r) NULLED or same (at states r) RELEASED)
+
+-- 11 and 12
+abbrev pub heldAsked : Sizes → ℕ → List Frame → List ℕ → List ℕ → List ℕ → List ℕ → Questions
+heldAsked z s fs maps addresses states owners = ask 11 (unframed (z .frames) fs (z .pages) s) (ask 12 (trueMap maps addresses states (z .pages) s and settled (z .records) states owners s) none)

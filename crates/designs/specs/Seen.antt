@@ -1,0 +1,15 @@
+-- The tables that an event about a design or an account reads, as a state: no definition of the event looks at the others.
+use mathlib.Core.List.{List, []}
+use Prim.Native.Nat.{ℕ}
+use Rattle.model.specs.declared.frame.Frame.{Frame}
+use Rattle.model.specs.declared.frame.Pool.{Pool}
+use Rattle.model.specs.State.{State}
+use Rattle.model.specs.Lent.{stateOf}
+
+-- of a limit, a create and a delete: numbers, accounts, maps, limits, active switches
+abbrev pub filed : List ℕ → List ℕ → List ℕ → List ℕ → List ℕ → State
+filed numbers accounts maps limits active = stateOf [] (record { hand = 0; free = 0 }) [] numbers accounts maps limits [] [] [] [] [] [] [] active [] [] []
+
+-- of an activate and a deactivate: frames, numbers, maps, addresses, states, owners, active and update switches
+abbrev pub turned : List Frame → List ℕ → List ℕ → List ℕ → List ℕ → List ℕ → List ℕ → List ℕ → State
+turned frames numbers maps addresses states owners active updating = stateOf frames (record { hand = 0; free = 0 }) [] numbers [] maps [] [] [] [] addresses states owners [] active updating [] []

@@ -1,0 +1,71 @@
+// The questions about a slot's map and its records: each is one pass.
+ghost use mathlib.Core.Path.{_≡_};
+ghost use Prim.Native.Nat.{_+_, _*_, _<_};
+ghost use Rattle.tables.specs.Rule.{test};
+ghost use Rattle.designs.specs.Asks.{zeroMap, liveAddress, trueMap, settled};
+use parts::cells::at8;
+use parts::cells::at16;
+
+// Whether the slot's map is all 0.
+pub fn map_zero(maps: &[u16], pages: usize, slot: usize) -> bool
+    requires { ⌜ slot * pages + pages < 65536 ⌝ }
+    ensures { λ r. ⌜ r ≡ test (zeroMap (now (maps .entry)) pages slot) ⌝ }
+{
+    let start = slot * pages;
+    let mut p = 0;
+    while p < pages {
+        if at16(maps, start + p) != 0 {
+            return false;
+        }
+        p += 1;
+    }
+    true
+}
+
+// What an update now would store for the page.
+pub fn live_address(addresses: &[u16], states: &[u8], i: usize) -> u16
+    ensures { λ r. ⌜ r ≡ liveAddress (now (addresses .entry)) (now (states .entry)) i ⌝ }
+{
+    let address = at16(addresses, i);
+    if address == 0 {
+        return 0;
+    }
+    if at8(states, address as usize - 1) == 3 {
+        return address;
+    }
+    0
+}
+
+// Whether the slot's map is what an update now would store.
+pub fn map_true(maps: &[u16], addresses: &[u16], states: &[u8], pages: usize, slot: usize) -> bool
+    requires { ⌜ slot * pages + pages < 65536 ⌝ }
+    ensures { λ r. ⌜ r ≡ test (trueMap (now (maps .entry)) (now (addresses .entry)) (now (states .entry)) pages slot) ⌝ }
+{
+    let start = slot * pages;
+    let mut p = 0;
+    while p < pages {
+        let entry = at16(maps, start + p);
+        let live = live_address(addresses, states, start + p);
+        if entry != live {
+            return false;
+        }
+        p += 1;
+    }
+    true
+}
+
+// Whether no record of the slot is nulled or released.
+pub fn records_settled(records: usize, states: &[u8], owners: &[u8], slot: usize) -> bool
+    ensures { λ r. ⌜ r ≡ test (settled records (now (states .entry)) (now (owners .entry)) slot) ⌝ }
+{
+    let mut r = 0;
+    while r < records {
+        let owner = at8(owners, r) as usize;
+        let state = at8(states, r);
+        if (owner == slot) & ((state == 2) | (state == 4)) {
+            return false;
+        }
+        r += 1;
+    }
+    true
+}

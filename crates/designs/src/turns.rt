@@ -1,0 +1,91 @@
+// Activate and deactivate: a design's pages take their addresses from its map, or give them up.
+ghost use mathlib.Core.Path.{_≡_};
+ghost use mathlib.Core.List.{[]};
+ghost use lib.ListN.{take};
+ghost use Rattle.model.specs.declared.event.Design.the-variants as Design;
+ghost use Rattle.model.specs.declared.event.Event.the-variants as Event;
+ghost use Rattle.model.specs.Own.{own};
+ghost use Rattle.designs.specs.Needs.{Turning};
+ghost use Rattle.designs.specs.Seen.{turned};
+use crate::asks::ask_activate;
+use crate::asks::ask_deactivate;
+use model::event::Answer;
+use model::frame::Frame;
+use model::sizes::Sizes;
+use parts::cells::put8;
+use parts::slots::clear_slot;
+use parts::slots::copy_slot;
+use parts::states::move_all;
+
+// The slot's pages take their addresses from the map, and its filed records are live.
+pub fn activate(
+    sizes: Sizes,
+    slot: usize,
+    numbers: &[u32],
+    maps: &[u16],
+    addresses: &mut [u16],
+    states: &mut [u8],
+    owners: &[u8],
+    active: &mut [u8],
+) -> Answer
+    requires { ⌜ Turning sizes (now maps) (now addresses) (now states) (now owners) ⌝ }
+    ensures answer { λ r. ⌜ r ≡ own sizes (turned [] (now (numbers .entry)) (now (maps .entry)) (now (addresses .entry)) (now (states .entry)) (now (owners .entry)) (now (active .entry)) []) (Event.Design (Design.Activate slot)) .answer ⌝ }
+    ensures addresses { λ r. ⌜ now (addresses .exit) ≡ own sizes (turned [] (now (numbers .entry)) (now (maps .entry)) (now (addresses .entry)) (now (states .entry)) (now (owners .entry)) (now (active .entry)) []) (Event.Design (Design.Activate slot)) .left .memory .held .addresses ⌝ }
+    ensures states { λ r. ⌜ now (states .exit) ≡ own sizes (turned [] (now (numbers .entry)) (now (maps .entry)) (now (addresses .entry)) (now (states .entry)) (now (owners .entry)) (now (active .entry)) []) (Event.Design (Design.Activate slot)) .left .memory .held .states ⌝ }
+    ensures active { λ r. ⌜ now (active .exit) ≡ own sizes (turned [] (now (numbers .entry)) (now (maps .entry)) (now (addresses .entry)) (now (states .entry)) (now (owners .entry)) (now (active .entry)) []) (Event.Design (Design.Activate slot)) .left .memory .slots .active ⌝ }
+{
+    let refusal = ask_activate(sizes, slot, numbers, active);
+    if refusal != 0 {
+        return Answer { refusal, result: 0 };
+    }
+    copy_slot(maps, addresses, sizes.pages, slot);
+    move_all(states, owners, slot, 1, 3);
+    put8(active, slot, 1);
+    Answer {
+        refusal: 0,
+        result: 0,
+    }
+}
+
+// The slot's pages have no address, and its live records are filed.
+pub fn deactivate(
+    sizes: Sizes,
+    slot: usize,
+    frames: [Frame; 64],
+    numbers: &[u32],
+    maps: &[u16],
+    addresses: &mut [u16],
+    states: &mut [u8],
+    owners: &[u8],
+    active: &mut [u8],
+    updating: &[u8],
+) -> Answer
+    requires { ⌜ Turning sizes (now maps) (now addresses) (now states) (now owners) ⌝ }
+    ensures answer { λ r. ⌜ r ≡ own sizes (turned (take (sizes .frames) frames) (now (numbers .entry)) (now (maps .entry)) (now (addresses .entry)) (now (states .entry)) (now (owners .entry)) (now (active .entry)) (now (updating .entry))) (Event.Design (Design.Deactivate slot)) .answer ⌝ }
+    ensures addresses { λ r. ⌜ now (addresses .exit) ≡ own sizes (turned (take (sizes .frames) frames) (now (numbers .entry)) (now (maps .entry)) (now (addresses .entry)) (now (states .entry)) (now (owners .entry)) (now (active .entry)) (now (updating .entry))) (Event.Design (Design.Deactivate slot)) .left .memory .held .addresses ⌝ }
+    ensures states { λ r. ⌜ now (states .exit) ≡ own sizes (turned (take (sizes .frames) frames) (now (numbers .entry)) (now (maps .entry)) (now (addresses .entry)) (now (states .entry)) (now (owners .entry)) (now (active .entry)) (now (updating .entry))) (Event.Design (Design.Deactivate slot)) .left .memory .held .states ⌝ }
+    ensures active { λ r. ⌜ now (active .exit) ≡ own sizes (turned (take (sizes .frames) frames) (now (numbers .entry)) (now (maps .entry)) (now (addresses .entry)) (now (states .entry)) (now (owners .entry)) (now (active .entry)) (now (updating .entry))) (Event.Design (Design.Deactivate slot)) .left .memory .slots .active ⌝ }
+{
+    let refusal = ask_deactivate(
+        sizes,
+        slot,
+        frames,
+        numbers,
+        maps,
+        addresses,
+        states,
+        owners,
+        active,
+        updating,
+    );
+    if refusal != 0 {
+        return Answer { refusal, result: 0 };
+    }
+    clear_slot(addresses, sizes.pages, slot);
+    move_all(states, owners, slot, 3, 1);
+    put8(active, slot, 0);
+    Answer {
+        refusal: 0,
+        result: 0,
+    }
+}

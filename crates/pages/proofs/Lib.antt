@@ -1,0 +1,11 @@
+pub mod Places
+pub mod Seats
+pub mod Served
+pub mod OneWord
+pub mod Wiring
+pub mod Looking
+pub mod Ways
+pub mod Holding
+pub mod Faulting
+pub mod Faulted
+pub mod Laws

@@ -1,0 +1,55 @@
+-- The questions of a read, a write and a page look: as the code asks them, and what they give.
+use mathlib.Core.Path.{_≡_, refl, ap, sym, _∙_}
+use mathlib.Core.Bool.{Bool, true, _&&_}
+use mathlib.Core.List.{List}
+use Prim.Native.Nat.{ℕ, _<_}
+use lib.Dec.{ltb}
+use lib.ListN.{take}
+use Rattle.tables.specs.Rule.{Rule, Holds, is, below, _and_, test, sound}
+use Rattle.tables.specs.Questions.{Questions, ask, firstNo}
+use Rattle.tables.specs.Also.{_also_, ask-same}
+use Rattle.model.specs.declared.sizes.Sizes.{Sizes}
+use Rattle.model.specs.declared.frame.Frame.{Frame}
+use Rattle.model.specs.State.{pageOf, frames}
+use Rattle.model.specs.Questions.{served}
+use Rattle.pages.specs.Seen.{seen}
+use Rattle.pages.specs.Asks.{slotAsked, frameAsked}
+
+-- the ranges as the code tests them
+abbrev pub pageTest : Sizes → ℕ → ℕ → Bool
+pageTest z s p = ltb s (z .slots) && ltb p (z .pages)
+
+abbrev pub wordTest : Sizes → ℕ → ℕ → ℕ → Bool
+wordTest z s p w = ltb s (z .slots) && (ltb p (z .pages) && ltb w (z .words))
+
+abbrev pub pageRange : Sizes → ℕ → ℕ → Rule
+pageRange z s p = below s (z .slots) and below p (z .pages)
+
+abbrev pub wordRange : Sizes → ℕ → ℕ → ℕ → Rule
+wordRange z s p w = below s (z .slots) and below p (z .pages) and below w (z .words)
+
+pub page-range : (z : Sizes) (s p : ℕ) → pageTest z s p ≡ true → (s < z .slots) × (p < z .pages)
+unfolding test
+page-range z s p e = sound (pageRange z s p) (rw e tt)
+
+pub word-range : (z : Sizes) (s p w : ℕ) → wordTest z s p w ≡ true → (s < z .slots) × (p < z .pages) × (w < z .words)
+unfolding test
+word-range z s p w e = let r = sound (wordRange z s p w) (rw e tt) in (r .0, r .1 .0, r .1 .1)
+
+pub page-test : (z : Sizes) (s p : ℕ) → pageTest z s p ≡ test (pageRange z s p)
+unfolding test
+page-test z s p = refl
+
+pub word-test : (z : Sizes) (s p w : ℕ) → wordTest z s p w ≡ test (wordRange z s p w)
+unfolding test
+word-test z s p w = refl
+
+-- a range told by its test
+pub asked-range : (b : Bool) (range : Rule) (q : Questions) → b ≡ test range → firstNo (ask 3 (is b) q) ≡ firstNo (ask 3 range q)
+unfolding test
+asked-range b range q e = ask-same 3 (is b) range q e
+
+module _ (z : Sizes) (fs : List Frame) (numbers words list active : List ℕ) (range : Rule) (s p n : ℕ) where
+  pub served-answer : (b : Bool) → b ≡ test range → n ≡ firstNo (slotAsked b s numbers active also frameAsked z (take (z .frames) fs) (pageOf z s p))
+      → n ≡ firstNo (served z (seen (take (z .frames) fs) numbers words list active) range s p)
+  served-answer b t e = e ∙ asked-range b range _ t

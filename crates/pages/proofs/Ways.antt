@@ -1,0 +1,67 @@
+-- The three ways of a fault: the code's numbers, and the questions by them.
+use mathlib.Core.Path.{_≡_, refl, ap, sym, _∙_}
+use mathlib.Core.Bool.{Bool, true, false, _||_}
+use mathlib.Core.Logic.{inl, inr}
+use mathlib.Core.List.{List}
+use Prim.Native.Nat.{ℕ, suc, _-_, _<_}
+use native.Mathlib.Omega.{arith}
+use lib.Dec.{eqb, ltb}
+use borrow.Author.Tests.{lt-ltb, le-ltb}
+use Rattle.tables.specs.Base.{if, at}
+use Rattle.tables.specs.Rule.{Rule, Holds, same, below, non, _or_, test, told, untold, decided}
+use Rattle.model.specs.Lines.{LIVE}
+use Rattle.pages.specs.Faults.{isLive, wayOf}
+
+module _ (addresses states : List ℕ) (i : ℕ) where
+  pub way-live : Holds (isLive addresses states i) → wayOf addresses states i ≡ 2
+  unfolding wayOf
+  way-live h = rw (told (isLive addresses states i) h)
+
+  pub way-none : at addresses i ≡ 0 → wayOf addresses states i ≡ 0
+  unfolding wayOf
+  way-none h = rw (untold (isLive addresses states i) (λ (r, e, x). omega arith), told (same (at addresses i) 0) h)
+
+  pub way-held : ¬ (at addresses i ≡ 0) → ¬ Holds (isLive addresses states i) → wayOf addresses states i ≡ 1
+  unfolding wayOf
+  way-held h k = rw (untold (isLive addresses states i) k, untold (same (at addresses i) 0) h)
+
+  -- the code's record is the address less one
+  pub named-live : (a x : ℕ) → a ≡ at addresses i → ¬ (a ≡ 0) → x ≡ at states (a - 1) → x ≡ LIVE → Holds (isLive addresses states i)
+  named-live a x ea n ex h = (a - 1, sym ea ∙ omega arith, sym ex ∙ h)
+
+  pub named-dead : (a x : ℕ) → a ≡ at addresses i → ¬ (a ≡ 0) → x ≡ at states (a - 1) → ¬ (x ≡ LIVE) → ¬ Holds (isLive addresses states i)
+  named-dead a x ea n ex h (r, e, l) = let k : a - 1 ≡ r = omega (arith, ea, e) in h (ex ∙ ap (at states) k ∙ l)
+
+  -- ── the ways apart ──
+  pub two-live : wayOf addresses states i ≡ 2 → Holds (isLive addresses states i)
+  two-live w = elim (decided (isLive addresses states i)) [
+    | yes l ↦ l
+    | no l ↦ elim (decided (same (at addresses i) 0)) [ yes e ↦ absurd (omega (arith, way-none e, w)) | no e ↦ absurd (omega (arith, way-held e l, w)) ]
+  ]
+
+  pub zero-none : wayOf addresses states i ≡ 0 → at addresses i ≡ 0
+  zero-none w = elim (decided (same (at addresses i) 0)) [
+    | yes e ↦ e
+    | no e ↦ elim (decided (isLive addresses states i)) [ yes l ↦ absurd (omega (arith, way-live l, w)) | no l ↦ absurd (omega (arith, way-held e l, w)) ]
+  ]
+
+  -- ── the questions by the way ──
+  pub quota-told : (u l : ℕ) → if (eqb (wayOf addresses states i) 2) true (ltb u l) ≡ test (isLive addresses states i or below u l)
+  unfolding test
+  quota-told u l = elim (decided (isLive addresses states i)) [
+    | yes h ↦ rw (way-live h) (sym (told (isLive addresses states i or below u l) (inl h)))
+    | no h ↦ elim (decided (same (at addresses i) 0)) [
+      | yes e ↦ rw (way-none e) (sym (ap (λ (b : Bool). b || ltb u l) (untold (isLive addresses states i) h)))
+      | no e ↦ rw (way-held e h) (sym (ap (λ (b : Bool). b || ltb u l) (untold (isLive addresses states i) h)))
+    ]
+  ]
+
+  pub supplied-told : (free : ℕ) → if (eqb (wayOf addresses states i) 0) (ltb 0 free) true ≡ test (non (same (at addresses i) 0) or below 0 free)
+  unfolding test
+  supplied-told free = elim (decided (same (at addresses i) 0)) [
+    | yes e ↦ rw (way-none e) (sym (ap (λ (b : Bool). b || ltb 0 free) (untold (non (same (at addresses i) 0)) (λ k. k e))))
+    | no e ↦ elim (decided (isLive addresses states i)) [
+      | yes h ↦ rw (way-live h) (sym (told (non (same (at addresses i) 0) or below 0 free) (inl e)))
+      | no h ↦ rw (way-held e h) (sym (told (non (same (at addresses i) 0) or below 0 free) (inl e)))
+    ]
+  ]

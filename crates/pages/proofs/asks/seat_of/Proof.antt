@@ -1,0 +1,18 @@
+-- `seat_of` meets its contract.
+use borrow.Author.Needs.{needs}
+use mathlib.Core.Path.{_≡_, refl, ap, sym, _∙_}
+use native.Mathlib.Omega.{arith}
+use Rattle.pages.specs.Asks.{seat}
+use Rattle.pages.proofs.Places.{page-most}
+use Rattle.pages.proofs.asks.seat_of.Statement.{statement}
+use Rattle.pages.proofs.asks.seat_of.Tie as tie
+
+frame-of-requires : tie.Need-frame-of-requires
+frame-of-requires c κs = let s = c .before in
+    (omega (arith, s .pre .0 .frames-most), rw (c .page-of .ensures) (page-most (s .args .sizes) (s .pre .0) (s .args .slot) (s .args .page) (s .pre .1) (s .pre .2)))
+
+returns : tie.Need-returns
+returns c = let i = c .before in c .frame-of .ensures ∙ ap (seat (i .before .args .sizes) (i .before .args .frames)) (i .page-of .ensures)
+
+pub seat-of-spec : {M : Type 1} → statement M
+seat-of-spec = tie.close (tie.spec (λ c κs. search needs) frame-of-requires returns)

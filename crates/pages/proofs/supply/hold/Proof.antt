@@ -1,0 +1,104 @@
+-- `hold` meets its contract: the record that the free map tells is the one of the definition, and it is free.
+use borrow.Author.Needs.{needs}
+use mathlib.Core.Path.{_≡_, refl, ap, sym, _∙_}
+use native.Mathlib.Omega.{arith}
+use native.Mathlib.Nat.{mod-lt}
+use native.Mathlib.Numerals.{add-one}
+use mathlib.Core.List.{List}
+use Prim.Native.Nat.{ℕ, suc, _+_, _-_, _%_, _/_, _<_}
+use lib.Dec.{T}
+use lib.ListN.{set, length}
+use Rattle.tables.specs.Base.{at}
+use Rattle.tables.specs.Laws.{if-yes, if-no}
+use Rattle.model.specs.declared.frame.Pool.{Pool}
+use Rattle.model.specs.Lines.{NULLED, allowed}
+use Rattle.parts.specs.FreeMap.{bitOf}
+use Rattle.pages.specs.Faults.{cleared}
+use Rattle.pages.proofs.Holding.{chosen, chosen-told, chosen-below, chosen-inside, chosen-on, chosen-may}
+use Rattle.pages.proofs.supply.hold.Statement.{statement}
+use Rattle.pages.proofs.supply.hold.Tie as tie
+
+returns : tie.Need-returns
+returns c =
+    let a = c .before .before .before .before .before .args in
+    let w = c .if1 .taken in (
+      sym (if-no (a .way) 0 _ (a .pool) w),
+      (sym (if-no (a .way) 0 _ (a .addresses .now) w), (sym (if-no (a .way) 0 _ (a .states .now) w), (sym (if-no (a .way) 0 _ (a .owners .now) w), sym (if-no (a .way) 0 _ (a .free-map .now) w)))),
+    )
+
+add-put16 : tie.Need-add-put16
+add-put16 c =
+    let k = c .before in
+    let s = k .before .before .before .before .before .before .before .before in
+    let a = s .args in
+    omega (arith, k .pick .ensures ∙ chosen-told (a .sizes) (a .pool) (a .states .now) (a .free-map .now) (s .pre .0) (s .pre .2), chosen-below (a .sizes) (a .pool) (a .states .now) (a .free-map .now) (s .pre .0) (s .pre .2), s .pre .0 .records-most)
+
+cast-put16 : tie.Need-cast-put16
+cast-put16 c =
+    let k = c .before in
+    let s = k .before .before .before .before .before .before .before .before in
+    let a = s .args in
+    omega (arith, k .pick .ensures ∙ chosen-told (a .sizes) (a .pool) (a .states .now) (a .free-map .now) (s .pre .0) (s .pre .2), chosen-below (a .sizes) (a .pool) (a .states .now) (a .free-map .now) (s .pre .0) (s .pre .2), s .pre .0 .records-most)
+
+move-record-requires : tie.Need-move-record-requires
+move-record-requires c κs =
+    let k = c .before .before .before .before .before in
+    let e = k .before .before .before in
+    let s = e .before .before .before .before .before in
+    let a = s .args in
+    let q = k .pick .ensures ∙ chosen-told (a .sizes) (a .pool) (a .states .now) (a .free-map .now) (s .pre .0) (s .pre .2) in
+    rw q (chosen-may (a .sizes) (a .pool) (a .states .now) (a .free-map .now) (s .pre .0) (s .pre .2) (s .pre .3 (e .if1 .left)))
+
+clear-free-requires : tie.Need-clear-free-requires
+clear-free-requires c κs =
+    let k = c .before .before .before .before .before .before .before .before .before .before .before .before .before in
+    let e = k .before .before .before in
+    let s = e .before .before .before .before .before in
+    let a = s .args in
+    let q = k .pick .ensures ∙ chosen-told (a .sizes) (a .pool) (a .states .now) (a .free-map .now) (s .pre .0) (s .pre .2) in
+    (rw q (chosen-inside (a .sizes) (a .pool) (a .states .now) (a .free-map .now) (s .pre .0) (s .pre .2)), rw q (chosen-on (a .sizes) (a .pool) (a .states .now) (a .free-map .now) (s .pre .0) (s .pre .2) (s .pre .3 (e .if1 .left))))
+
+add-t14 : tie.Need-add-t14
+add-t14 c =
+    let k = c .before .before .before .before .before .before .before .before .before .before .before .before .before .before .before .before in
+    let s = k .before .before .before .before .before .before .before .before in
+    let a = s .args in
+    omega (arith, k .pick .ensures ∙ chosen-told (a .sizes) (a .pool) (a .states .now) (a .free-map .now) (s .pre .0) (s .pre .2), chosen-below (a .sizes) (a .pool) (a .states .now) (a .free-map .now) (s .pre .0) (s .pre .2), s .pre .0 .records-most)
+
+cast-t27 : tie.Need-cast-t27
+cast-t27 c =
+    let s = c .before .before .before .before .before .before .before .before .before .before .before .before .before .before .before .before .before .before .before .before .before .before .before .before .before in
+    omega (arith, mod-lt (c .before .before .before .before .before .before .before .before .before .before .before .before .before .before .before .before .before .pick .result + 1) (s .pre .0 .records), s .pre .0 .records-most)
+
+sub-t28 : tie.Need-sub-t28
+sub-t28 c =
+    let e = c .before .before .before .before .before .before .before .before .before .before .before .before .before .before .before .before .before .before .before .before .before in
+    e .before .before .before .before .before .pre .3 (e .if1 .left)
+
+returns-2 : tie.Need-returns-2
+returns-2 c =
+    let x = c .before .before .before .before in
+    let o = x .before .before .before .before in
+    let m = o .before .before .before .before in
+    let p = m .before .before .before .before in
+    let k = p .before .before in
+    let e = k .before .before .before in
+    let s = e .before .before .before .before .before in
+    let a = s .args in
+    let w = e .if1 .left in
+    let q = k .pick .ensures ∙ chosen-told (a .sizes) (a .pool) (a .states .now) (a .free-map .now) (s .pre .0) (s .pre .2) in (
+      ap (λ (n : ℕ). record { hand = n % a .sizes .records; free = a .pool .free - 1 }) (add-one (k .pick .result) ∙ ap suc q) ∙ sym (if-yes (a .way) 0 _ (a .pool) w),
+      (
+        p .put16 .ensures ∙ ap (set (a .addresses .now) (a .page)) (add-one (k .pick .result) ∙ ap suc q) ∙ sym (if-yes (a .way) 0 _ (a .addresses .now) w),
+        (
+          m .move-record .ensures ∙ ap (λ (n : ℕ). set (a .states .now) n NULLED) q ∙ sym (if-yes (a .way) 0 _ (a .states .now) w),
+          (
+            o .put8 .ensures ∙ ap (λ (n : ℕ). set (a .owners .now) n (a .slot)) q ∙ sym (if-yes (a .way) 0 _ (a .owners .now) w),
+            x .clear-free .ensures ∙ ap (cleared (a .free-map .now)) q ∙ sym (if-yes (a .way) 0 _ (a .free-map .now) w),
+          ),
+        ),
+      ),
+    )
+
+pub hold-spec : {M : Type 1} → statement M
+hold-spec = tie.close (tie.spec returns (λ c. search needs) (λ c κs. search needs) add-put16 cast-put16 (λ c κs. search needs) move-record-requires (λ c. search needs) (λ c κs. search needs) clear-free-requires add-t14 (λ c. search needs) cast-t27 sub-t28 (λ c. search needs) (λ c. search needs) (λ c. search needs) (λ c. search needs) returns-2)

@@ -1,0 +1,77 @@
+-- The three ways of a fault, by the page's address, its questions in parts, and what it counts up and down.
+use mathlib.Core.Path.{_≡_}
+use mathlib.Core.Bool.{Bool, _&&_, not}
+use mathlib.Core.List.{List}
+use Prim.Native.Nat.{ℕ, suc, _+_, _-_, _/_, _%_, _^_}
+use lib.Dec.{eqb}
+use lib.ListN.{set}
+use Rattle.tables.specs.Base.{if, at}
+use Rattle.tables.specs.Queue.{size}
+use Rattle.tables.specs.Questions.{Questions, none, ask, firstNo}
+use Rattle.tables.specs.Rule.{Rule, same, below, non, _or_, names, test}
+use Rattle.model.specs.declared.sizes.Sizes.{Sizes}
+use Rattle.model.specs.declared.frame.Frame.{Frame}
+use Rattle.model.specs.declared.frame.Pool.{Pool}
+use Rattle.model.specs.declared.event.Event.the-variants as Event
+use Rattle.model.specs.declared.event.Page.the-variants as Page
+use Rattle.model.specs.Lines.{LIVE}
+use Rattle.model.specs.State.{State, Files, files, pageOf, live, payer}
+use Rattle.model.specs.Parts.{pick}
+use Rattle.model.specs.Questions.{questions}
+use Rattle.model.specs.Own.{own}
+use Rattle.pages.specs.Asks.{inFrame, ofFrame, isStill}
+
+-- 0: the page has no address; 1: one that is not live; 2: a live one
+abbrev pub isLive : List ℕ → List ℕ → ℕ → Rule
+isLive addresses states i = names (at addresses i) λ r. same (at states r) LIVE
+
+unfoldable pub wayOf : List ℕ → List ℕ → ℕ → ℕ
+wayOf addresses states i = if (test (isLive addresses states i)) 2 (if (test (same (at addresses i) 0)) 0 1)
+
+-- 14 and 15: the page in no transfer; in no frame
+abbrev pub awayAsked : Sizes → List Frame → ℕ → Questions
+awayAsked z fs i = ask 14 (ofFrame z fs i isStill) (ask 15 (non (inFrame z fs i)) none)
+
+-- 18, 19 and 20: used below limit, a record free, a frame free
+abbrev pub supplyAsked : ℕ → List ℕ → List ℕ → ℕ → ℕ → ℕ → List ℕ → Questions
+supplyAsked i addresses states used limit free queue =
+    ask 18 (isLive addresses states i or below used limit) (ask 19 (non (same (at addresses i) 0) or below 0 free) (ask 20 (below 0 (size queue)) none))
+
+module _ (z : Sizes) (st : State) (s p : ℕ) where
+  -- the fault is carried out
+  unfoldable pub goes : Bool
+  goes = eqb (firstNo (questions z st (Event.Page (Page.Fault s p)))) 0
+
+  -- .. and takes a record
+  abbrev pub takes : Bool
+  takes = goes && test (same (files st .address (pageOf z s p)) 0)
+
+  -- .. and charges a page
+  abbrev pub charges : Bool
+  charges = goes && not (test (live (files st) (pageOf z s p)))
+
+  -- the record taken
+  abbrev pub taken : ℕ
+  taken = pick z (files st .state) (st .memory .held .pool .hand)
+
+-- a record free no more
+abbrev pub cleared : List ℕ → ℕ → List ℕ
+cleared map r = set map (r / 32) (at map (r / 32) - 2 ^ (r % 32))
+
+-- an account charged with one page more
+abbrev pub charged1 : List ℕ → ℕ → List ℕ
+charged1 used q = set used q (at used q + 1)
+
+-- What a fault leaves in each table that it changes: what the model leaves; the counts are counted up and down.
+pub record FaultLeft (z : Sizes) (st : State) (s p : ℕ) (fs : List Frame) (pool : Pool) (words queue list addresses states owners map used : List ℕ) : Type 0 where
+  pub frames : fs ≡ own z st (Event.Page (Page.Fault s p)) .left .memory .core .frames
+  pub words-left : words ≡ own z st (Event.Page (Page.Fault s p)) .left .memory .core .words
+  pub queue-left : queue ≡ own z st (Event.Page (Page.Fault s p)) .left .memory .core .free-queue
+  pub list-left : list ≡ own z st (Event.Page (Page.Fault s p)) .left .memory .core .removal-list
+  pub addresses-left : addresses ≡ own z st (Event.Page (Page.Fault s p)) .left .memory .held .addresses
+  pub states-left : states ≡ own z st (Event.Page (Page.Fault s p)) .left .memory .held .states
+  pub owners-left : owners ≡ own z st (Event.Page (Page.Fault s p)) .left .memory .held .owners
+  pub hand : pool .hand ≡ own z st (Event.Page (Page.Fault s p)) .left .memory .held .pool .hand
+  pub free : pool .free ≡ if (takes z st s p) (st .memory .held .pool .free - 1) (st .memory .held .pool .free)
+  pub map-left : map ≡ if (takes z st s p) (cleared (st .memory .held .free-map) (taken z st s p)) (st .memory .held .free-map)
+  pub used-left : used ≡ if (charges z st s p) (charged1 (st .memory .used) (payer (files st) s)) (st .memory .used)

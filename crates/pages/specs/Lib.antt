@@ -1,0 +1,5 @@
+pub mod Seen
+pub mod Asks
+pub mod Needs
+pub mod Looks
+pub mod Faults

@@ -1,0 +1,96 @@
+// The questions about a page, in parts: each part answers 0, or the number of its first question that fails.
+ghost use mathlib.Core.Bool.{true};
+ghost use mathlib.Core.Path.{_≡_};
+ghost use Prim.Native.Nat.{_+_, _*_, _<_};
+ghost use lib.ListN.{take};
+ghost use Rattle.tables.specs.Questions.{firstNo};
+ghost use Rattle.tables.specs.Also.{_also_};
+ghost use Rattle.model.specs.State.{pageOf};
+ghost use Rattle.model.specs.Fit.{Within};
+ghost use Rattle.pages.specs.Asks.{seat, slotAsked, frameAsked};
+ghost use Rattle.pages.specs.Needs.{Seats};
+use model::frame::Frame;
+use model::sizes::Sizes;
+use parts::cells::at8;
+use parts::cells::at32;
+use parts::frames::frame_at;
+use parts::frames::frame_of;
+
+// The page's place in a table of pages.
+pub fn page_of(sizes: Sizes, slot: usize, page: usize) -> usize
+    requires { ⌜ Within sizes × (slot < sizes .slots) × (page < sizes .pages) ⌝ }
+    ensures { λ r. ⌜ r ≡ pageOf sizes slot page ⌝ }
+{
+    slot * sizes.pages + page
+}
+
+// The place of a frame's word in the frames' words.
+pub fn word_of(sizes: Sizes, frame: usize, word: usize) -> usize
+    requires { ⌜ Within sizes × (frame < sizes .frames) × (word < sizes .words) ⌝ }
+    ensures { λ r. ⌜ r ≡ frame * sizes .words + word ⌝ }
+{
+    frame * sizes.words + word
+}
+
+// Questions 3, 4 and 8.
+pub fn ask_slot(in_range: bool, slot: usize, numbers: &[u32], active: &[u8]) -> u32
+    ensures { λ r. ⌜ r ≡ firstNo (slotAsked «in_range» slot (now (numbers .entry)) (now (active .entry))) ⌝ }
+{
+    if in_range {} else {
+        return 3;
+    }
+    if at32(numbers, slot) == 0 {
+        return 4;
+    }
+    if at8(active, slot) != 1 {
+        return 8;
+    }
+    0
+}
+
+// Questions 13 and 14.
+pub fn ask_frame(sizes: Sizes, frames: [Frame; 64], page: usize) -> u32
+    requires { ⌜ Seats sizes (take (sizes .frames) frames) × (page < 65535) ⌝ }
+    ensures { λ r. ⌜ r ≡ firstNo (frameAsked sizes (take (sizes .frames) frames) page) ⌝ }
+{
+    let f = frame_of(frames, sizes.frames, page);
+    if f >= sizes.frames {
+        return 13;
+    }
+    let frame = frame_at(frames, f);
+    if frame.transfer != 0 {
+        return 14;
+    }
+    0
+}
+
+// Questions 3, 4, 8, 13 and 14: those of a read, a write and a page look.
+pub fn ask_served(
+    sizes: Sizes,
+    in_range: bool,
+    slot: usize,
+    page: usize,
+    frames: [Frame; 64],
+    numbers: &[u32],
+    active: &[u8],
+) -> u32
+    requires { ⌜ Seats sizes (take (sizes .frames) frames) × ((«in_range» ≡ true) → (slot < sizes .slots) × (page < sizes .pages)) ⌝ }
+    ensures answer { λ r. ⌜ r ≡ firstNo (slotAsked «in_range» slot (now (numbers .entry)) (now (active .entry)) also frameAsked sizes (take (sizes .frames) frames) (pageOf sizes slot page)) ⌝ }
+    ensures given { λ r. ⌜ (r ≡ 0 → («in_range» ≡ true) × (seat sizes frames (pageOf sizes slot page) < sizes .frames)) ⌝ }
+{
+    let no = ask_slot(in_range, slot, numbers, active);
+    if no != 0 {
+        return no;
+    }
+    let i = page_of(sizes, slot, page);
+    ask_frame(sizes, frames, i)
+}
+
+// The frame that the page is in, or the count of frames.
+pub fn seat_of(sizes: Sizes, slot: usize, page: usize, frames: [Frame; 64]) -> usize
+    requires { ⌜ Within sizes × (slot < sizes .slots) × (page < sizes .pages) ⌝ }
+    ensures { λ r. ⌜ r ≡ seat sizes frames (pageOf sizes slot page) ⌝ }
+{
+    let i = page_of(sizes, slot, page);
+    frame_of(frames, sizes.frames, i)
+}

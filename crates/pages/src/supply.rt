@@ -1,0 +1,184 @@
+// What a fault asks and takes: quota, a record, a frame.
+ghost use mathlib.Core.Path.{_≡_};
+ghost use mathlib.Core.Bool.{Bool, true};
+ghost use Prim.Native.Nat.{ℕ, suc, _+_, _-_, _*_, _%_, _<_, _≤_};
+ghost use lib.Dec.{eqb, ltb};
+ghost use lib.ListN.{length, take, set};
+ghost use Rattle.tables.specs.Base.{if, at};
+ghost use Rattle.tables.specs.Queue.{size, queue, push-front};
+ghost use Rattle.tables.specs.Questions.{firstNo};
+ghost use Rattle.tables.specs.Rule.{Holds};
+ghost use Rattle.model.specs.declared.frame.Pool.{Pool};
+ghost use Rattle.model.specs.Lines.{NULLED};
+ghost use Rattle.model.specs.Parts.{pick, setPart};
+ghost use Rattle.model.specs.Pages.{awaiting, fresh};
+ghost use Rattle.model.specs.Fit.{Within};
+ghost use Rattle.pages.specs.Needs.{Seats, Pooled};
+ghost use Rattle.pages.specs.Faults.{wayOf, awayAsked, supplyAsked, cleared, charged1};
+use model::frame::Frame;
+use model::frame::Pool;
+use model::sizes::Sizes;
+use parts::cells::at8;
+use parts::cells::at16;
+use parts::cells::put8;
+use parts::cells::put16;
+use parts::frames::frame_at;
+use parts::frames::frame_of;
+use parts::frames::with_frame;
+use parts::pool::clear_free;
+use parts::pool::pick;
+use parts::queue::push_front;
+use parts::states::move_record;
+use parts::words::clear_part;
+
+// The page has no address, one that is not live, or a live one.
+pub fn way_of(page: usize, addresses: &[u16], states: &[u8]) -> u8
+    ensures { λ r. ⌜ r ≡ wayOf (now (addresses .entry)) (now (states .entry)) page ⌝ }
+{
+    let address = at16(addresses, page);
+    if address == 0 {
+        return 0;
+    }
+    if at8(states, address as usize - 1) == 3 {
+        return 2;
+    }
+    1
+}
+
+// Questions 14 and 15.
+pub fn ask_away(sizes: Sizes, frames: [Frame; 64], page: usize) -> u32
+    requires { ⌜ Seats sizes (take (sizes .frames) frames) × (page < 65535) ⌝ }
+    ensures { λ r. ⌜ r ≡ firstNo (awayAsked sizes (take (sizes .frames) frames) page) ⌝ }
+{
+    let f = frame_of(frames, sizes.frames, page);
+    if f >= sizes.frames {
+        return 0;
+    }
+    let frame = frame_at(frames, f);
+    if frame.transfer != 0 {
+        return 14;
+    }
+    15
+}
+
+// Used below limit, where the address is not live.
+fn quota(way: u8, used: u16, limit: u16) -> bool
+    ensures { λ r. ⌜ r ≡ if (eqb way 2) true (ltb used limit) ⌝ }
+{
+    if way == 2 {
+        return true;
+    }
+    used < limit
+}
+
+// A record free, where there is no address.
+fn supplied(way: u8, free: u32) -> bool
+    ensures { λ r. ⌜ r ≡ if (eqb way 0) (ltb 0 free) true ⌝ }
+{
+    if way == 0 {
+        return 0 < free;
+    }
+    true
+}
+
+// Questions 18, 19 and 20.
+pub fn ask_supply(
+    page: usize,
+    free: u32,
+    used: u16,
+    limit: u16,
+    addresses: &[u16],
+    states: &[u8],
+    free_queue: &[u16],
+) -> u32
+    ensures { λ r. ⌜ r ≡ firstNo (supplyAsked page (now (addresses .entry)) (now (states .entry)) used limit free (now («free_queue» .entry))) ⌝ }
+{
+    let way = way_of(page, addresses, states);
+    if quota(way, used, limit) {} else {
+        return 18;
+    }
+    if supplied(way, free) {} else {
+        return 19;
+    }
+    if at16(free_queue, 0) == 0 {
+        return 20;
+    }
+    0
+}
+
+// A page with no address takes the first free record from the hand up; the hand then stands just past it.
+pub fn hold(
+    way: u8,
+    sizes: Sizes,
+    slot: usize,
+    page: usize,
+    pool: Pool,
+    addresses: &mut [u16],
+    states: &mut [u8],
+    owners: &mut [u8],
+    free_map: &mut [u32],
+) -> Pool
+    requires { ⌜ Within sizes × (slot < 256) × Pooled sizes pool (now states) (now «free_map») × ((way ≡ 0) → 0 < pool .free) ⌝ }
+    ensures pool { λ r. ⌜ r ≡ if (eqb way 0) (record { hand = suc (pick sizes (at (now (states .entry))) (pool .hand)) % sizes .records; free = pool .free - 1 }) pool ⌝ }
+    ensures addresses { λ r. ⌜ now (addresses .exit) ≡ if (eqb way 0) (set (now (addresses .entry)) page (suc (pick sizes (at (now (states .entry))) (pool .hand)))) (now (addresses .entry)) ⌝ }
+    ensures states { λ r. ⌜ now (states .exit) ≡ if (eqb way 0) (set (now (states .entry)) (pick sizes (at (now (states .entry))) (pool .hand)) NULLED) (now (states .entry)) ⌝ }
+    ensures owners { λ r. ⌜ now (owners .exit) ≡ if (eqb way 0) (set (now (owners .entry)) (pick sizes (at (now (states .entry))) (pool .hand)) slot) (now (owners .entry)) ⌝ }
+    ensures map { λ r. ⌜ now («free_map» .exit) ≡ if (eqb way 0) (cleared (now («free_map» .entry)) (pick sizes (at (now (states .entry))) (pool .hand))) (now («free_map» .entry)) ⌝ }
+{
+    if way != 0 {
+        return pool;
+    }
+    let record = pick(sizes, free_map, pool.hand as usize);
+    put16(addresses, page, (record + 1) as u16);
+    move_record(states, record, 2);
+    put8(owners, record, slot as u8);
+    clear_free(free_map, record);
+    Pool {
+        hand: ((record + 1) % sizes.records) as u32,
+        free: pool.free - 1,
+    }
+}
+
+// A read begins for a live address; otherwise the frame is zeroed and stands at the removal list's front.
+pub fn serve(
+    way: u8,
+    sizes: Sizes,
+    page: usize,
+    frame: usize,
+    frames: [Frame; 64],
+    words: &mut [u32],
+    removal_list: &mut [u16],
+) -> [Frame; 64]
+    requires { ⌜ Within sizes × (page < 65535) × (frame < sizes .frames) × (length (now words) ≡ sizes .frames * sizes .words) × Holds (queue (length (now «removal_list»)) (now «removal_list»)) × (size (now «removal_list») < length (now «removal_list»)) ⌝ }
+    ensures frames { λ r. ⌜ r ≡ set frames frame (if (eqb way 2) (awaiting page) (fresh page)) ⌝ }
+    ensures words { λ r. ⌜ now (words .exit) ≡ if (eqb way 2) (now (words .entry)) (setPart sizes frame (λ w. 0) (now (words .entry))) ⌝ }
+    ensures list { λ r. ⌜ now («removal_list» .exit) ≡ if (eqb way 2) (now («removal_list» .entry)) (push-front (now («removal_list» .entry)) frame) ⌝ }
+{
+    let mut taken = Frame {
+        page: (page + 1) as u16,
+        used: 0,
+        modified: 0,
+        wired: 0,
+        initial: 0,
+        transfer: 1,
+    };
+    if way == 2 {
+        return with_frame(frames, frame, taken);
+    }
+    clear_part(words, sizes.words, frame);
+    push_front(removal_list, frame);
+    taken.initial = 1;
+    taken.transfer = 0;
+    with_frame(frames, frame, taken)
+}
+
+// The payer's used count goes up by one, where the address is not live.
+pub fn charge(way: u8, payer: usize, used: &mut [u16])
+    requires { ⌜ ((way ≡ 2 → ⊥) → at (now used) payer < 65535) ⌝ }
+    ensures { λ _. ⌜ now (used .exit) ≡ if (eqb way 2) (now (used .entry)) (charged1 (now (used .entry)) payer) ⌝ }
+{
+    if way != 2 {
+        let count = at16(used, payer);
+        put16(used, payer, count + 1);
+    }
+}

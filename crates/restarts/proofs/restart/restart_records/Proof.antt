@@ -1,0 +1,48 @@
+-- `restart_records` meets its contract: what the passes give is what the restarted state says.
+use borrow.Author.Needs.{needs}
+use mathlib.Core.Path.{_≡_, ap, sym, _∙_}
+use mathlib.Core.List.{List}
+use Prim.Native.Nat.{ℕ}
+use Rattle.tables.specs.Base.{at}
+use Rattle.model.specs.State.{freeCount}
+use Rattle.model.specs.Restart.{restarted}
+use Rattle.parts.specs.FreeMap.{freeMap}
+use Rattle.restarts.specs.Filed.{filedStates, filedOwners}
+use Rattle.restarts.specs.Counts.{listedUsed}
+use Rattle.restarts.specs.Restarts.{seen, poolOf, to-file, to-count, restarted-states, restarted-owners, restarted-free-map, restarted-pool, restarted-used}
+use Rattle.restarts.proofs.restart.restart_records.Statement.{statement}
+use Rattle.restarts.proofs.restart.restart_records.Tie as tie
+
+file-records-requires : tie.Need-file-records-requires
+file-records-requires c κs = let s = c .before .before .before .before .before .before .before .before in let a = s .args in to-file (a .sizes) (a .accounts .now) (a .maps .now) (a .states .now) (a .owners .now) (a .free-map .now) (a .used .now) (s .pre)
+
+count-used-requires : tie.Need-count-used-requires
+count-used-requires c κs = let s = c .before .before .before .before .before .before .before .before .before .before .before .before .before .before in let a = s .args in to-count (a .sizes) (a .accounts .now) (a .maps .now) (a .states .now) (a .owners .now) (a .free-map .now) (a .used .now) (s .pre)
+
+returns : tie.Need-returns
+returns c =
+    let b = c .before .before .build-free-map .ensures in
+    let u = c .before .before .before .before .before .before .before .count-used .ensures in
+    let f = c .before .before .before .before .before .before .before .before .before .before .before .before .before .file-records in
+    let s = c .before .before .before .before .before .before .before .before .before .before .before .before .before .before .before .before .before .before .before .before .before .before in
+    let z = s .args .sizes in
+    let d = seen (s .args .accounts .now) (s .args .maps .now) in
+    let map = at (s .args .maps .now) in
+    let account = at (s .args .accounts .now) in
+    let states : f .last .1 .1 .0 ≡ restarted z d .memory .held .states = f .ensures .0 ∙ (λ x. filedStates (s .pre .states-long x) (s .pre .maps-long x) map) ∙ sym (restarted-states z d) in (
+      states,
+      (
+        f .ensures .1 ∙ (λ x. filedOwners (s .pre .states-long x) (s .pre .maps-long x) (z .pages) map) ∙ sym (restarted-owners z d),
+        (
+          b .1 ∙ ap (λ (l : List ℕ). freeMap z (at l)) states ∙ sym (restarted-free-map z d),
+          (
+            u ∙ (λ x. listedUsed (s .pre .used-long x) (s .pre .maps-long x) (z .pages) account map) ∙ sym (restarted-used z d),
+            ap poolOf (b .0 ∙ ap (λ (l : List ℕ). freeCount z (at l)) states) ∙ sym (restarted-pool z d),
+          ),
+        ),
+      ),
+    )
+
+pub restart-records-spec : {M : Type 1} → statement M
+restart-records-spec =
+    tie.close (tie.spec file-records-requires count-used-requires (λ c κs. search needs) (λ c. search needs) (λ c. search needs) (λ c. search needs) (λ c. search needs) returns)

@@ -1,0 +1,7 @@
+pub mod Filled
+pub mod Lengths
+pub mod Formats
+pub mod Filed
+pub mod Counts
+pub mod Restarts
+pub mod Answers

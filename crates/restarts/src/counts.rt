@@ -1,0 +1,48 @@
+// The counts of a memory in which no design is active: used counts, free map, count of free records.
+ghost use mathlib.Core.Path.{_≡_};
+ghost use Prim.Native.Nat.{_*_, _<_};
+ghost use lib.ListN.{length};
+ghost use Rattle.tables.specs.Base.{at};
+ghost use Rattle.tables.specs.Rule.{Holds, each, below};
+ghost use Rattle.model.specs.State.{freeCount, mapWords};
+ghost use Rattle.parts.specs.FreeMap.{freeMap};
+ghost use Rattle.restarts.specs.Counts.{listedUsed};
+use crate::zero::zero16;
+use crate::zero::zero32;
+use model::sizes::Sizes;
+use parts::pool::set_free;
+
+// One pass over the maps: each entry above 0 counts for its slot's account.
+pub fn count_used(pages: usize, accounts: &[u16], maps: &[u16], used: &mut [u16])
+    requires { ⌜ (0 < pages) × (length (now maps) ≡ length (now accounts) * pages) × (length (now maps) < 65536) × Holds (each (length (now accounts)) (λ s. below (at (now accounts) s) (length (now used)))) ⌝ }
+    ensures { λ _. ⌜ now (used .exit) ≡ listedUsed (length (now (used .entry))) (length (now (maps .entry))) pages (at (now (accounts .entry))) (at (now (maps .entry))) ⌝ }
+{
+    zero16(used);
+    let mut i = 0;
+    while i < maps.len() {
+        if maps[i] != 0 {
+            let q = accounts[i / pages] as usize;
+            used[q] += 1;
+        }
+        i += 1;
+    }
+}
+
+// One pass over the states: a bit and a count for each free record.
+pub fn build_free_map(sizes: Sizes, states: &[u8], map: &mut [u32]) -> usize
+    requires { ⌜ (length (now states) ≡ sizes .records) × (length (now map) ≡ mapWords sizes) × (sizes .records < 65536) ⌝ }
+    ensures count { λ r. ⌜ r ≡ freeCount sizes (at (now (states .entry))) ⌝ }
+    ensures map { λ _. ⌜ now (map .exit) ≡ freeMap sizes (at (now (states .entry))) ⌝ }
+{
+    zero32(map);
+    let mut free = 0;
+    let mut r = 0;
+    while r < sizes.records {
+        if states[r] == 0 {
+            set_free(map, r);
+            free += 1;
+        }
+        r += 1;
+    }
+    free
+}

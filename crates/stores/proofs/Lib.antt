@@ -1,0 +1,17 @@
+pub mod ClaimLaws
+pub mod ClaimWork
+pub mod Cut
+pub mod CutFrames
+pub mod DoneLaws
+pub mod DoneWork
+pub mod Kept
+pub mod Laws
+pub mod Leaves
+pub mod Looks
+pub mod MapWork
+pub mod Moves
+pub mod Named
+pub mod Ready
+pub mod TruncateLaws
+pub mod TruncateWork
+pub mod UpdateWork

@@ -1,0 +1,156 @@
+-- `page_done` meets its contract: each way out by its law.
+use borrow.Author.Needs.{needs}
+use mathlib.Core.Path.{_≡_, refl, ap, sym, _∙_}
+use native.Mathlib.Omega.{arith}
+use Prim.Native.Nat.{ℕ, suc, _+_, _*_, _<_, _≤_, pred}
+use lib.ListN.{length, take, set}
+use mathlib.Core.List.{List}
+use Rattle.tables.specs.Base.{at}
+use Rattle.tables.specs.Questions.{firstNo}
+use Rattle.model.specs.declared.frame.Frame.{Frame}
+use Rattle.model.specs.declared.sizes.Sizes.{Sizes}
+use Rattle.model.specs.State.{frameAt}
+use Rattle.model.specs.Questions.{questions}
+use Rattle.stores.specs.Done.{pageDone, asked, seen, InTransfer, DoneReady, DoneLeft}
+use Rattle.model.specs.Pages.{fresh}
+use Rattle.stores.proofs.DoneWork.{answered, unwritten, part-record, part-frame, room-list, room-queue, paged, moves, refused, inside, moving, read-good, read-failed, write-good, write-failed}
+use Rattle.stores.proofs.page_done.page_done.Statement.{statement}
+use Rattle.stores.proofs.page_done.page_done.Tie as tie
+use Rattle.stores.proofs.page_done.page_done.Lts as lts
+
+returns : tie.Need-returns
+returns c = let a = c .before .before in refused _ _ _ _ _ _ _ _ _ _ (a .ask-done .ensures) (c .before .if1 .taken) (c .framed .ensures)
+
+copy-part-requires : tie.Need-copy-part-requires
+copy-part-requires c κs =
+    let r = c .before .before .before .before .before in
+    let g = r .before in
+    let a = g .before .before in
+    let s = a .before .before .before .before .before .before .before in
+    (s .pre .positive, part-record _ _ _ _ _ _ _ _ _ _ (a .ask-done .ensures) (g .before .if1 .left) (s .pre) (r .record-of .ensures ∙ ap (λ (x : Frame). pred (at (s .args .addresses .now) (pred (x .page)))) (g .frame-at .ensures)), part-frame _ _ _ _ _ _ _ _ _ _ (a .ask-done .ensures) (g .before .if1 .left) (s .pre))
+
+push-front-requires : tie.Need-push-front-requires
+push-front-requires c κs =
+    let k = c .before .before .before in
+    let r = k .before .before .before .before .before .before in
+    let g = r .before in
+    let a = g .before .before in
+    let s = a .before .before .before .before .before .before .before in
+    room-list _ _ _ _ _ _ _ _ _ _ (a .ask-done .ensures) (g .before .if1 .left) (s .pre)
+
+served-requires : tie.Need-served-requires
+served-requires c κs =
+    let k = c .before .before .before .before .before .before in
+    let r = k .before .before .before .before .before .before in
+    let g = r .before in
+    let a = g .before .before in
+    let s = a .before .before .before .before .before .before .before in
+    rw (g .frame-at .ensures) (paged _ _ _ _ _ _ _ _ _ _ (a .ask-done .ensures) (g .before .if1 .left) (s .pre))
+
+returns-2 : tie.Need-returns-2
+returns-2 c =
+    let w = c .before in
+    let v = w .before in
+    let p = v .before .before .before in
+    let k = p .before .before .before .before in
+    let t = k .before .before .before in
+    let r = t .before .before .before in
+    let g = r .before in
+    let a = g .before .before in
+    let s = a .before .before .before .before .before .before .before in
+    read-good _ _ _ _ _ _ _ _ _ _ (a .ask-done .ensures) (g .before .if1 .left) (ap (λ (x : Frame). x .transfer) (sym (g .frame-at .ensures)) ∙ t .before .if2 .taken) (t .if3 .taken)
+    (k .copy-part .ensures ∙ rw (r .record-of .ensures ∙ ap (λ (x : Frame). pred (at (s .args .addresses .now) (pred (x .page)))) (g .frame-at .ensures))) (p .push-front .ensures)
+    (c .framed2 .ensures ∙ ap (λ (fs : List Frame). answered fs 0 0) (w .with-frame .ensures ∙ ap (set (s .args .frames) (s .args .frame)) (v .served .ensures ∙ ap (λ (x : Frame). fresh (pred (x .page))) (g .frame-at .ensures))))
+
+push-back-requires : tie.Need-push-back-requires
+push-back-requires c κs =
+    let r = c .before .before .before .before in
+    let g = r .before in
+    let a = g .before .before in
+    let s = a .before .before .before .before .before .before .before in
+    room-queue _ _ _ _ _ _ _ _ _ _ (a .ask-done .ensures) (g .before .if1 .left) (s .pre)
+
+returns-3 : tie.Need-returns-3
+returns-3 c =
+    let w = c .before in
+    let v = w .before in
+    let p = v .before .before .before in
+    let t = p .before .before in
+    let r = t .before .before .before in
+    let g = r .before in
+    let a = g .before .before in
+    let s = a .before .before .before .before .before .before .before in
+    read-failed _ _ _ _ _ _ _ _ _ _ (a .ask-done .ensures) (g .before .if1 .left) (ap (λ (x : Frame). x .transfer) (sym (g .frame-at .ensures)) ∙ t .before .if2 .taken) (t .if3 .left) (p .push-back .ensures)
+    (c .framed3 .ensures ∙ ap (λ (fs : List Frame). answered fs 0 0) (w .with-frame2 .ensures ∙ ap (set (s .args .frames) (s .args .frame)) (v .empty .ensures)))
+
+copy-part-requires-2 : tie.Need-copy-part-requires-2
+copy-part-requires-2 c κs =
+    let r = c .before .before .before .before .before in
+    let g = r .before in
+    let a = g .before .before in
+    let s = a .before .before .before .before .before .before .before in
+    (s .pre .positive, part-frame _ _ _ _ _ _ _ _ _ _ (a .ask-done .ensures) (g .before .if1 .left) (s .pre), part-record _ _ _ _ _ _ _ _ _ _ (a .ask-done .ensures) (g .before .if1 .left) (s .pre) (r .record-of .ensures ∙ ap (λ (x : Frame). pred (at (s .args .addresses .now) (pred (x .page)))) (g .frame-at .ensures)))
+
+make-live-requires : tie.Need-make-live-requires
+make-live-requires c κs =
+    let k = c .before .before .before in
+    let r = k .before .before .before .before .before .before in
+    let g = r .before in
+    let a = g .before .before in
+    let s = a .before .before .before .before .before .before .before in
+    moves _ _ _ _ _ _ _ _ _ _ (a .ask-done .ensures) (g .before .if1 .left) (s .pre) (r .record-of .ensures ∙ ap (λ (x : Frame). pred (at (s .args .addresses .now) (pred (x .page)))) (g .frame-at .ensures))
+
+push-back-requires-2 : tie.Need-push-back-requires-2
+push-back-requires-2 c κs =
+    let k = c .before .before .before .before .before .before .before in
+    let r = k .before .before .before .before .before .before in
+    let g = r .before in
+    let a = g .before .before in
+    let s = a .before .before .before .before .before .before .before in
+    room-queue _ _ _ _ _ _ _ _ _ _ (a .ask-done .ensures) (g .before .if1 .left) (s .pre)
+
+returns-4 : tie.Need-returns-4
+returns-4 c =
+    let w = c .before in
+    let v = w .before in
+    let p = v .before .before .before in
+    let m = p .before .before .before .before in
+    let k = m .before .before .before .before in
+    let t = k .before .before .before in
+    let r = t .before .before .before in
+    let g = r .before in
+    let a = g .before .before in
+    let s = a .before .before .before .before .before .before .before in
+    write-good _ _ _ _ _ _ _ _ _ _ (a .ask-done .ensures) (g .before .if1 .left) (λ e. t .before .if2 .left (ap (λ (x : Frame). x .transfer) (g .frame-at .ensures) ∙ e)) (t .if4 .taken)
+    (k .copy-part2 .ensures ∙ rw (r .record-of .ensures ∙ ap (λ (x : Frame). pred (at (s .args .addresses .now) (pred (x .page)))) (g .frame-at .ensures))) (m .make-live .ensures ∙ rw (r .record-of .ensures ∙ ap (λ (x : Frame). pred (at (s .args .addresses .now) (pred (x .page)))) (g .frame-at .ensures))) (p .push-back2 .ensures)
+    (c .framed4 .ensures ∙ ap (λ (fs : List Frame). answered fs 0 0) (w .with-frame3 .ensures ∙ ap (set (s .args .frames) (s .args .frame)) (v .empty2 .ensures)))
+
+push-back-requires-3 : tie.Need-push-back-requires-3
+push-back-requires-3 c κs =
+    let r = c .before .before .before .before in
+    let g = r .before in
+    let a = g .before .before in
+    let s = a .before .before .before .before .before .before .before in
+    room-list _ _ _ _ _ _ _ _ _ _ (a .ask-done .ensures) (g .before .if1 .left) (s .pre)
+
+returns-5 : tie.Need-returns-5
+returns-5 c =
+    let w = c .before in
+    let v = w .before in
+    let p = v .before .before .before in
+    let t = p .before .before in
+    let r = t .before .before .before in
+    let g = r .before in
+    let a = g .before .before in
+    let s = a .before .before .before .before .before .before .before in
+    write-failed _ _ _ _ _ _ _ _ _ _ (a .ask-done .ensures) (g .before .if1 .left) (λ e. t .before .if2 .left (ap (λ (x : Frame). x .transfer) (g .frame-at .ensures) ∙ e)) (t .if4 .left) (p .push-back3 .ensures)
+    (c .framed5 .ensures ∙ ap (λ (fs : List Frame). answered fs 0 0) (w .with-frame4 .ensures ∙ ap (set (s .args .frames) (s .args .frame)) (v .unwritten .ensures ∙ ap unwritten (g .frame-at .ensures))))
+
+pub page-done-spec : {M : Type 1} → statement M
+page-done-spec =
+    tie.close
+    (tie.spec (λ c κs. search needs) (λ c κs. search needs) returns (λ c κs. search needs) (λ c κs. search needs)
+    copy-part-requires push-front-requires served-requires (λ c κs. search needs) (λ c κs. search needs) (λ c. search needs) (λ c. search needs) (λ c. search needs) returns-2
+    push-back-requires (λ c κs. search needs) (λ c κs. search needs) (λ c κs. search needs) (λ c. search needs) returns-3
+    copy-part-requires-2 make-live-requires push-back-requires-2 (λ c κs. search needs) (λ c κs. search needs) (λ c κs. search needs) (λ c. search needs) (λ c. search needs) (λ c. search needs) (λ c. search needs) returns-4
+    push-back-requires-3 (λ c κs. search needs) (λ c κs. search needs) (λ c κs. search needs) (λ c. search needs) returns-5)

@@ -1,0 +1,16 @@
+-- `served` meets its contract: the page stays.
+use mathlib.Core.Path.{_≡_, ap, sym}
+use Prim.Native.Nat.{ℕ}
+use Rattle.model.specs.declared.frame.Frame.{Frame}
+use Rattle.stores.proofs.Named.{suc-pred}
+use Rattle.stores.proofs.switches.served.Statement.{statement}
+use Rattle.stores.proofs.switches.served.Tie as tie
+
+abbrev paged : ℕ → Frame
+paged n = record { page = n; used = 0; modified = 0; wired = 0; initial = 1; transfer = 0 }
+
+returns : tie.Need-returns
+returns c = ap paged (sym (suc-pred _ (c .pre)))
+
+pub served-spec : {M : Type 1} → statement M
+served-spec = tie.close (tie.spec returns)

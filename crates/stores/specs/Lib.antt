@@ -1,0 +1,6 @@
+pub mod Answered
+pub mod Claim
+pub mod Done
+pub mod MapDone
+pub mod Truncate
+pub mod Update
