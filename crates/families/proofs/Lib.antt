@@ -1,0 +1,6 @@
+pub mod Charges
+pub mod Outcomes
+pub mod DesignLaws
+pub mod PageLaws
+pub mod FaultLaws
+pub mod StoreLaws
