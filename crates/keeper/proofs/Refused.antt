@@ -1,0 +1,50 @@
+-- Each call asks question 1 first.
+use mathlib.Core.Path.{_≡_, refl, ap}
+use mathlib.Core.List.{List, []}
+use Prim.Native.Nat.{ℕ}
+use lib.ListN.{take, drop}
+use Rattle.tables.specs.Questions.{none, ask}
+use Rattle.tables.specs.Rule.{Holds, same}
+use Rattle.model.specs.declared.sizes.Sizes.{Sizes}
+use Rattle.model.specs.declared.request.Request.{Request}
+use Rattle.model.specs.declared.request.Decoded.{Decoded}
+use Rattle.model.specs.declared.request.Decoded.the-variants.{Known, Unknown}
+use Rattle.model.specs.declared.applied.Part.{Part}
+use Rattle.model.specs.Requests.{decoded}
+use Rattle.model.specs.State.{State}
+use Rattle.model.specs.Rules.{diskRules, allRules}
+use Rattle.model.specs.Questions.{lookQuestions}
+use Rattle.model.specs.Pages
+use Rattle.model.specs.Restart.{restarted}
+use Rattle.model.specs.Step.{Outcome, outcome, allFit, restart, look}
+use Rattle.model.specs.Own.{refusal, first-no, step-unfit}
+use Rattle.model.specs.Calls.{unknown, stepOf, apply}
+use Rattle.model.specs.Part.{part, partOf}
+use Rattle.keeper.proofs.AnyLength.{Refuses}
+
+pub apply-refuses : (z : Sizes) (request : Request) → Refuses z (λ (st : State). apply z st request)
+unfolding apply stepOf unknown
+apply-refuses z request st h = go (decoded request)
+  where
+    go : (d : Decoded) → stepOf z st d ≡ refusal 1 st
+    go (Known e) = step-unfit z st e h
+    go Unknown = ap (λ (k : ℕ). outcome k 0 st st) (first-no 1 (allFit z st) (ask 2 (allRules z st) (ask 3 (same 0 1) none)) h)
+
+pub restart-refuses : (z : Sizes) → Refuses z (λ (st : State). restart z st)
+unfolding restart
+restart-refuses z st h = ap (λ (k : ℕ). outcome k 0 st (restarted z (st .disk))) (first-no 1 (allFit z st) (ask 2 (diskRules z st) none) h)
+
+-- what a refused look answers
+abbrev pub noWords : Outcome (List ℕ)
+noWords = record { answer = record { refusal = 1; result = 0 }; left = [] }
+
+abbrev pub noPart : Part
+noPart = record { refusal = 1; start = 0; count = 0 }
+
+pub look-refuses : (z : Sizes) (s p : ℕ) (st : State) → ¬ Holds (allFit z st) → look z st s p ≡ noWords
+unfolding look
+look-refuses z s p st h = ap (λ (k : ℕ). outcome k 0 [] (take (z .words) (drop (Pages.lookStart z st s p) (st .memory .core .words)))) (first-no 1 (allFit z st) (ask 2 (allRules z st) (lookQuestions z st s p)) h)
+
+pub part-refuses : (z : Sizes) (s p : ℕ) (st : State) → ¬ Holds (allFit z st) → partOf z st s p ≡ noPart
+unfolding partOf
+part-refuses z s p st h = ap (λ (k : ℕ). part k (Pages.lookStart z st s p) (z .words)) (first-no 1 (allFit z st) (ask 2 (allRules z st) (lookQuestions z st s p)) h)

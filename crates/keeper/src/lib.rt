@@ -1,0 +1,265 @@
+// The page keeper's calls, for firmware to link: all tables are lent by the caller, and no call has a precondition.
+// Each does its work on values, in crate `events`; here stands what is lent. A name with the prefix is a C symbol (include/keeper.h).
+ghost use mathlib.Core.Path.{_≡_};
+ghost use denote.Ref.{ptr};
+ghost use Rattle.model.specs.Lent.{diskOf, stateOf};
+ghost use Rattle.model.specs.Part.{wordAt};
+ghost use Rattle.model.specs.Calls.{apply};
+ghost use Rattle.model.specs.Step.{restart, format, look};
+ghost use Rattle.model.specs.Part.{partOf};
+use crate::frames::load;
+use crate::frames::save;
+use crate::pool::deposit;
+use crate::pool::take;
+use model::applied::Part;
+use model::event::Answer;
+use model::frame::Frame;
+use model::frame::Pool;
+use model::request::Request;
+use model::sizes::Sizes;
+
+pub mod frames; // the lent frames as an array, and back
+pub mod pool; // the pool as a value, and back
+
+// Every event, asked for by a request: its answer, and everything lent, are the definition's.
+// Shut out: a call that puts the pool back as it was; one that answers 0 and changes nothing.
+#[no_mangle]
+pub extern "C" fn keeper_apply(
+    sizes: Sizes,
+    request: Request,
+    frames: &mut [Frame],
+    pool: &mut Pool,
+    records: &mut [u32],
+    numbers: &mut [u32],
+    accounts: &mut [u16],
+    maps: &mut [u16],
+    limits: &mut [u16],
+    frame_words: &mut [u32],
+    free_queue: &mut [u16],
+    removal_list: &mut [u16],
+    addresses: &mut [u16],
+    states: &mut [u8],
+    owners: &mut [u8],
+    free_map: &mut [u32],
+    active: &mut [u8],
+    updating: &mut [u8],
+    images: &mut [u16],
+    used: &mut [u16],
+) -> Answer
+    ensures { λ r. ⌜ record { answer = r; left = stateOf (now (frames .exit)) (now (pool .exit)) (now (records .exit)) (now (numbers .exit)) (now (accounts .exit)) (now (maps .exit)) (now (limits .exit)) (now («frame_words» .exit)) (now («free_queue» .exit)) (now («removal_list» .exit)) (now (addresses .exit)) (now (states .exit)) (now (owners .exit)) (now («free_map» .exit)) (now (active .exit)) (now (updating .exit)) (now (images .exit)) (now (used .exit)) } ≡ apply sizes (stateOf (now (frames .entry)) (now (pool .entry)) (now (records .entry)) (now (numbers .entry)) (now (accounts .entry)) (now (maps .entry)) (now (limits .entry)) (now («frame_words» .entry)) (now («free_queue» .entry)) (now («removal_list» .entry)) (now (addresses .entry)) (now (states .entry)) (now (owners .entry)) (now («free_map» .entry)) (now (active .entry)) (now (updating .entry)) (now (images .entry)) (now (used .entry))) request ⌝ }
+{
+    let lent = frames.len();
+    let values = load(frames);
+    let taken = take(pool);
+    let out = events::apply_core(
+        sizes,
+        request,
+        lent,
+        values,
+        taken,
+        records,
+        numbers,
+        accounts,
+        maps,
+        limits,
+        frame_words,
+        free_queue,
+        removal_list,
+        addresses,
+        states,
+        owners,
+        free_map,
+        active,
+        updating,
+        images,
+        used,
+    );
+    save(frames, out.frames);
+    deposit(pool, out.pool);
+    out.answer
+}
+
+// Restart, from the disk part alone: memory may hold anything.
+// Shut out: a restart that leaves the frames as it finds them; one that is carried out over a disk that breaks its rules.
+#[no_mangle]
+pub extern "C" fn keeper_restart(
+    sizes: Sizes,
+    frames: &mut [Frame],
+    pool: &mut Pool,
+    records: &[u32],
+    numbers: &[u32],
+    accounts: &[u16],
+    maps: &[u16],
+    limits: &[u16],
+    frame_words: &mut [u32],
+    free_queue: &mut [u16],
+    removal_list: &mut [u16],
+    addresses: &mut [u16],
+    states: &mut [u8],
+    owners: &mut [u8],
+    free_map: &mut [u32],
+    active: &mut [u8],
+    updating: &mut [u8],
+    images: &mut [u16],
+    used: &mut [u16],
+) -> Answer
+    ensures { λ r. ⌜ record { answer = r; left = stateOf (now (frames .exit)) (now (pool .exit)) (now (records .entry)) (now (numbers .entry)) (now (accounts .entry)) (now (maps .entry)) (now (limits .entry)) (now («frame_words» .exit)) (now («free_queue» .exit)) (now («removal_list» .exit)) (now (addresses .exit)) (now (states .exit)) (now (owners .exit)) (now («free_map» .exit)) (now (active .exit)) (now (updating .exit)) (now (images .exit)) (now (used .exit)) } ≡ restart sizes (stateOf (now (frames .entry)) (now (pool .entry)) (now (records .entry)) (now (numbers .entry)) (now (accounts .entry)) (now (maps .entry)) (now (limits .entry)) (now («frame_words» .entry)) (now («free_queue» .entry)) (now («removal_list» .entry)) (now (addresses .entry)) (now (states .entry)) (now (owners .entry)) (now («free_map» .entry)) (now (active .entry)) (now (updating .entry)) (now (images .entry)) (now (used .entry))) ⌝ }
+{
+    let lent = frames.len();
+    let values = load(frames);
+    let taken = take(pool);
+    let fresh = events::restart_core(
+        sizes,
+        lent,
+        values,
+        taken,
+        records,
+        numbers,
+        accounts,
+        maps,
+        limits,
+        frame_words,
+        free_queue,
+        removal_list,
+        addresses,
+        states,
+        owners,
+        free_map,
+        active,
+        updating,
+        images,
+        used,
+    );
+    save(frames, fresh.frames);
+    deposit(pool, fresh.pool);
+    fresh.answer
+}
+
+// Format zeroes the disk part.
+// Shut out: two tables lent in each other's place; tables of a wrong length zeroed.
+#[no_mangle]
+pub extern "C" fn keeper_format(
+    sizes: Sizes,
+    records: &mut [u32],
+    numbers: &mut [u32],
+    accounts: &mut [u16],
+    maps: &mut [u16],
+    limits: &mut [u16],
+) -> Answer
+    ensures { λ r. ⌜ record { answer = r; left = diskOf (now (records .exit)) (now (numbers .exit)) (now (accounts .exit)) (now (maps .exit)) (now (limits .exit)) } ≡ format sizes (diskOf (now (records .entry)) (now (numbers .entry)) (now (accounts .entry)) (now (maps .entry)) (now (limits .entry))) ⌝ }
+{
+    events::format(sizes, records, numbers, accounts, maps, limits)
+}
+
+// A page look: the frame's own part of the lent words, and where it stands; refused, an empty part.
+// Shut out: a part that starts one word later; another frame's part with equal words.
+pub fn page_look<'a>(
+    sizes: Sizes,
+    slot: usize,
+    page: usize,
+    frames: &[Frame],
+    pool: Pool,
+    refusal: &mut u32,
+    records: &[u32],
+    numbers: &[u32],
+    accounts: &[u16],
+    maps: &[u16],
+    limits: &[u16],
+    frame_words: &'a [u32],
+    free_queue: &[u16],
+    removal_list: &[u16],
+    addresses: &[u16],
+    states: &[u8],
+    owners: &[u8],
+    free_map: &[u32],
+    active: &[u8],
+    updating: &[u8],
+    images: &[u16],
+    used: &[u16],
+) -> &'a [u32]
+    ensures { λ r. ⌜ (now r ≡ look sizes (stateOf (now (frames .entry)) pool (now (records .entry)) (now (numbers .entry)) (now (accounts .entry)) (now (maps .entry)) (now (limits .entry)) (now («frame_words» .entry)) (now («free_queue» .entry)) (now («removal_list» .entry)) (now (addresses .entry)) (now (states .entry)) (now (owners .entry)) (now («free_map» .entry)) (now (active .entry)) (now (updating .entry)) (now (images .entry)) (now (used .entry))) slot page .left) × ((now (refusal .exit) ≡ look sizes (stateOf (now (frames .entry)) pool (now (records .entry)) (now (numbers .entry)) (now (accounts .entry)) (now (maps .entry)) (now (limits .entry)) (now («frame_words» .entry)) (now («free_queue» .entry)) (now («removal_list» .entry)) (now (addresses .entry)) (now (states .entry)) (now (owners .entry)) (now («free_map» .entry)) (now (active .entry)) (now (updating .entry)) (now (images .entry)) (now (used .entry))) slot page .answer .refusal) × (ptr r ≡ wordAt (ptr («frame_words» .entry)) (partOf sizes (stateOf (now (frames .entry)) pool (now (records .entry)) (now (numbers .entry)) (now (accounts .entry)) (now (maps .entry)) (now (limits .entry)) (now («frame_words» .entry)) (now («free_queue» .entry)) (now («removal_list» .entry)) (now (addresses .entry)) (now (states .entry)) (now (owners .entry)) (now («free_map» .entry)) (now (active .entry)) (now (updating .entry)) (now (images .entry)) (now (used .entry))) slot page .start))) ⌝ }
+{
+    let lent = frames.len();
+    let values = load(frames);
+    events::look_core(
+        sizes,
+        slot,
+        page,
+        lent,
+        values,
+        pool,
+        refusal,
+        records,
+        numbers,
+        accounts,
+        maps,
+        limits,
+        frame_words,
+        free_queue,
+        removal_list,
+        addresses,
+        states,
+        owners,
+        free_map,
+        active,
+        updating,
+        images,
+        used,
+    )
+}
+
+// A page look for C, which cannot be handed a reference: which part of the lent words it is.
+// Shut out: a start in frames and not in words; a count of W for a refused look.
+#[no_mangle]
+pub extern "C" fn keeper_page_look(
+    sizes: Sizes,
+    slot: usize,
+    page: usize,
+    frames: &[Frame],
+    pool: Pool,
+    records: &[u32],
+    numbers: &[u32],
+    accounts: &[u16],
+    maps: &[u16],
+    limits: &[u16],
+    frame_words: &[u32],
+    free_queue: &[u16],
+    removal_list: &[u16],
+    addresses: &[u16],
+    states: &[u8],
+    owners: &[u8],
+    free_map: &[u32],
+    active: &[u8],
+    updating: &[u8],
+    images: &[u16],
+    used: &[u16],
+) -> Part
+    ensures { λ r. ⌜ r ≡ partOf sizes (stateOf (now (frames .entry)) pool (now (records .entry)) (now (numbers .entry)) (now (accounts .entry)) (now (maps .entry)) (now (limits .entry)) (now («frame_words» .entry)) (now («free_queue» .entry)) (now («removal_list» .entry)) (now (addresses .entry)) (now (states .entry)) (now (owners .entry)) (now («free_map» .entry)) (now (active .entry)) (now (updating .entry)) (now (images .entry)) (now (used .entry))) slot page ⌝ }
+{
+    let lent = frames.len();
+    let values = load(frames);
+    events::place_core(
+        sizes,
+        slot,
+        page,
+        lent,
+        values,
+        pool,
+        records,
+        numbers,
+        accounts,
+        maps,
+        limits,
+        frame_words,
+        free_queue,
+        removal_list,
+        addresses,
+        states,
+        owners,
+        free_map,
+        active,
+        updating,
+        images,
+        used,
+    )
+}
