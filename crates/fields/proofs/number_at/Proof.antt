@@ -1,0 +1,70 @@
+-- `number_at` meets its contract: after k bytes the value is the number of those k bytes.
+use mathlib.Core.Path.{_≡_, refl, ap, sym, _∙_}
+use Prim.Native.Nat.{ℕ, suc, _+_, _*_, _-_, _≤_, _<_, _^_}
+use native.Mathlib.Omega.{arith}
+use lib.ListN.{length, getD}
+use Rattle.fields.specs.Fields.{number}
+use Rattle.fields.proofs.Numbers.{number-next, four, next}
+use Rattle.fields.proofs.number_at.Statement.{statement}
+use Rattle.fields.proofs.number_at.Tie as tie
+
+abbrev Inv-loop : tie.InvT-loop
+Inv-loop s from n value₀ k₀ value k = (k ≤ n) × (value ≡ number k 0 s from) × (value < 256 ^ k)
+
+abbrev μ-loop : tie.MeasureT-loop
+μ-loop s from n value₀ k₀ value k = n - k
+
+loop-holds : tie.Need-loop-holds Inv-loop μ-loop
+unfolding number
+loop-holds c = (omega arith, refl, omega arith)
+
+mul-value : tie.Need-mul-value Inv-loop μ-loop
+mul-value c = let h = four (c .before .loop .k) (omega arith) in omega (arith, h, c .before .loop .inv .2)
+
+add-value : tie.Need-add-value Inv-loop μ-loop
+add-value c = omega arith
+
+shared-slice-read-value : tie.Need-shared-slice-read-value Inv-loop μ-loop
+shared-slice-read-value c = omega arith
+
+cast-value : tie.Need-cast-value Inv-loop μ-loop
+cast-value c = omega (arith, c .shared-slice-known .given (c .before .before .before .args .from + c .before .before .loop .k))
+
+add-value-2 : tie.Need-add-value-2 Inv-loop μ-loop
+add-value-2 c = let h = four (c .before .before .loop .k) (omega arith) in omega (arith, h, c .before .before .loop .inv .2, c .shared-slice-known .given (c .before .before .before .args .from + c .before .before .loop .k))
+
+add-k : tie.Need-add-k Inv-loop μ-loop
+add-k c = omega arith
+
+loop-less : tie.Need-loop-less Inv-loop μ-loop
+loop-less c = omega arith
+
+loop-again : tie.Need-loop-again Inv-loop μ-loop
+loop-again c =
+    let i = c .before .before .loop .inv in
+    let j : ℕ = c .before .before .before .args .from + c .before .before .loop .k in
+    (omega arith, number-next _ _ _ _ (i .1), next _ _ _ (i .2) (omega (arith, c .shared-slice-known .given j)))
+
+cast-result : tie.Need-cast-result Inv-loop μ-loop
+cast-result c = let h = four (c .before .loop .k) (omega arith) in omega (arith, h, c .before .loop .inv .2)
+
+returns : tie.Need-returns Inv-loop μ-loop
+returns c = let e : c .before .loop .k ≡ c .before .before .args .n = omega arith in rw (← e) (c .before .loop .inv .1)
+
+pub number-at-spec : {M : Type 1} → statement M
+number-at-spec =
+    tie.close
+    (tie.spec
+    Inv-loop
+    μ-loop
+    loop-holds
+    mul-value
+    add-value
+    shared-slice-read-value
+    cast-value
+    add-value-2
+    add-k
+    loop-less
+    loop-again
+    cast-result
+    returns)
