@@ -1,0 +1,41 @@
+/* What the files of the keeper share. */
+#ifndef INSIDE_H
+#define INSIDE_H
+
+#include <stdbool.h>
+#include "keeper.h"
+
+/* a page look asks as an event of this kind */
+enum { LOOK = 0x100 };
+
+bool fits_disk(const struct keeper *k);
+bool fits_memory(const struct keeper *k);
+bool keeps_disk_rules(const struct keeper *k);
+bool keeps_memory_rules(const struct keeper *k);
+uint32_t first_refusal(const struct keeper *k, const struct request *r);
+uint32_t carry_out(struct keeper *k, const struct request *r);
+
+/* The frame that a page is in, or -1. */
+static inline int frame_of(const struct keeper *k, size_t page)
+{
+    for (size_t f = 0; f < k->sizes.frames; f++)
+        if (k->memory.frames.at[f].page == page + 1)
+            return (int)f;
+    return -1;
+}
+
+static inline bool holds(const struct keeper *k, size_t page, uint8_t state)
+{
+    uint16_t address = k->memory.addresses.at[page];
+    return address != 0 && k->memory.states.at[address - 1] == state;
+}
+
+static inline bool all_zero(const uint32_t *words, size_t count)
+{
+    for (size_t i = 0; i < count; i++)
+        if (words[i] != 0)
+            return false;
+    return true;
+}
+
+#endif

@@ -1,0 +1,93 @@
+/* The public calls. */
+#include <string.h>
+#include "inside.h"
+
+static struct answer refused(uint32_t number) { return (struct answer){.refusal = number}; }
+
+/* Questions 1 and 2. */
+static uint32_t common(const struct keeper *k)
+{
+    if (!fits_disk(k) || !fits_memory(k))
+        return 1;
+    return keeps_disk_rules(k) && keeps_memory_rules(k) ? 0 : 2;
+}
+
+struct answer keeper_format(struct keeper *k)
+{
+    if (!fits_disk(k))
+        return refused(1);
+    memset(k->disk.records.at, 0, k->disk.records.len * sizeof *k->disk.records.at);
+    memset(k->disk.numbers.at, 0, k->disk.numbers.len * sizeof *k->disk.numbers.at);
+    memset(k->disk.accounts.at, 0, k->disk.accounts.len * sizeof *k->disk.accounts.at);
+    memset(k->disk.maps.at, 0, k->disk.maps.len * sizeof *k->disk.maps.at);
+    memset(k->disk.limits.at, 0, k->disk.limits.len * sizeof *k->disk.limits.at);
+    return refused(0);
+}
+
+static void clear_memory(struct memory *m)
+{
+    memset(m->frames.at, 0, m->frames.len * sizeof *m->frames.at);
+    memset(m->frame_words.at, 0, m->frame_words.len * sizeof *m->frame_words.at);
+    memset(m->removal_list.at, 0, m->removal_list.len * sizeof *m->removal_list.at);
+    memset(m->addresses.at, 0, m->addresses.len * sizeof *m->addresses.at);
+    memset(m->states.at, FREE, m->states.len);
+    memset(m->owners.at, 0, m->owners.len);
+    memset(m->free_map.at, 0, m->free_map.len * sizeof *m->free_map.at);
+    memset(m->active.at, 0, m->active.len);
+    memset(m->updating.at, 0, m->updating.len);
+    memset(m->images.at, 0, m->images.len * sizeof *m->images.at);
+    memset(m->used.at, 0, m->used.len * sizeof *m->used.at);
+    *m->pool = (struct pool){0};
+}
+
+struct answer keeper_restart(struct keeper *k)
+{
+    struct memory *m = &k->memory;
+    if (!fits_disk(k) || !fits_memory(k))
+        return refused(1);
+    if (!keeps_disk_rules(k))
+        return refused(2);
+    clear_memory(m);
+    for (size_t frame = 0; frame < k->sizes.frames; frame++)
+        m->free_queue.at[frame] = (uint16_t)(frame + 1);
+    for (size_t page = 0; page < k->disk.maps.len; page++) {
+        uint16_t entry = k->disk.maps.at[page];
+        if (entry != 0) {
+            size_t slot = page / k->sizes.pages;
+            m->states.at[entry - 1] = FILED;
+            m->owners.at[entry - 1] = (uint8_t)slot;
+            m->used.at[k->disk.accounts.at[slot]]++;
+        }
+    }
+    for (size_t record = 0; record < k->sizes.records; record++) {
+        uint32_t free = m->states.at[record] == FREE;
+        m->free_map.at[record / 32] |= free << (record % 32);
+        m->pool->free += free;
+    }
+    return refused(0);
+}
+
+struct answer keeper_apply(struct keeper *k, struct request r)
+{
+    uint32_t refusal = common(k);
+    if (refusal == 0)
+        refusal = r.kind == LOOK ? 3 : first_refusal(k, &r);
+    if (refusal != 0)
+        return refused(refusal);
+    return (struct answer){.result = carry_out(k, &r)};
+}
+
+struct part keeper_page_look(const struct keeper *k, size_t slot, size_t page)
+{
+    uint32_t refusal = common(k);
+    if (refusal == 0 && (slot >= k->sizes.slots || page >= k->sizes.pages))
+        refusal = 3;
+    if (refusal == 0) {
+        struct request r = {.kind = LOOK, .first = (uint32_t)slot, .second = (uint32_t)page};
+        refusal = first_refusal(k, &r);
+    }
+    if (refusal != 0)
+        return (struct part){.refusal = refusal};
+    size_t frame = (size_t)frame_of(k, slot * k->sizes.pages + page);
+    return (struct part){.start = frame * k->sizes.words, .count = k->sizes.words};
+}

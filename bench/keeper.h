@@ -1,0 +1,64 @@
+/* The page keeper of paper 01 in plain C: the lent tables and the public calls. */
+#ifndef KEEPER_H
+#define KEEPER_H
+
+#include <stddef.h>
+#include <stdint.h>
+
+enum {
+    MOST_WORDS = 1024, MOST_RECORDS = 4096, MOST_FRAMES = 64,
+    MOST_SLOTS = 64, MOST_PAGES = 256, MOST_ACCOUNTS = 16
+};
+enum { FREE, FILED, NULLED, LIVE, RELEASED, LEAVING }; /* states of a record */
+enum { NO_TRANSFER, READING, WRITING };
+enum { /* kinds of request; CUT is the event program's own */
+    CREATE = 1, DELETE, ACTIVATE, DEACTIVATE, FAULT, READ, WRITE, CLAIM,
+    WIRE, UNWIRE, TRUNCATE, UPDATE, PAGE_DONE, MAP_DONE, LIMIT, CUT
+};
+
+struct sizes { size_t words, records, frames, slots, pages, accounts; };
+
+/* page: 0 for none, else the flat page number + 1 */
+struct frame { uint16_t page; uint8_t used, modified, wired, initial, transfer; };
+
+struct pool { uint32_t hand, free; };
+
+/* slices */
+struct words { uint32_t *at; size_t len; };
+struct halves { uint16_t *at; size_t len; };
+struct bytes { uint8_t *at; size_t len; };
+struct frames { struct frame *at; size_t len; };
+
+struct disk {
+    struct words records, numbers;
+    struct halves accounts, maps, limits;
+};
+
+struct memory {
+    struct frames frames;
+    struct words frame_words;
+    struct halves free_queue, removal_list, addresses;
+    struct bytes states, owners;
+    struct words free_map;
+    struct bytes active, updating;
+    struct halves images, used;
+    struct pool *pool;
+};
+
+struct keeper {
+    struct sizes sizes;
+    struct disk disk;
+    struct memory memory;
+};
+
+/* kind: the event program's tag; then its values in that program's order */
+struct request { uint32_t kind, first, second, third, fourth; };
+struct answer { uint32_t refusal, result; };
+struct part { uint32_t refusal; size_t start, count; };
+
+struct answer keeper_format(struct keeper *keeper);
+struct answer keeper_restart(struct keeper *keeper);
+struct answer keeper_apply(struct keeper *keeper, struct request request);
+struct part keeper_page_look(const struct keeper *keeper, size_t slot, size_t page);
+
+#endif

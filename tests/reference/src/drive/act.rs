@@ -1,0 +1,63 @@
+//! One thing that a list does, and what came of it.
+
+use super::Subject;
+use crate::event::{Answer, Part, Request};
+use crate::keeper::Keeper;
+
+/// A public call.
+#[derive(Clone, Copy, Debug)]
+pub enum Call {
+    Format,
+    Restart,
+    Apply(Request),
+    Look { slot: u32, page: u32 },
+}
+
+/// What is done to the lent tables before the call. Seeds say how, so that both subjects get the same.
+#[derive(Clone, Copy, Debug)]
+pub enum Before {
+    Nothing,
+    /// Power fails: what is under way lands or not, memory is lost. It stays so.
+    Cut(u64),
+    /// Cells are changed. Undone after the call.
+    Damage(u64),
+    /// A table or a size is too long or short. Undone after the call.
+    Misfit(u64),
+}
+
+#[derive(Clone, Copy, Debug)]
+pub struct Act {
+    pub before: Before,
+    pub call: Call,
+}
+
+#[derive(Clone, Copy, Debug, PartialEq, Eq)]
+pub enum Outcome {
+    Answer(Answer),
+    Part(Part),
+}
+
+impl Outcome {
+    pub fn refusal(&self) -> u32 {
+        match self {
+            Outcome::Answer(answer) => answer.refusal,
+            Outcome::Part(part) => part.refusal,
+        }
+    }
+}
+
+impl Call {
+    pub fn request(kind: u32, values: [usize; 4]) -> Call {
+        let [first, second, third, fourth] = values.map(|value| value as u32);
+        Call::Apply(Request { kind, first, second, third, fourth })
+    }
+
+    pub fn make(&self, subject: &Subject, keeper: &mut Keeper) -> Outcome {
+        match *self {
+            Call::Format => Outcome::Answer((subject.format)(keeper)),
+            Call::Restart => Outcome::Answer((subject.restart)(keeper)),
+            Call::Apply(request) => Outcome::Answer((subject.apply)(keeper, request)),
+            Call::Look { slot, page } => Outcome::Part((subject.page_look)(keeper, slot, page)),
+        }
+    }
+}

@@ -1,0 +1,246 @@
+//! The next act of a list: mostly an event that the tables allow, sometimes anything at all.
+
+use super::act::{Act, Before, Call};
+use super::aims::{self, Aim};
+use super::random::Random;
+use super::shadow::marked;
+use crate::keeper::Keeper;
+use crate::tables::{Sizes, NO_TRANSFER};
+
+pub struct Chooser {
+    pub random: Random,
+    /// Calls that come first: format, restart, limits.
+    first: Vec<Call>,
+    aim: Option<Aim>,
+    /// After a cut, until the restart.
+    lost: bool,
+    numbers: u32,
+}
+
+impl Chooser {
+    pub fn new(seed: u64, sizes: &Sizes) -> Chooser {
+        let mut random = Random::new(seed);
+        let mut first = Vec::new();
+        for account in 0..sizes.accounts {
+            let pages = random.pick(&[1, 2, sizes.frames, sizes.all_pages(), 65_535]);
+            first.push(Call::request(0x0F, [account, pages, 0, 0]));
+        }
+        first.extend([Call::Restart, Call::Format]);
+        Chooser { random, first, aim: None, lost: false, numbers: 0 }
+    }
+
+    /// The next act; a write's value is marked with the number of the design that it is for.
+    pub fn next(&mut self, keeper: &Keeper) -> Act {
+        let mut act = self.unmarked(keeper);
+        if let Call::Apply(request) = &mut act.call {
+            let number = keeper.disk.numbers.get(request.first as usize);
+            if let (0x07, Some(&number)) = (request.kind, number) {
+                request.fourth = marked(request.fourth, number);
+            }
+        }
+        act
+    }
+
+    fn unmarked(&mut self, keeper: &Keeper) -> Act {
+        if let Some(call) = self.first.pop() {
+            return Act { before: Before::Nothing, call };
+        }
+        if self.lost {
+            return self.after_cut(keeper);
+        }
+        let seed = self.random.next();
+        let (before, call) = match self.random.below(100) {
+            0..=5 => (Before::Damage(seed), self.any_call(keeper)),
+            6..=7 => (Before::Misfit(seed), self.any_call(keeper)),
+            8..=11 => (Before::Nothing, self.any_values(keeper)),
+            12..=18 => (Before::Nothing, self.in_range(keeper)),
+            19..=20 => (Before::Nothing, self.look(keeper)),
+            21 if self.random.percent(60) => {
+                self.lost = true;
+                (Before::Cut(seed), self.in_range(keeper))
+            }
+            22 if self.random.percent(20) => (Before::Nothing, Call::Restart),
+            _ => (Before::Nothing, self.sensible(keeper)),
+        };
+        Act { before, call }
+    }
+
+    /// The restart, sometimes after calls that find the memory lost.
+    fn after_cut(&mut self, keeper: &Keeper) -> Act {
+        if self.random.percent(20) {
+            return Act { before: Before::Nothing, call: self.in_range(keeper) };
+        }
+        self.lost = false;
+        self.aim = None;
+        Act { before: Before::Nothing, call: Call::Restart }
+    }
+
+    fn any_call(&mut self, keeper: &Keeper) -> Call {
+        match self.random.below(10) {
+            0 => Call::Format,
+            1..=3 => Call::Restart,
+            4 => self.look(keeper),
+            5..=6 => self.any_values(keeper),
+            _ => self.sensible(keeper),
+        }
+    }
+
+    /// Any kind, values in and out of range.
+    fn any_values(&mut self, keeper: &Keeper) -> Call {
+        let sizes = keeper.sizes;
+        let near = [sizes.words, sizes.frames, sizes.slots, sizes.pages, sizes.accounts];
+        let values = [(); 4].map(|_| match self.random.below(6) {
+            0..=2 => self.random.below(3),
+            3 => self.random.pick(&near),
+            4 => self.random.pick(&near) + 1,
+            _ => self.random.pick(&[65_535, 65_536, u32::MAX as usize]),
+        });
+        Call::request(self.random.below(20) as u32, values)
+    }
+
+    /// Any event, values in range.
+    fn in_range(&mut self, keeper: &Keeper) -> Call {
+        let sizes = keeper.sizes;
+        let random = &mut self.random;
+        let slot = random.below(sizes.slots);
+        let page = random.below(sizes.pages);
+        let word = random.below(sizes.words);
+        let kind = random.up_to(15) as u32;
+        let values = match kind {
+            0x01 => [slot, random.below(sizes.accounts), random.up_to(sizes.slots + 2), 0],
+            0x0B => [slot, random.below(sizes.pages + 1), 0, 0],
+            0x0D => [random.below(sizes.frames), random.below(2), 0, 0],
+            0x0E => [slot, random.below(2), 0, 0],
+            0x0F => [random.below(sizes.accounts), random.below(sizes.all_pages() + 2), 0, 0],
+            _ => [slot, page, word, random.below(3)],
+        };
+        Call::request(kind, values)
+    }
+
+    fn look(&mut self, keeper: &Keeper) -> Call {
+        let sizes = keeper.sizes;
+        let (slot, page) = match self.in_service(keeper, 2) {
+            Some((slot, page)) if self.random.percent(80) => (slot, page),
+            _ => (self.random.below(sizes.slots + 1), self.random.below(sizes.pages + 1)),
+        };
+        Call::Look { slot: slot as u32, page: page as u32 }
+    }
+
+    /// A page in a frame with no transfer: not wired (0), wired (1), either (2).
+    fn in_service(&mut self, keeper: &Keeper, wired: u8) -> Option<(usize, usize)> {
+        let frames = &keeper.memory.frames;
+        let fits = |number: usize| {
+            let frame = &frames[number];
+            frame.page != 0 && frame.transfer == NO_TRANSFER && (wired == 2 || frame.wired == wired)
+        };
+        let frame = self.random.find(frames.len(), fits)?;
+        let page = frames[frame].page as usize - 1;
+        Some((page / keeper.sizes.pages, page % keeper.sizes.pages))
+    }
+
+    /// An event that the tables allow; any event if a few tries find none.
+    fn sensible(&mut self, keeper: &Keeper) -> Call {
+        if let Some(call) = self.towards_aim(keeper) {
+            return call;
+        }
+        for _ in 0..5 {
+            let found = match self.random.below(40) {
+                0..=5 => self.about_designs(keeper),
+                6..=12 => self.fault(keeper),
+                13..=23 => self.touch(keeper),
+                24..=29 => self.claim(keeper),
+                30..=31 => self.about_slots(keeper),
+                32..=36 => self.page_done(keeper),
+                _ => self.map_done(keeper),
+            };
+            if let Some(call) = found {
+                return call;
+            }
+        }
+        self.in_range(keeper)
+    }
+
+    fn claim(&mut self, keeper: &Keeper) -> Option<Call> {
+        (keeper.memory.removal_list[0] != 0).then(|| Call::request(0x08, [0; 4]))
+    }
+
+    fn towards_aim(&mut self, keeper: &Keeper) -> Option<Call> {
+        if let Some(aim) = &mut self.aim {
+            aim.steps += 1;
+            let step = aims::step(keeper, aim);
+            if step.is_none() || aim.steps > 100 {
+                self.aim = None;
+            }
+            return if self.random.percent(90) { step } else { None };
+        }
+        if self.random.percent(2) {
+            let slot = self.random.find(keeper.sizes.slots, |slot| keeper.memory.active[slot] == 1)?;
+            self.aim = Some(Aim { slot, delete: self.random.percent(50), steps: 0 });
+        }
+        None
+    }
+
+    fn about_designs(&mut self, keeper: &Keeper) -> Option<Call> {
+        let sizes = keeper.sizes;
+        match self.random.below(5) {
+            0 => {
+                let (account, most) = (self.random.below(sizes.accounts), sizes.all_pages() + 1);
+                Some(Call::request(0x0F, [account, self.random.below(most), 0, 0]))
+            }
+            1 => {
+                let slot = self.random.find(sizes.slots, |slot| keeper.disk.numbers[slot] == 0)?;
+                self.numbers += 1;
+                Some(Call::request(0x01, [slot, self.random.below(sizes.accounts), self.numbers as usize, 0]))
+            }
+            _ => {
+                let waits = |slot| keeper.disk.numbers[slot] != 0 && keeper.memory.active[slot] == 0;
+                let slot = self.random.find(sizes.slots, waits)?;
+                Some(Call::request(0x03, [slot, 0, 0, 0]))
+            }
+        }
+    }
+
+    /// Truncate or update.
+    fn about_slots(&mut self, keeper: &Keeper) -> Option<Call> {
+        let slot = self.random.find(keeper.sizes.slots, |slot| keeper.memory.active[slot] == 1)?;
+        let count = self.random.below(keeper.sizes.pages + 1);
+        Some(if self.random.percent(30) {
+            Call::request(0x0B, [slot, count, 0, 0])
+        } else {
+            Call::request(0x0C, [slot, 0, 0, 0])
+        })
+    }
+
+    fn fault(&mut self, keeper: &Keeper) -> Option<Call> {
+        let slot = self.random.find(keeper.sizes.slots, |slot| keeper.memory.active[slot] == 1)?;
+        let out = |page| keeper.frame_of(keeper.flat(slot, page)).is_none();
+        let page = self.random.find(keeper.sizes.pages, out)?;
+        Some(Call::request(0x05, [slot, page, 0, 0]))
+    }
+
+    /// Read, write, wire or unwire.
+    fn touch(&mut self, keeper: &Keeper) -> Option<Call> {
+        let kind = self.random.pick(&[0x06, 0x06, 0x07, 0x07, 0x07, 0x07, 0x09, 0x0A]);
+        let (slot, page) = self.in_service(
+            keeper,
+            match kind {
+                0x09 => 0,
+                0x0A => 1,
+                _ => 2,
+            },
+        )?;
+        let value = self.random.pick(&[0, 0, 1, 2, u32::MAX as usize]);
+        Some(Call::request(kind, [slot, page, self.random.below(keeper.sizes.words), value]))
+    }
+
+    fn page_done(&mut self, keeper: &Keeper) -> Option<Call> {
+        let frames = &keeper.memory.frames;
+        let frame = self.random.find(frames.len(), |frame| frames[frame].transfer != NO_TRANSFER)?;
+        Some(Call::request(0x0D, [frame, self.random.percent(80) as usize, 0, 0]))
+    }
+
+    fn map_done(&mut self, keeper: &Keeper) -> Option<Call> {
+        let slot = self.random.find(keeper.sizes.slots, |slot| keeper.memory.updating[slot] == 1)?;
+        Some(Call::request(0x0E, [slot, self.random.percent(80) as usize, 0, 0]))
+    }
+}

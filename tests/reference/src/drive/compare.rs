@@ -1,0 +1,107 @@
+//! What must hold of one call: the two subjects agree, and each keeps the paper's promises.
+
+use super::act::{Call, Outcome};
+use crate::keeper::Keeper;
+use crate::rules;
+use crate::tables::{FILED, FREE, LEAVING, LIVE, NULLED, RELEASED};
+
+/// One subject's side of a call.
+pub struct Side<'a> {
+    pub outcome: Outcome,
+    pub after: &'a Keeper,
+}
+
+/// The answers and results are the same, and the disk part after every call; after a refusal all tables are
+/// as they were before, and after any other call the same on both sides.
+pub fn compare(before: &Keeper, one: &Side, other: &Side) -> Result<(), String> {
+    if one.outcome != other.outcome {
+        return Err(format!("outcomes differ: {:?} and {:?}", one.outcome, other.outcome));
+    }
+    if one.after.disk != other.after.disk {
+        return Err("the disk parts differ".to_string());
+    }
+    if one.outcome.refusal() != 0 && (one.after != before || other.after != before) {
+        return Err("a refused call changed a table".to_string());
+    }
+    if one.after.memory != other.after.memory {
+        return Err(format!("the memory parts differ in {}", first_difference(one.after, other.after)));
+    }
+    Ok(())
+}
+
+/// The first memory table that differs, by name.
+fn first_difference(one: &Keeper, other: &Keeper) -> &'static str {
+    let (one, other) = (&one.memory, &other.memory);
+    let same = [
+        ("frames", one.frames == other.frames),
+        ("frame words", one.frame_words == other.frame_words),
+        ("free queue", one.free_queue == other.free_queue),
+        ("removal list", one.removal_list == other.removal_list),
+        ("addresses", one.addresses == other.addresses),
+        ("states", one.states == other.states),
+        ("owners", one.owners == other.owners),
+        ("free map", one.free_map == other.free_map),
+        ("active", one.active == other.active),
+        ("updating", one.updating == other.updating),
+        ("images", one.images == other.images),
+        ("used", one.used == other.used),
+        ("pool", one.pool == other.pool),
+    ];
+    same.iter().find(|(_, same)| !same).map_or("nothing", |&(name, _)| name)
+}
+
+/// What paper 01 promises of one call, whoever carries it out.
+pub fn promises(call: &Call, before: &Keeper, side: &Side) -> Result<(), String> {
+    match (call, side.outcome) {
+        (_, Outcome::Answer(answer)) if answer.refusal != 0 => {
+            check(answer.result == 0, "a refusal has a result")?;
+            check(side.after == before, "a refused call changed a table")
+        }
+        (_, Outcome::Part(part)) => {
+            let whole = part.count == before.sizes.words && part.start % before.sizes.words.max(1) == 0;
+            check(side.after == before, "a page look changed a table")?;
+            check(part.refusal == 0 || (part.start, part.count) == (0, 0), "a refused look has a part")?;
+            check(part.refusal != 0 || whole, "a look is not one frame's part")
+        }
+        (Call::Format, _) => {
+            check(side.after.memory == before.memory, "format changed memory")?;
+            check(rules::disk::kept(&side.after.sizes, &side.after.disk), "format broke a disk rule")
+        }
+        (Call::Restart, _) => {
+            check(side.after.disk == before.disk, "restart changed the disk part")?;
+            check(rules::kept(side.after), "restart broke a rule")
+        }
+        _ => {
+            check(rules::kept(side.after), "an event broke a rule")?;
+            check(along_the_lines(before, side.after), "a record moved along no line")
+        }
+    }
+}
+
+fn check(holds: bool, otherwise: &str) -> Result<(), String> {
+    if holds {
+        Ok(())
+    } else {
+        Err(otherwise.to_string())
+    }
+}
+
+/// The eleven lines.
+const LINES: [(u8, u8); 11] = [
+    (FREE, NULLED),
+    (NULLED, LIVE),
+    (NULLED, RELEASED),
+    (NULLED, LEAVING),
+    (LIVE, NULLED),
+    (LIVE, RELEASED),
+    (LIVE, FILED),
+    (RELEASED, LEAVING),
+    (LEAVING, FREE),
+    (LEAVING, RELEASED),
+    (FILED, LIVE),
+];
+
+fn along_the_lines(before: &Keeper, after: &Keeper) -> bool {
+    let moves = before.memory.states.iter().zip(&after.memory.states);
+    moves.into_iter().all(|(&from, &to)| from == to || LINES.contains(&(from, to)))
+}

@@ -1,0 +1,101 @@
+//! A run: many lists of events at mixed sizes, two subjects side by side.
+
+use super::act::{Act, Before};
+use super::choose::Chooser;
+use super::compare::{compare, promises, Side};
+use super::counts::Counts;
+use super::random::Random;
+use super::shadow::Shadow;
+use super::{cut, damage, misfit, Subject};
+use crate::keeper::Keeper;
+use crate::rules;
+use crate::tables::Sizes;
+
+/// Drives both subjects by lists until so many calls are made. Panics at the first disagreement, saying where.
+pub fn run(subjects: [Subject; 2], seed: u64, calls: u64) -> Counts {
+    let mut counts = Counts::default();
+    let mut random = Random::new(seed);
+    while counts.calls < calls {
+        let (list_seed, sizes, length) = (random.next(), mixed(&mut random), random.up_to(800));
+        let length = if sizes.records * sizes.words > 100_000 { length.min(200) } else { length };
+        list(&subjects, sizes, list_seed, length, &mut counts);
+    }
+    counts
+}
+
+/// Mostly small sizes, where everything runs short; sometimes larger ones, now and then the largest.
+fn mixed(random: &mut Random) -> Sizes {
+    let most = match random.below(200) {
+        0 => return Sizes::MOST,
+        1 => [1024, 4096, 64, 64, 256, 16],
+        2 => [1, 4096, 64, 64, 256, 16],
+        3..=9 => [64, 300, 64, 16, 32, 16],
+        10..=39 => [8, 60, 12, 6, 12, 4],
+        40..=49 => return crate::program::SIZES,
+        _ => [3, 12, 5, 4, 5, 3],
+    };
+    let [words, records, frames, slots, pages, accounts] = most.map(|most| random.up_to(most));
+    Sizes { words, records, frames, slots, pages, accounts }
+}
+
+/// One list, from format on.
+fn list(subjects: &[Subject; 2], sizes: Sizes, seed: u64, length: usize, counts: &mut Counts) {
+    let mut chooser = Chooser::new(seed, &sizes);
+    let mut keepers = [Keeper::lent(sizes), Keeper::lent(sizes)];
+    let mut shadow = Shadow::new(&keepers[0]);
+    for number in 0..length {
+        let act = chooser.next(&keepers[0]);
+        if let Err(what) = step(subjects, &mut keepers, &mut shadow, &act, counts) {
+            let names = [subjects[0].name, subjects[1].name];
+            panic!("{what}\n{names:?}, list seed {seed}, {sizes:?}, act {number}: {act:?}");
+        }
+    }
+}
+
+/// One act on both sides, compared; damage is undone after it.
+fn step(
+    subjects: &[Subject; 2],
+    keepers: &mut [Keeper; 2],
+    shadow: &mut Shadow,
+    act: &Act,
+    counts: &mut Counts,
+) -> Result<(), String> {
+    let undo = matches!(act.before, Before::Damage(_) | Before::Misfit(_)).then(|| keepers.clone());
+    for keeper in keepers.iter_mut() {
+        prepare(keeper, act.before);
+    }
+    let before = keepers[0].clone();
+    note(act.before, &before, counts);
+    let outcomes = [0, 1].map(|side| act.call.make(&subjects[side], &mut keepers[side]));
+    let sides = [0, 1].map(|side| Side { outcome: outcomes[side], after: &keepers[side] });
+    counts.count(&act.call, &outcomes[0]);
+    compare(&before, &sides[0], &sides[1])?;
+    promises(&act.call, &before, &sides[0])?;
+    match undo {
+        Some(sound) => *keepers = sound,
+        None => shadow.follow(act, &keepers[0], &outcomes[0])?,
+    }
+    Ok(())
+}
+
+fn prepare(keeper: &mut Keeper, before: Before) {
+    match before {
+        Before::Nothing => {}
+        Before::Cut(seed) => cut::cut(keeper, seed),
+        Before::Damage(seed) => damage::damage(keeper, seed),
+        Before::Misfit(seed) => misfit::misfit(keeper, seed),
+    }
+}
+
+/// Counts cuts, and the rules that alone refuse a damaged table.
+fn note(act: Before, keeper: &Keeper, counts: &mut Counts) {
+    match act {
+        Before::Cut(_) => counts.cuts += 1,
+        Before::Damage(_) => {
+            if let [alone] = rules::broken(keeper)[..] {
+                *counts.alone.entry(alone).or_default() += 1;
+            }
+        }
+        _ => {}
+    }
+}

@@ -1,0 +1,35 @@
+//! Random lists of events that drive two subjects side by side, and what must hold along them.
+
+pub mod act; // one thing that a list does
+pub mod aims; // the next event on the way to a design at rest
+pub mod choose; // the next act of a list, by what the tables hold
+pub mod compare; // the two subjects agree, and each keeps the paper's promises
+pub mod counts; // how often each kind and refusal was seen
+pub mod cut; // a power cut
+pub mod damage; // tables damaged
+pub mod fields; // a random list as bytes for the event program
+pub mod list; // a whole run of lists
+pub mod misfit; // tables of wrong lengths
+pub mod random; // random numbers from a seed
+pub mod shadow; // what each page must read as
+
+use crate::event::{Answer, Part, Request};
+use crate::keeper::Keeper;
+
+/// A keeper as its public calls, over tables that the driver owns and lends.
+#[derive(Clone, Copy)]
+pub struct Subject {
+    pub name: &'static str,
+    pub format: fn(&mut Keeper) -> Answer,
+    pub restart: fn(&mut Keeper) -> Answer,
+    pub apply: fn(&mut Keeper, Request) -> Answer,
+    pub page_look: fn(&Keeper, u32, u32) -> Part,
+}
+
+pub const REFERENCE: Subject = Subject {
+    name: "reference",
+    format: Keeper::format,
+    restart: Keeper::restart,
+    apply: Keeper::apply,
+    page_look: Keeper::page_look,
+};

@@ -1,0 +1,64 @@
+//! What each event does, once every question has said yes. Each function gives the event's result.
+
+mod claim;
+mod designs;
+mod pages;
+mod transfers;
+
+use crate::event::Event;
+use crate::keeper::Keeper;
+use crate::queue;
+use crate::tables::{Frame, FREE};
+
+pub fn carry_out(keeper: &mut Keeper, event: Event) -> u32 {
+    match event {
+        Event::Create { slot, account, number } => designs::create(keeper, slot, account, number),
+        Event::Delete { slot } => designs::delete(keeper, slot),
+        Event::Activate { slot } => designs::activate(keeper, slot),
+        Event::Deactivate { slot } => designs::deactivate(keeper, slot),
+        Event::Limit { account, pages } => designs::limit(keeper, account, pages),
+        Event::Fault { slot, page } => pages::fault(keeper, slot, page),
+        Event::Read { slot, page, word } => pages::read(keeper, slot, page, word),
+        Event::Write { slot, page, word, value } => pages::write(keeper, slot, page, word, value),
+        Event::Wire { slot, page } => pages::wire(keeper, slot, page),
+        Event::Unwire { slot, page } => pages::unwire(keeper, slot, page),
+        Event::Truncate { slot, count } => pages::truncate(keeper, slot, count),
+        Event::Claim => claim::claim(keeper),
+        Event::Update { slot } => transfers::update(keeper, slot),
+        Event::PageDone { frame, good } => transfers::page_done(keeper, frame, good == 1),
+        Event::MapDone { slot, good } => transfers::map_done(keeper, slot, good == 1),
+        Event::Look { .. } => 0,
+    }
+}
+
+/// A frame loses its page and switches and joins the free queue's end; its words stay.
+fn free_frame(keeper: &mut Keeper, frame: usize) {
+    keeper.memory.frames[frame] = Frame::default();
+    queue::push_end(&mut keeper.memory.free_queue, frame);
+}
+
+/// The account that pays for a page.
+fn account_of(keeper: &Keeper, page: usize) -> usize {
+    keeper.disk.accounts[page / keeper.sizes.pages] as usize
+}
+
+/// Moves a record to a state other than free; its slot stays.
+fn set_state(keeper: &mut Keeper, record: usize, state: u8) {
+    keeper.memory.states[record] = state;
+}
+
+/// A record becomes free, with no slot.
+fn free_record(keeper: &mut Keeper, record: usize) {
+    let memory = &mut keeper.memory;
+    memory.states[record] = FREE;
+    memory.owners[record] = 0;
+    memory.free_map[record / 32] |= 1 << (record % 32);
+    memory.pool.free += 1;
+}
+
+/// The records of a slot that are in a state, in ascending order.
+fn records_in(keeper: &Keeper, slot: usize, state: u8) -> Vec<usize> {
+    let memory = &keeper.memory;
+    let own = |&record: &usize| memory.owners[record] as usize == slot && memory.states[record] == state;
+    (0..keeper.sizes.records).filter(own).collect()
+}

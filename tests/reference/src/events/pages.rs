@@ -1,0 +1,98 @@
+//! Events about pages in frames: fault, read, write, wire, unwire, truncate.
+
+use super::{account_of, free_frame, set_state};
+use crate::keeper::Keeper;
+use crate::queue;
+use crate::tables::{Frame, LIVE, NULLED, READING, RELEASED};
+
+/// Takes the first queued frame; begins a read, or brings the page in as zeros.
+pub fn fault(keeper: &mut Keeper, slot: usize, page: usize) -> u32 {
+    let page = keeper.flat(slot, page);
+    let frame = queue::first(&keeper.memory.free_queue).expect("question 20");
+    queue::remove(&mut keeper.memory.free_queue, frame);
+    let mut entry = Frame { page: page as u16 + 1, ..Frame::default() };
+    if keeper.holds(page, LIVE) {
+        entry.transfer = READING;
+    } else {
+        let words = keeper.words_of_frame(frame);
+        keeper.memory.frame_words[words].fill(0);
+        if keeper.record_of(page).is_none() {
+            take_record(keeper, slot, page);
+        }
+        entry.initial = 1;
+        queue::push_front(&mut keeper.memory.removal_list, frame);
+        let account = account_of(keeper, page);
+        keeper.memory.used[account] += 1;
+    }
+    keeper.memory.frames[frame] = entry;
+    frame as u32
+}
+
+/// Gives a page the first free record counting up from the hand, nulled.
+fn take_record(keeper: &mut Keeper, slot: usize, page: usize) {
+    let count = keeper.sizes.records;
+    let memory = &mut keeper.memory;
+    let hand = memory.pool.hand as usize;
+    let free = |record: &usize| memory.free_map[record / 32] >> (record % 32) & 1 == 1;
+    let record = (hand..count).chain(0..hand).find(free).expect("question 19");
+    memory.free_map[record / 32] &= !(1 << (record % 32));
+    memory.pool.free -= 1;
+    memory.pool.hand = ((record + 1) % count) as u32;
+    memory.states[record] = NULLED;
+    memory.owners[record] = slot as u8;
+    memory.addresses[page] = record as u16 + 1;
+}
+
+/// The frame of a page that is in one.
+fn frame_at(keeper: &Keeper, slot: usize, page: usize) -> usize {
+    keeper.frame_of(keeper.flat(slot, page)).expect("question 13")
+}
+
+pub fn read(keeper: &mut Keeper, slot: usize, page: usize, word: usize) -> u32 {
+    let frame = frame_at(keeper, slot, page);
+    keeper.memory.frames[frame].used = 1;
+    keeper.memory.frame_words[frame * keeper.sizes.words + word]
+}
+
+pub fn write(keeper: &mut Keeper, slot: usize, page: usize, word: usize, value: u32) -> u32 {
+    let frame = frame_at(keeper, slot, page);
+    keeper.memory.frames[frame].used = 1;
+    keeper.memory.frames[frame].modified = 1;
+    keeper.memory.frame_words[frame * keeper.sizes.words + word] = value;
+    0
+}
+
+pub fn wire(keeper: &mut Keeper, slot: usize, page: usize) -> u32 {
+    let frame = frame_at(keeper, slot, page);
+    queue::remove(&mut keeper.memory.removal_list, frame);
+    keeper.memory.frames[frame].wired = 1;
+    0
+}
+
+pub fn unwire(keeper: &mut Keeper, slot: usize, page: usize) -> u32 {
+    let frame = frame_at(keeper, slot, page);
+    queue::push_end(&mut keeper.memory.removal_list, frame);
+    keeper.memory.frames[frame].wired = 0;
+    keeper.memory.frames[frame].initial = 0;
+    0
+}
+
+/// Pages from `count` up become zeros: their records released, never freed here; their frames freed in page order.
+pub fn truncate(keeper: &mut Keeper, slot: usize, count: usize) -> u32 {
+    let account = keeper.disk.accounts[slot] as usize;
+    for page in keeper.pages_of(slot).skip(count) {
+        let frame = keeper.frame_of(page);
+        if frame.is_some() || keeper.holds(page, LIVE) {
+            keeper.memory.used[account] -= 1;
+        }
+        if let Some(frame) = frame {
+            queue::remove(&mut keeper.memory.removal_list, frame);
+            free_frame(keeper, frame);
+        }
+        if let Some(record) = keeper.record_of(page) {
+            set_state(keeper, record, RELEASED);
+            keeper.memory.addresses[page] = 0;
+        }
+    }
+    0
+}

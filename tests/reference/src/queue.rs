@@ -1,0 +1,32 @@
+//! The free queue and the removal list: entries are frame + 1, packed at the front, then zeros.
+
+pub fn length(queue: &[u16]) -> usize {
+    queue.iter().position(|&entry| entry == 0).unwrap_or(queue.len())
+}
+
+/// The first frame, where claim looks first and where fault takes from.
+pub fn first(queue: &[u16]) -> Option<usize> {
+    match queue.first() {
+        None | Some(0) => None,
+        Some(&entry) => Some(entry as usize - 1),
+    }
+}
+
+pub fn push_end(queue: &mut [u16], frame: usize) {
+    let end = length(queue);
+    queue[end] = frame as u16 + 1;
+}
+
+pub fn push_front(queue: &mut [u16], frame: usize) {
+    let end = length(queue);
+    queue.copy_within(0..end, 1);
+    queue[0] = frame as u16 + 1;
+}
+
+/// Takes a frame out and closes the gap; nothing if it is not there.
+pub fn remove(queue: &mut [u16], frame: usize) {
+    if let Some(at) = queue.iter().position(|&entry| entry as usize == frame + 1) {
+        queue.copy_within(at + 1.., at);
+        *queue.last_mut().unwrap() = 0;
+    }
+}

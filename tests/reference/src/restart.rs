@@ -1,0 +1,27 @@
+//! Memory as restart leaves it, from the disk part alone.
+
+use crate::tables::{Disk, Memory, Pool, Sizes, FILED, FREE};
+
+pub fn memory(sizes: &Sizes, disk: &Disk) -> Memory {
+    let mut memory = Memory::zeros(sizes);
+    for frame in 0..sizes.frames {
+        memory.free_queue[frame] = frame as u16 + 1;
+    }
+    for (page, &entry) in disk.maps.iter().enumerate() {
+        if entry != 0 {
+            let slot = page / sizes.pages;
+            memory.states[entry as usize - 1] = FILED;
+            memory.owners[entry as usize - 1] = slot as u8;
+            memory.used[disk.accounts[slot] as usize] += 1;
+        }
+    }
+    let mut pool = Pool::default();
+    for record in 0..sizes.records {
+        if memory.states[record] == FREE {
+            memory.free_map[record / 32] |= 1 << (record % 32);
+            pool.free += 1;
+        }
+    }
+    memory.pool = pool;
+    memory
+}
