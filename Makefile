@@ -1,0 +1,15 @@
+# make test: the gate. make replay: the event program on a readable example. make mutants: every wrong definition that a theorem must refuse.
+.PHONY: test replay mutants
+EXAMPLE = examples/two-mills.txt
+
+test:
+	bash .ci/run
+
+replay:
+	rt check replay
+	python3 tools/events.py encode < $(EXAMPLE) > target/example.in
+	target/bin/replay < target/example.in > target/example.out
+	python3 tools/events.py show $(EXAMPLE) target/example.out
+
+mutants:
+	python3 tests/mutants/run.py
