@@ -8,6 +8,7 @@ use lib.ListN.{set}
 use Rattle.tables.specs.Base.{at}
 use Rattle.tables.specs.Rule.{same, non, _and_}
 use Rattle.tables.specs.Store.{Split, store, at-store}
+use Rattle.tables.specs.Laws.{not-zero}
 use Rattle.model.specs.declared.sizes.Sizes.{Sizes}
 use Rattle.model.specs.declared.event.Design.the-variants.{Activate}
 use Rattle.model.specs.declared.event.Event.the-variants as Event
@@ -20,7 +21,6 @@ use Rattle.model.specs.Step.{carried}
 use Rattle.model.specs.Ledger.{Ledger, note}
 use Rattle.model.specs.Acts.{fed}
 use Rattle.model.specs.Index.{split-set}
-use Rattle.invariant.proofs.Stands.{not-zero}
 use Rattle.crash.proofs.Writes.{split-over}
 use Rattle.crash.proofs.Link.{Tied}
 use Rattle.crash.proofs.Steps.{Before}

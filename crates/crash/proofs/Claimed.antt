@@ -11,7 +11,7 @@ use lib.ListN.{set, length}
 use lib.Seq.{getD-set-same}
 use borrow.Author.Tests.{eq-eqb, ne-eqb}
 use Rattle.tables.specs.Base.{at, if}
-use Rattle.tables.specs.Laws.{T→true, and-intro, if-yes, if-no, eq→T, all-elim, all-intro}
+use Rattle.tables.specs.Laws.{T→true, and-intro, if-yes, if-no, eq→T, all-elim, all-intro, not-zero}
 use Rattle.tables.specs.Queue.{members, packed, times}
 use Rattle.tables.specs.QueueLaws.{members-within}
 use Rattle.tables.specs.Store.{Split}
@@ -20,7 +20,7 @@ use Rattle.model.specs.declared.sizes.Sizes.{Sizes}
 use Rattle.model.specs.declared.event.Store.the-variants.{Claim}
 use Rattle.model.specs.declared.event.Event.the-variants as Event
 use Rattle.model.specs.Lines.{NULLED, LIVE}
-use Rattle.model.specs.State.{State, frames, noFrame, frameAt, NONE, READING, WRITING, allPages}
+use Rattle.model.specs.State.{State, frames, noFrame, frameAt, NONE, WRITING, allPages}
 use Rattle.model.specs.Setters.{onCore, onHeld, setFrames, setRemovalList, setStates, setTransfer, counted}
 use Rattle.model.specs.Pages.{onFrame}
 use Rattle.model.specs.Stores as Stores
@@ -29,13 +29,13 @@ use Rattle.model.specs.Step.{carried}
 use Rattle.model.specs.Ledger.{Ledger, note, put, claimed, opened, voided, setLive}
 use Rattle.model.specs.Acts.{fed}
 use Rattle.model.specs.Index.{split-set}
-use Rattle.invariant.proofs.Looks.{Took, looking-takes}
-use Rattle.invariant.proofs.Stands.{not-zero, seat-at}
+use Rattle.invariant.proofs.Looks.{looking-takes}
+use Rattle.invariant.proofs.Stands.{seat-at}
 use Rattle.invariant.proofs.Stands as Stands
 use Rattle.crash.proofs.Writes.{split-put, put-other, put-same}
 use Rattle.crash.proofs.Link.{Away, Lives, Holding, Tied}
 use Rattle.crash.proofs.Steps.{Before, tied-at}
-use Rattle.crash.proofs.OneFrame.{Alike, alike-trans, one-frame, other-frame, away-but}
+use Rattle.crash.proofs.OneFrame.{Alike, alike-trans, one-frame, other-frame, away-but, Elsewhere, Out}
 
 module _ (z : Sizes) (st : State) (l : Ledger) (b : Before z st l (Event.Store Claim)) where
   abbrev f : ℕ
@@ -62,14 +62,11 @@ module _ (z : Sizes) (st : State) (l : Ledger) (b : Before z st l (Event.Store C
   abbrev r₀ : ℕ
   r₀ = recordIn z st f
 
-  took : Took (st .memory .core .frames) (members (st .memory .core .removal-list)) (suc (length (members (st .memory .core .removal-list)))) 0 (looking z st)
-  took = looking-takes z st (b .asked .0)
-
   listed : 0 < times (members (st .memory .core .removal-list)) f
-  listed = omega (arith, took .left f, if-yes {A = ℕ} f f 1 0 refl)
+  listed = omega (arith, looking-takes z st (b .asked .0) .left f, if-yes {A = ℕ} f f 1 0 refl)
 
   cooled : (g : ℕ) → Alike (frameAt (looking z st .frames) g) (fs g)
-  cooled g = let c = took .cooler g in record { page = c .page; modified = c .modified; transfer = c .transfer }
+  cooled g = let c = looking-takes z st (b .asked .0) .cooler g in record { page = c .page; modified = c .modified; transfer = c .transfer }
 
   hf : f < z .frames
   hf = members-within (st .memory .core .removal-list) (b .fit .memory .removal-list) (b .ruled .queues .removal-list) f (listed)
@@ -96,7 +93,7 @@ module _ (z : Sizes) (st : State) (l : Ledger) (b : Before z st l (Event.Store C
   unflagged t = omega (arith, still, b .tied .memory .framed f hf .only t)
 
   stored-new : (new : Frame) → frameAt (set (looking z st .frames) f new) f ≡ new
-  stored-new new = getD-set-same (looking z st .frames) f new noFrame (rw (took .frames-long, b .fit .memory .frames) hf)
+  stored-new new = getD-set-same (looking z st .frames) f new noFrame (rw (looking-takes z st (b .asked .0) .frames-long, b .fit .memory .frames) hf)
 
   others-alike : (new : Frame) (g : ℕ) → ¬ (g ≡ f) → Alike (frameAt (set (looking z st .frames) f new) g) (fs g)
   others-alike new g e = alike-trans (other-frame (looking z st .frames) f new g e) (cooled g)
@@ -135,7 +132,7 @@ module _ (z : Sizes) (st : State) (l : Ledger) (b : Before z st l (Event.Store C
       kept = λ i t. (t, λ n. refl);
     })
       where
-        was-away : (i : ℕ) → ¬ (i ≡ i₀) → ((g : ℕ) → g < z .frames → ¬ (g ≡ f) → fs g .page ≡ suc i → fs g .transfer ≡ READING) → Away z fs i
+        was-away : (i : ℕ) → ¬ (i ≡ i₀) → Elsewhere z fs f i → Away z fs i
         was-away i d a = away-but z fs f i a (λ u. absurd (d (omega (arith, u, page))))
 
   -- unmodified: the page's words are its live record's, or zeros
@@ -221,7 +218,7 @@ module _ (z : Sizes) (st : State) (l : Ledger) (b : Before z st l (Event.Store C
       new : Frame
       new = setTransfer WRITING (frameAt (looking z st .frames) f)
 
-      was-away : (i : ℕ) → ((g : ℕ) → g < z .frames → ¬ (g ≡ f) → fs g .page ≡ suc i → fs g .transfer ≡ READING) × (new .page ≡ suc i → new .transfer ≡ READING) → Away z fs i
+      was-away : (i : ℕ) → Out z fs f new i → Away z fs i
       was-away i a = away-but z fs f i (a .0) (λ u. absurd (omega (arith, a .1 (cooled f .page ∙ u))))
 
   begins : (m : Bool) → eqb (old .modified) 1 ≡ m → (zs : Bool) → zeros z st f ≡ zs → beginsWrite z st ≡ if m (not zs) false

@@ -9,6 +9,7 @@ use lib.ListN.{set}
 use Rattle.tables.specs.Base.{at}
 use Rattle.tables.specs.Rule.{same, _and_}
 use Rattle.tables.specs.Store.{Split, store, at-store}
+use Rattle.tables.specs.Laws.{not-zero}
 use Rattle.model.specs.declared.frame.Frame.{Frame}
 use Rattle.model.specs.declared.sizes.Sizes.{Sizes}
 use Rattle.model.specs.declared.event.Design.the-variants.{Deactivate}
@@ -23,8 +24,7 @@ use Rattle.model.specs.Step.{carried}
 use Rattle.model.specs.Ledger.{Ledger, note}
 use Rattle.model.specs.Acts.{fed}
 use Rattle.model.specs.Index.{split-set, page-again}
-use Rattle.invariant.proofs.Records.{would-live, live-would}
-use Rattle.invariant.proofs.Stands.{not-zero}
+use Rattle.invariant.proofs.Records.{would-live, live-would, was as entry-was, stays as entry-stays}
 use Rattle.crash.proofs.Writes.{split-over}
 use Rattle.crash.proofs.Link.{Away, Tied}
 use Rattle.crash.proofs.Steps.{Before}
@@ -78,16 +78,10 @@ module _ (z : Sizes) (s : ℕ) (st : State) (l : Ledger) (b : Before z st l (Eve
   unlisted i e p r q d = omega (arith, live-would z st i r q d, mapped i e, p)
 
   was : (i : ℕ) → i < allPages z → (r : ℕ) → address′ i ≡ suc r → state′ r ≡ LIVE → (address i ≡ suc r) × (state r ≡ LIVE)
-  was i h r p e = elim (address-split i h) [
-    | inl x ↦ absurd (omega (arith, x .1, p))
-    | inr x ↦ let q = sym (x .1) ∙ p in (q, elim (state-split r (b .ruled .records .address-fit i h r q)) [ inl y ↦ absurd (omega (arith, y .1, e)) | inr y ↦ sym (y .1) ∙ e ])
-  ]
+  was i h r p e = let q = entry-was (address-split i h) p (omega arith) .1 in (q, entry-was (state-split r (b .ruled .records .address-fit i h r q)) e (omega arith) .1)
 
   stays : (i : ℕ) → i < allPages z → ¬ (slotOf z i ≡ s) → (r : ℕ) → address i ≡ suc r → (address′ i ≡ suc r) × (state′ r ≡ state r)
-  stays i h n r p = (
-    elim (address-split i h) [ inl x ↦ absurd (n (x .0)) | inr x ↦ x .1 ∙ p ],
-    elim (state-split r (b .ruled .records .address-fit i h r p)) [ inl y ↦ absurd (n (sym (b .ruled .records .held i h r p .0) ∙ y .0 .1)) | inr y ↦ y .1 ],
-  )
+  stays i h n r p = (entry-stays (address-split i h) n ∙ p, entry-stays (state-split r (b .ruled .records .address-fit i h r p)) (λ y. n (sym (b .ruled .records .held i h r p .0) ∙ y .1)))
 
   pub deactivate : Tied z (carried z st (Event.Design (Deactivate s))) (note z l (fed z st (Event.Design (Deactivate s))))
   unfolding carried fed note counted Designs.deactivate

@@ -20,7 +20,7 @@ use Rattle.model.specs.declared.sizes.Sizes.{Sizes}
 use Rattle.model.specs.declared.event.Page.the-variants.{Fault}
 use Rattle.model.specs.declared.event.Event.the-variants as Event
 use Rattle.model.specs.Lines.{FREE, NULLED, LIVE}
-use Rattle.model.specs.State.{Held, State, files, frames, noFrame, frameAt, NONE, READING, allPages, pageOf, slotOf, live, freeCount}
+use Rattle.model.specs.State.{Held, State, files, frames, noFrame, frameAt, NONE, allPages, pageOf, slotOf, live, freeCount}
 use Rattle.model.specs.Setters.{counted}
 use Rattle.model.specs.Parts.{pick}
 use Rattle.model.specs.Choice.{pick-below, pick-free}
@@ -34,7 +34,7 @@ use Rattle.invariant.proofs.Stands as Stands
 use Rattle.crash.proofs.Writes.{put-other, put-same}
 use Rattle.crash.proofs.Link.{Away, Tied}
 use Rattle.crash.proofs.Steps.{Before, tied-at}
-use Rattle.crash.proofs.OneFrame.{one-frame, other-frame, away-but}
+use Rattle.crash.proofs.OneFrame.{one-frame, other-frame, away-but, Elsewhere}
 use Rattle.crash.proofs.Parts.{at-part}
 
 module _ (z : Sizes) (s p : ℕ) (st : State) (l : Ledger) (b : Before z st l (Event.Page (Fault s p))) where
@@ -83,7 +83,7 @@ module _ (z : Sizes) (s p : ℕ) (st : State) (l : Ledger) (b : Before z st l (E
   apart : (g : ℕ) → g < z .frames → (i : ℕ) → fs g .page ≡ suc i → ¬ (i ≡ i₀)
   apart g h i q e = b .asked .1 .1 .1 .1 .0 (g, h, q ∙ ap suc e)
 
-  was-away : (i : ℕ) → ((g : ℕ) → g < z .frames → ¬ (g ≡ f) → fs g .page ≡ suc i → fs g .transfer ≡ READING) → Away z fs i
+  was-away : (i : ℕ) → Elsewhere z fs f i → Away z fs i
   was-away i a = away-but z fs f i a (λ u. absurd (omega (arith, u, no-page)))
 
   abbrev noting : Note

@@ -10,7 +10,7 @@ use lib.Dec.{T}
 use lib.ListN.{set, length}
 use lib.Seq.{getD-set-same, getD-set-other}
 use Rattle.tables.specs.Base.{at}
-use Rattle.tables.specs.Laws.{if-true}
+use Rattle.tables.specs.Laws.{if-true, not-zero}
 use Rattle.tables.specs.Store.{Split}
 use Rattle.model.specs.declared.frame.Frame.{Frame}
 use Rattle.model.specs.declared.sizes.Sizes.{Sizes}
@@ -24,7 +24,7 @@ use Rattle.model.specs.Fit.{Fit}
 use Rattle.model.specs.Ledger.{Ledger, Write, ended, put, finishWrite, setFinished, setLive, setWrite}
 use Rattle.model.specs.Demand3.{lastInto}
 use Rattle.model.specs.Index.{split-set, slot-below}
-use Rattle.invariant.proofs.Stands.{not-zero, seat-at, moving-place}
+use Rattle.invariant.proofs.Stands.{seat-at, moving-place}
 use Rattle.crash.proofs.Writes.{In, Numbered, bounded, last-here, last-there, split-put, put-other, put-same}
 use Rattle.crash.proofs.Link.{Own, OfPage, Latest, Newest, Holding, Opened, InFrame, Away, OnDisk, InMemory, Tied}
 use Rattle.crash.proofs.Steps.{same-page}

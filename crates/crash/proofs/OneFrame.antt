@@ -32,8 +32,16 @@ alike-trans p q = record { page = p .page ∙ q .page; modified = p .modified �
 pub other-frame : (fs : List Frame) (f : ℕ) (a : Frame) (g : ℕ) → ¬ (g ≡ f) → Alike (frameAt (set fs f a) g) (frameAt fs g)
 other-frame fs f a g e = alike-same (getD-set-other fs f g a noFrame e)
 
+-- the page is in no other frame than f, or in one that is being read
+abbrev pub Elsewhere : Sizes → (ℕ → Frame) → ℕ → ℕ → Type 0
+Elsewhere z frame f i = (g : ℕ) → g < z .frames → ¬ (g ≡ f) → frame g .page ≡ suc i → frame g .transfer ≡ READING
+
+-- nor in f, that holds `new`
+abbrev pub Out : Sizes → (ℕ → Frame) → ℕ → Frame → ℕ → Type 0
+Out z frame f new i = Elsewhere z frame f i × (new .page ≡ suc i → new .transfer ≡ READING)
+
 -- a page that is out of all other frames, and the frame's own page if that is being read, is away
-pub away-but : (z : Sizes) (frame : ℕ → Frame) (f i : ℕ) → ((g : ℕ) → g < z .frames → ¬ (g ≡ f) → frame g .page ≡ suc i → frame g .transfer ≡ READING) → (frame f .page ≡ suc i → frame f .transfer ≡ READING) → Away z frame i
+pub away-but : (z : Sizes) (frame : ℕ → Frame) (f i : ℕ) → Elsewhere z frame f i → (frame f .page ≡ suc i → frame f .transfer ≡ READING) → Away z frame i
 away-but z frame f i a b g h p = elim (ℕ-discrete g f) [ yes e ↦ rw e (b (rw e at p)) | no e ↦ a g h e p ]
 
 -- what the ledger says of a frame, where the frame, its page and the notes are alike
@@ -94,10 +102,6 @@ module _ (z : Sizes) (st : State) (l : Ledger) (f : ℕ) (new : Frame) (core′ 
   abbrev active : ℕ → ℕ
   active = at (st .memory .slots .active)
 
-  -- the page is in no frame, or in one that is being read
-  abbrev pub Out : ℕ → Type 0
-  Out i = ((g : ℕ) → g < z .frames → ¬ (g ≡ f) → frame g .page ≡ suc i → frame g .transfer ≡ READING) × (new .page ≡ suc i → new .transfer ≡ READING)
-
   pub record OneFrame : Type 0 where
     pub within : f < z .frames
     pub stored : frame′ f ≡ new
@@ -114,8 +118,8 @@ module _ (z : Sizes) (st : State) (l : Ledger) (f : ℕ) (new : Frame) (core′ 
     -- the pages
     pub was : (i : ℕ) → i < allPages z → (r : ℕ) → address′ i ≡ suc r → state′ r ≡ LIVE → (address i ≡ suc r) × (state r ≡ LIVE)
     pub live : (i : ℕ) → i < allPages z → T (pages′ .live i) → (r : ℕ) × (address′ i ≡ suc r) × (state′ r ≡ LIVE)
-    pub paged : (i : ℕ) → i < allPages z → Out i → (r : ℕ) → address′ i ≡ suc r → state′ r ≡ LIVE → (n : ℕ) → n < z .words → at (st .disk .records) (r * z .words + n) ≡ pages′ .text i n
-    pub void : (i : ℕ) → i < allPages z → active (slotOf z i) ≡ 1 → Out i → ((r : ℕ) → address′ i ≡ suc r → ¬ (state′ r ≡ LIVE)) → (n : ℕ) → n < z .words → pages′ .text i n ≡ 0
+    pub paged : (i : ℕ) → i < allPages z → Out z frame f new i → (r : ℕ) → address′ i ≡ suc r → state′ r ≡ LIVE → (n : ℕ) → n < z .words → at (st .disk .records) (r * z .words + n) ≡ pages′ .text i n
+    pub void : (i : ℕ) → i < allPages z → active (slotOf z i) ≡ 1 → Out z frame f new i → ((r : ℕ) → address′ i ≡ suc r → ¬ (state′ r ≡ LIVE)) → (n : ℕ) → n < z .words → pages′ .text i n ≡ 0
     pub asleep : (i : ℕ) → i < allPages z → ¬ (active (slotOf z i) ≡ 1) → (n : ℕ) → pages′ .text i n ≡ l .pages .text i n
     pub kept : (i : ℕ) → T (pages′ .kept i) → T (l .pages .kept i) × ((n : ℕ) → pages′ .text i n ≡ l .pages .text i n)
 
@@ -146,5 +150,5 @@ module _ (z : Sizes) (st : State) (l : Ledger) (f : ℕ) (new : Frame) (core′ 
     };
   }
     where
-      out : (i : ℕ) → Away z frame′ i → Out i
+      out : (i : ℕ) → Away z frame′ i → Out z frame f new i
       out i a = (λ g h e p. sym (c .frames g h e .transfer) ∙ a g h (c .frames g h e .page ∙ p), λ p. sym (ap (λ (x : Frame). x .transfer) (c .stored)) ∙ a f (c .within) (ap (λ (x : Frame). x .page) (c .stored) ∙ p))

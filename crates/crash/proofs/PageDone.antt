@@ -9,6 +9,7 @@ use lib.ListN.{set}
 use lib.Seq.{getD-set-same}
 use Rattle.tables.specs.Base.{at}
 use Rattle.tables.specs.Store.{Split}
+use Rattle.tables.specs.Laws.{not-zero}
 use Rattle.model.specs.declared.frame.Frame.{Frame}
 use Rattle.model.specs.declared.sizes.Sizes.{Sizes}
 use Rattle.model.specs.State.{State, noFrame, frameAt, NONE, READING, WRITING}
@@ -19,7 +20,7 @@ use Rattle.model.specs.Pages.{fresh}
 use Rattle.model.specs.Stores.{cooled, recordIn, freeFrame, readGood, readFailed, writeFailed}
 use Rattle.model.specs.Fit.{Fit}
 use Rattle.model.specs.Ledger.{Ledger, put, strikeWrite}
-use Rattle.invariant.proofs.Stands.{not-zero, seat-at, moving-place}
+use Rattle.invariant.proofs.Stands.{seat-at, moving-place}
 use Rattle.crash.proofs.Writes.{put-other, put-same}
 use Rattle.crash.proofs.Link.{Tied}
 use Rattle.crash.proofs.OneFrame.{one-frame, other-frame, away-but}

@@ -8,7 +8,7 @@ use native.Mathlib.Omega.{arith}
 use lib.Dec.{T}
 use lib.ListN.{length}
 use Rattle.tables.specs.Base.{at, if, tab}
-use Rattle.tables.specs.Laws.{at-tab0}
+use Rattle.tables.specs.Laws.{at-tab0, not-zero}
 use Rattle.tables.specs.Rule.{Holds, test, decided, told, untold}
 use Rattle.tables.specs.Store.{Split, store, at-store}
 use Rattle.model.specs.declared.frame.Frame.{Frame}
@@ -25,7 +25,7 @@ use Rattle.model.specs.Step.{carried}
 use Rattle.model.specs.Ledger.{Ledger, note, over}
 use Rattle.model.specs.Acts.{fed}
 use Rattle.model.specs.Index.{page-again}
-use Rattle.invariant.proofs.Stands.{not-zero}
+use Rattle.invariant.proofs.Records.{was as entry-was, stays as entry-stays}
 use Rattle.crash.proofs.Writes.{split-over}
 use Rattle.crash.proofs.Link.{Away, Tied}
 use Rattle.crash.proofs.Steps.{Before}
@@ -69,16 +69,10 @@ module _ (z : Sizes) (s k : ℕ) (st : State) (l : Ledger) (b : Before z st l (E
       e = at-tab0 (length (st .memory .core .frames)) (λ g. if (test (cutFrame z st s k g)) noFrame (fs g)) f noFrame (rw (b .fit .memory .frames) h)
 
   was : (i : ℕ) → i < allPages z → (r : ℕ) → address′ i ≡ suc r → state′ r ≡ LIVE → (¬ (Cut i)) × ((address i ≡ suc r) × (state r ≡ LIVE))
-  was i h r p e = elim (address-split i h) [
-    | inl x ↦ absurd (omega (arith, x .1, p))
-    | inr x ↦ let q = sym (x .1) ∙ p in (x .0, (q, elim (state-split r (b .ruled .records .address-fit i h r q)) [ inl y ↦ absurd (omega (arith, y .1, e)) | inr y ↦ sym (y .1) ∙ e ]))
-  ]
+  was i h r p e = let q = entry-was (address-split i h) p (omega arith) in (q .0, (q .1, entry-was (state-split r (b .ruled .records .address-fit i h r (q .1))) e (omega arith) .1))
 
   stays : (i : ℕ) → i < allPages z → ¬ (Cut i) → (r : ℕ) → address i ≡ suc r → (address′ i ≡ suc r) × (state′ r ≡ state r)
-  stays i h n r p = (
-    elim (address-split i h) [ inl x ↦ absurd (n (x .0)) | inr x ↦ x .1 ∙ p ],
-    elim (state-split r (b .ruled .records .address-fit i h r p)) [ inl y ↦ absurd (n (subst (λ (j : ℕ). Cut j) (b .ruled .records .held-once (y .0 .0) (y .0 .1) i h r (y .0 .2 .1) p) (y .0 .2 .0))) | inr y ↦ y .1 ],
-  )
+  stays i h n r p = (entry-stays (address-split i h) n ∙ p, entry-stays (state-split r (b .ruled .records .address-fit i h r p)) (λ y. n (subst (λ (j : ℕ). Cut j) (b .ruled .records .held-once (y .0) (y .1) i h r (y .2 .1) p) (y .2 .0))))
 
   -- a page that is not cut off keeps its frame; a frame that is freed was in service
   kept-frame : (i : ℕ) → ¬ (Cut i) → (f : ℕ) → f < z .frames → fs f .page ≡ suc i → fs′ f ≡ fs f

@@ -25,7 +25,7 @@ use Rattle.model.specs.Ledger.{Ledger, note, put, begun}
 use Rattle.model.specs.Acts.{fed}
 use Rattle.model.specs.Demand3.{lastInto}
 use Rattle.model.specs.Index.{split-set, page-again}
-use Rattle.invariant.proofs.Records.{would-live, live-would}
+use Rattle.invariant.proofs.Records.{would-live, live-would, was as entry-was, stays as entry-stays, turns as entry-turns}
 use Rattle.crash.proofs.Writes.{split-put}
 use Rattle.crash.proofs.Link.{Newest, Tied}
 use Rattle.crash.proofs.Steps.{Before}
@@ -77,26 +77,17 @@ module _ (z : Sizes) (s : ℕ) (st : State) (l : Ledger) (b : Before z st l (Eve
   not-leaving r e x = elim x [ inl y ↦ not-nulled (y .0) r (y .2 .1) e (y .2 .0) | inr y ↦ omega (arith, y .1, e) ]
 
   lives : (i : ℕ) → i < allPages z → (r : ℕ) → address i ≡ suc r → state r ≡ LIVE → (address′ i ≡ suc r) × (state′ r ≡ LIVE)
-  lives i h r p e = (
-    elim (address-split i h) [ inl x ↦ absurd (not-nulled i r p e (x .0)) | inr x ↦ x .1 ∙ p ],
-    elim (state-split r (b .ruled .records .address-fit i h r p)) [ inl x ↦ absurd (not-leaving r e (x .0)) | inr x ↦ x .1 ∙ e ],
-  )
+  lives i h r p e = (entry-stays (address-split i h) (not-nulled i r p e) ∙ p, entry-stays (state-split r (b .ruled .records .address-fit i h r p)) (not-leaving r e) ∙ e)
 
   listed : (i : ℕ) → i < allPages z → slotOf z i ≡ s → (r : ℕ) → address i ≡ suc r → state r ≡ LIVE → image′ i ≡ suc r
-  listed i h a r p e = elim (image-split i h) [
-    | inl x ↦ x .1 ∙ live-would z st i r p e
-    | inr x ↦ absurd (x .0 a)
-  ]
+  listed i h a r p e = entry-turns (image-split i h) a ∙ live-would z st i r p e
 
   was : (i : ℕ) → i < allPages z → (r : ℕ) → address′ i ≡ suc r → state′ r ≡ LIVE → (address i ≡ suc r) × (state r ≡ LIVE)
-  was i h r p e = elim (address-split i h) [
-    | inl x ↦ absurd (omega (arith, x .1, p))
-    | inr x ↦ let q = sym (x .1) ∙ p in (q, elim (state-split r (b .ruled .records .address-fit i h r q)) [ inl y ↦ absurd (omega (arith, y .1, e)) | inr y ↦ sym (y .1) ∙ e ])
-  ]
+  was i h r p e = let q = entry-was (address-split i h) p (omega arith) .1 in (q, entry-was (state-split r (b .ruled .records .address-fit i h r q)) e (omega arith) .1)
 
   -- a page in a frame keeps its address
   framed-stays : (f : ℕ) → f < z .frames → (i : ℕ) → frameAt (st .memory .core .frames) f .page ≡ suc i → address′ i ≡ address i
-  framed-stays f h i p = elim (address-split i (b .ruled .frames .fit f h .0 i p)) [ inl x ↦ absurd (x .0 .1 .1 (f, h, p)) | inr x ↦ x .1 ]
+  framed-stays f h i p = entry-stays (address-split i (b .ruled .frames .fit f h .0 i p)) (λ x. x .1 .1 (f, h, p))
 
   abbrev flag′ : ℕ → Bool
   flag′ = put (l .pending .updating) s true

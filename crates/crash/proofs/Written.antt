@@ -24,7 +24,7 @@ use Rattle.invariant.proofs.Stands.{frame-of}
 use Rattle.crash.proofs.Writes.{split-put, put-other, put-same}
 use Rattle.crash.proofs.Link.{Away, Tied}
 use Rattle.crash.proofs.Steps.{Before}
-use Rattle.crash.proofs.OneFrame.{one-frame, other-frame, away-but}
+use Rattle.crash.proofs.OneFrame.{one-frame, other-frame, away-but, Out}
 
 module _ (z : Sizes) (s p n x : ℕ) (st : State) (l : Ledger) (b : Before z st l (Event.Page (Write s p n x))) where
   abbrev i₀ : ℕ
@@ -85,7 +85,7 @@ module _ (z : Sizes) (s p n x : ℕ) (st : State) (l : Ledger) (b : Before z st 
       at-i₀ : (a : ℕ) → text′ i₀ a ≡ put (text i₀) n x a
       at-i₀ a = ap (λ (h : ℕ → ℕ). h a) (put-same text i₀ (put (text i₀) n x))
 
-  was-away : (i : ℕ) → ((g : ℕ) → g < z .frames → ¬ (g ≡ f) → fs g .page ≡ suc i → fs g .transfer ≡ READING) × (new .page ≡ suc i → new .transfer ≡ READING) → Away z fs i
+  was-away : (i : ℕ) → Out z fs f new i → Away z fs i
   was-away i a = away-but z fs f i (a .0) (a .1)
 
   not-here : (i : ℕ) → (new .page ≡ suc i → new .transfer ≡ READING) → ¬ (i ≡ i₀)

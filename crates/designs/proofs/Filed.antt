@@ -1,14 +1,13 @@
 -- Limit, create and delete over the full state: one disk store, and every count as it was.
 use mathlib.Core.Path.{_≡_, refl, sym, subst}
 use mathlib.Core.Logic.{_⊎_, inl, inr}
-use mathlib.Core.List.{List}
 use Prim.Native.Nat.{ℕ, _<_}
 use native.Mathlib.Omega.{arith}
 use native.Mathlib.Decide.{ℕ-discrete}
 use lib.Dec.{T, ltb, ltb→lt}
 use lib.ListN.{set}
 use lib.Seq.{getD-set-other}
-use Rattle.tables.specs.Base.{at, if}
+use Rattle.tables.specs.Base.{at}
 use Rattle.tables.specs.Laws.{if-no}
 use Rattle.tables.specs.Questions.{Asked}
 use Rattle.tables.specs.Rule.{test}

@@ -1,5 +1,4 @@
 pub mod Tests
-pub mod Places
 pub mod Live
 pub mod Carried
 pub mod Kept

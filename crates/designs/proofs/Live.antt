@@ -1,12 +1,12 @@
 -- What an update now would store for a page, by the page's address and its record's state.
-use mathlib.Core.Path.{_≡_, refl, ap, sym, _∙_}
+use mathlib.Core.Path.{_≡_, ap, sym, _∙_}
 use mathlib.Core.Logic.{inl, inr}
 use mathlib.Core.List.{List}
 use Prim.Native.Nat.{ℕ, suc, _-_}
 use native.Mathlib.Omega.{arith}
 use Rattle.tables.specs.Base.{at}
 use Rattle.tables.specs.Laws.{if-true, if-false}
-use Rattle.tables.specs.Rule.{Rule, Holds, same, names, sound, complete, decided, test}
+use Rattle.tables.specs.Rule.{Rule, same, names, sound, complete, decided, test}
 use Rattle.tables.specs.Store.{Split}
 use Rattle.model.specs.Lines.{LIVE}
 use Rattle.designs.specs.Asks.{liveAddress}

@@ -1,25 +1,24 @@
 -- Activate and deactivate over the full state: addresses, states and switch of one slot, and every count as it was.
 use mathlib.Core.Path.{_≡_, refl, ap, sym, _∙_, subst}
 use mathlib.Core.Bool.{Bool}
-use mathlib.Core.Logic.{_⊎_, inl, inr}
-use mathlib.Core.List.{List}
+use mathlib.Core.Logic.{inl, inr}
 use Prim.Native.Nat.{ℕ, suc, _-_, _<_}
 use native.Mathlib.Omega.{arith}
 use native.Mathlib.Decide.{ℕ-discrete}
 use borrow.Author.Tests.{ne-eqb}
-use lib.Dec.{T, eqb, ltb}
-use lib.ListN.{length, set}
+use lib.Dec.{eqb, ltb}
+use lib.ListN.{set}
 use lib.Seq.{getD-set-same, getD-set-other}
 use Rattle.tables.specs.Base.{at, if}
 use Rattle.tables.specs.Laws.{if-yes, if-no}
 use Rattle.tables.specs.Questions.{Asked}
-use Rattle.tables.specs.Rule.{Rule, Holds, same, below, _and_, test, alike}
+use Rattle.tables.specs.Rule.{Holds, same, below, _and_, test, alike}
 use Rattle.tables.specs.Store.{Split, store, at-store}
 use Rattle.model.specs.declared.sizes.Sizes.{Sizes}
 use Rattle.model.specs.declared.event.Event.the-variants as Event
 use Rattle.model.specs.declared.event.Design.the-variants.{Activate, Deactivate}
 use Rattle.model.specs.Lines.{FREE, FILED, LIVE}
-use Rattle.model.specs.State.{State, Files, Frames, files, frames, allPages, slotOf, framed, live, charged, payer}
+use Rattle.model.specs.State.{State, Files, files, frames, allPages, slotOf, framed, live, charged, payer}
 use Rattle.model.specs.Setters.{counted}
 use Rattle.model.specs.Parts.{ofSlot}
 use Rattle.model.specs.Questions.{questions, wouldStore}

@@ -2,7 +2,6 @@
 use mathlib.Core.List.{List, []}
 use Prim.Native.Nat.{ℕ}
 use Rattle.model.specs.declared.frame.Frame.{Frame}
-use Rattle.model.specs.declared.frame.Pool.{Pool}
 use Rattle.model.specs.State.{State}
 use Rattle.model.specs.Lent.{stateOf}
 

@@ -3,7 +3,7 @@ use mathlib.Core.Path.{_≡_, refl, ap, sym, _∙_, subst}
 use mathlib.Core.Bool.{Bool, true, false, not, _&&_}
 use mathlib.Core.Logic.{inl, inr}
 use mathlib.Core.List.{List}
-use Prim.Native.Nat.{ℕ, suc, _-_, _*_, _<_, _≤_}
+use Prim.Native.Nat.{ℕ, suc, _-_, _*_, _<_}
 use native.Mathlib.Omega.{arith}
 use native.Mathlib.Decide.{ℕ-discrete}
 use lib.Dec.{T}
@@ -32,6 +32,7 @@ use Rattle.model.specs.Lent.{stateOf, same-state}
 use Rattle.model.specs.Step.{Outcome, carried, result}
 use Rattle.model.specs.Own.{own, refusal}
 use Rattle.model.specs.OwnLaws.{done, own-no, own-yes}
+use Rattle.model.specs.Ruled.{once-free}
 use Rattle.parts.specs.Counts.{counts, usedCounts, counts-more, counts-same, free-less}
 use Rattle.parts.specs.FreeMap.{freeMap, free-map-clear}
 use Rattle.pages.specs.Seen.{seenFault}
@@ -111,10 +112,7 @@ module _ (z : Sizes) (st : State) (k : Kept z st) where
 
       -- the first queued frame has no page
       bare : frameAt (core .frames) f .page ≡ 0
-      bare = k .rules .frames .free f inside (λ h. omega (arith, h, first-once (core .free-queue) (k .fits .memory .free-queue) (k .rules .queues .free-queue) queued-once (ok .1 .1 .1 .1 .1 .1 .1 .0))) .0
-        where
-          queued-once : (x : ℕ) → x < z .frames → c .queued x ≤ 1
-          queued-once x l = omega (arith, k .rules .frames .in-one-place x l)
+      bare = k .rules .frames .free f inside (λ h. omega (arith, h, first-once (core .free-queue) (k .fits .memory .free-queue) (k .rules .queues .free-queue) (once-free z st (k .rules)) (ok .1 .1 .1 .1 .1 .1 .1 .0))) .0
 
       its-slot : slotOf z i ≡ s
       its-slot = slot-of-page z (k .fits .sizes .pages) s p (ok .0 .1)

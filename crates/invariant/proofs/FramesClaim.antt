@@ -24,7 +24,7 @@ use Rattle.model.specs.Questions.{questions}
 use Rattle.model.specs.Pages.{onFrame}
 use Rattle.model.specs.Stores
 use Rattle.model.specs.Stores.{Looked, looking, freeFrame, recordIn, beginsWrite, zeros}
-use Rattle.model.specs.Ruled.{Ruled}
+use Rattle.model.specs.Ruled.{Ruled, once-list}
 use Rattle.model.specs.Fit.{Fit}
 use Rattle.invariant.proofs.Lengths.{Long, long}
 use Rattle.invariant.proofs.Framed.{Framed, Framing}
@@ -34,7 +34,7 @@ use Rattle.invariant.proofs.NewSeats.{Switched, seat-switched}
 use Rattle.invariant.proofs.QueueMoves.{Moved, unmoved}
 use Rattle.invariant.proofs.OneFrame.{one-frame}
 use Rattle.invariant.proofs.Looks.{Took, looking-takes}
-use Rattle.invariant.proofs.Stands.{still, seat-at, once-list}
+use Rattle.invariant.proofs.Stands.{still, seat-at}
 use Rattle.invariant.proofs.Freed.{set-there, set-elsewhere, freed, state-kept}
 
 -- the frames and the list as the looks leave them

@@ -23,7 +23,7 @@ use Rattle.model.specs.Parts.{setPart, wordAt}
 use Rattle.model.specs.Pages.{fresh}
 use Rattle.model.specs.Stores
 use Rattle.model.specs.Stores.{recordIn, cooled}
-use Rattle.model.specs.Ruled.{Ruled}
+use Rattle.model.specs.Ruled.{Ruled, once-list}
 use Rattle.model.specs.Fit.{Fit}
 use Rattle.invariant.proofs.Lengths.{long}
 use Rattle.invariant.proofs.Framed.{Framed, Framing}
@@ -33,7 +33,7 @@ use Rattle.invariant.proofs.NewSeats.{seat-fresh}
 use Rattle.invariant.proofs.QueueMoves.{Moved, unmoved, moved-back, moved-front}
 use Rattle.invariant.proofs.OneFrame.{one-frame}
 use Rattle.invariant.proofs.FrameParts.{part-set, part-other}
-use Rattle.invariant.proofs.Stands.{moving-place, seat-at, once-list}
+use Rattle.invariant.proofs.Stands.{moving-place, seat-at}
 use Rattle.invariant.proofs.FramesServed.{switched-framing}
 use Rattle.invariant.proofs.Freed.{set-there, set-elsewhere, freed, own-page, own-fit, own-record, not-own, state-kept}
 

@@ -27,7 +27,7 @@ use Rattle.model.specs.Parts.{pick}
 use Rattle.model.specs.Choice.{pick-below, pick-free}
 use Rattle.model.specs.Pages
 use Rattle.model.specs.Pages.{awaiting, fresh, faultFrame}
-use Rattle.model.specs.Ruled.{Ruled}
+use Rattle.model.specs.Ruled.{Ruled, once-free, once-list}
 use Rattle.model.specs.Fit.{Fit}
 use Rattle.invariant.proofs.Lengths.{HeldFit, long}
 use Rattle.invariant.proofs.Framed.{Framed, Framing}
@@ -37,7 +37,7 @@ use Rattle.invariant.proofs.NewSeats.{seat-awaiting, seat-fresh}
 use Rattle.invariant.proofs.QueueMoves.{Moved, unmoved, moved-first, moved-front}
 use Rattle.invariant.proofs.OneFrame.{one-frame}
 use Rattle.invariant.proofs.FrameParts.{part-of, part-fit, part-set, part-other}
-use Rattle.invariant.proofs.Stands.{seat-at, once-free, once-list}
+use Rattle.invariant.proofs.Stands.{seat-at}
 use Rattle.invariant.proofs.Freed.{set-there, set-elsewhere}
 
 module _ (z : Sizes) (st : State) (f : Fit z st) (r : Ruled z st) where

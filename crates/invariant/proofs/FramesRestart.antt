@@ -4,18 +4,16 @@ use mathlib.Core.Bool.{true}
 use mathlib.Core.List.{List, []}
 use Prim.Native.Nat.{ℕ, _*_, _<_, _≤_}
 use native.Mathlib.Omega.{arith}
-use lib.ListN.{length, replicate, length-replicate, getD-replicate}
-use Rattle.tables.specs.Base.{at, if, tab}
+use lib.ListN.{length, length-replicate, getD-replicate}
+use Rattle.tables.specs.Base.{at, tab}
 use Rattle.tables.specs.Laws.{length-tab}
-use Rattle.tables.specs.Queue.{packed}
 use Rattle.tables.specs.TimesLaws.{times-nil}
 use Rattle.tables.specs.ThoseLaws.{tab-those, times-those, those-within}
 use Rattle.tables.specs.QueueLaws.{length-packed, members-packed, queue-packed}
 use Rattle.model.specs.declared.sizes.Sizes.{Sizes}
 use Rattle.model.specs.declared.frame.Frame.{Frame}
-use Rattle.model.specs.Lines.{FREE, FILED}
-use Rattle.model.specs.State.{Disk, State, files, frames, noFrame, allPages, slotOf}
-use Rattle.model.specs.Restart.{restarted, isListed, listedAt}
+use Rattle.model.specs.State.{Disk, State, files, frames, noFrame, allPages}
+use Rattle.model.specs.Restart.{restarted, uncounted}
 use Rattle.model.specs.Fit.{Within, DiskFit}
 use Rattle.invariant.proofs.Framed.{Framed, Framing}
 use Rattle.invariant.proofs.Counts.{counted-framed}
@@ -30,23 +28,8 @@ module _ (z : Sizes) (d : Disk) (within : Within z) (fit : DiskFit z d) where
   line-long : length line ≤ z .frames
   line-long = omega (arith, length-tab (z .frames) (λ (f : ℕ). f) 0)
 
-  -- the state before its counts
   abbrev begun : State
-  begun = record {
-    disk = d;
-    memory = record {
-      core = record { frames = replicate (z .frames) noFrame; words = replicate (z .frames * z .words) 0; free-queue = packed (z .frames) line; removal-list = packed (z .frames) [] };
-      held = record {
-        addresses = replicate (allPages z) 0;
-        states = tab (z .records) (λ r. if (isListed z d r) FILED FREE) 0;
-        owners = tab (z .records) (λ r. if (isListed z d r) (slotOf z (listedAt z d r)) 0) 0;
-        free-map = [];
-        pool = record { hand = 0; free = 0 };
-      };
-      slots = record { active = replicate (z .slots) 0; updating = replicate (z .slots) 0; images = replicate (allPages z) 0 };
-      used = [];
-    };
-  }
+  begun = uncounted z d
 
   empty : (f : ℕ) → f < z .frames → frames begun .frame f ≡ noFrame
   empty f l = getD-replicate (z .frames) f noFrame noFrame l

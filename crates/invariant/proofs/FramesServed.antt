@@ -24,7 +24,7 @@ use Rattle.model.specs.Parts.{frameOf}
 use Rattle.model.specs.Designs
 use Rattle.model.specs.Pages
 use Rattle.model.specs.Pages.{onFrame}
-use Rattle.model.specs.Ruled.{Ruled}
+use Rattle.model.specs.Ruled.{Ruled, once-list}
 use Rattle.model.specs.Fit.{Fit}
 use Rattle.invariant.proofs.Lengths.{long}
 use Rattle.invariant.proofs.Framed.{Framed, Framing}
@@ -34,7 +34,7 @@ use Rattle.invariant.proofs.NewSeats.{Switched, seat-switched}
 use Rattle.invariant.proofs.QueueMoves.{Moved, unmoved, moved-back, moved-out}
 use Rattle.invariant.proofs.OneFrame.{one-frame}
 use Rattle.invariant.proofs.FrameParts.{word-other}
-use Rattle.invariant.proofs.Stands.{frame-of, unqueued, still-place, seat-at, once-list}
+use Rattle.invariant.proofs.Stands.{frame-of, unqueued, still-place, seat-at}
 
 module _ (z : Sizes) (st : State) (f : Fit z st) (r : Ruled z st) where
   -- Only the core changes: frame k gets new switches, the list and the frames' words may change.

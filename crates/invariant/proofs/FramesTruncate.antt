@@ -28,7 +28,7 @@ use Rattle.model.specs.Questions.{questions}
 use Rattle.model.specs.Parts.{fromPage, frameOf}
 use Rattle.model.specs.Stores
 use Rattle.model.specs.Stores.{cutFrame, cutFrames, cutRecord}
-use Rattle.model.specs.Ruled.{Ruled}
+use Rattle.model.specs.Ruled.{Ruled, once-free}
 use Rattle.model.specs.Fit.{Fit}
 use Rattle.invariant.proofs.Lengths.{long}
 use Rattle.invariant.proofs.Framed.{Framed, Framing}
@@ -37,7 +37,7 @@ use Rattle.invariant.proofs.Seats.{SeatAt, Kept, seated, seat-kept, coo
 use Rattle.invariant.proofs.NewSeats.{seat-free}
 use Rattle.invariant.proofs.OneFrame.{once-kept}
 use Rattle.invariant.proofs.FrameParts.{unstored, part-of, place-of}
-use Rattle.invariant.proofs.Stands.{frame-of, unqueued, seat-at, once-free}
+use Rattle.invariant.proofs.Stands.{frame-of, unqueued, seat-at}
 
 module _ (z : Sizes) (st : State) (f : Fit z st) (r : Ruled z st) (s k : ℕ) where
   abbrev fq : List ℕ

@@ -6,11 +6,12 @@ use native.Mathlib.Omega.{arith}
 use lib.ListN.{length, set, length-set}
 use lib.Seq.{getD-set-same, getD-set-other}
 use Rattle.tables.specs.Base.{at}
+use Rattle.tables.specs.Laws.{not-zero}
 use Rattle.model.specs.declared.sizes.Sizes.{Sizes}
 use Rattle.model.specs.declared.frame.Frame.{Frame}
 use Rattle.model.specs.State.{State, files, frames, frameAt, noFrame, allPages}
 use Rattle.model.specs.Stores.{freeFrame, recordIn}
-use Rattle.model.specs.Ruled.{Ruled}
+use Rattle.model.specs.Ruled.{Ruled, once-free}
 use Rattle.model.specs.Fit.{Fit}
 use Rattle.invariant.proofs.Lengths.{Long}
 use Rattle.invariant.proofs.Framed.{Framing}
@@ -18,7 +19,7 @@ use Rattle.invariant.proofs.Seats.{Cooler, Kept, textOf}
 use Rattle.invariant.proofs.NewSeats.{seat-free}
 use Rattle.invariant.proofs.QueueMoves.{Moved, moved-back}
 use Rattle.invariant.proofs.OneFrame.{one-frame}
-use Rattle.invariant.proofs.Stands.{not-zero, seat-at, once-free}
+use Rattle.invariant.proofs.Stands.{seat-at}
 
 -- frame k after its entry is stored, and each other frame
 pub set-there : (z : Sizes) (gs : List Frame) → length gs ≡ z .frames → (k : ℕ) → k < z .frames → (g : Frame) → frameAt (set gs k g) k ≡ g

@@ -1,23 +1,22 @@
 -- Every event keeps both sets of rules and all lengths; so do restart and format, and a cut keeps the disk rules.
-use mathlib.Core.Path.{_≡_, refl, ap, sym, _∙_}
-use mathlib.Core.Bool.{Bool, true, false}
+use mathlib.Core.Path.{_≡_, refl}
+use mathlib.Core.Bool.{Bool}
 use Prim.Native.Nat.{ℕ, zero, suc, _+_, _≤_}
-use lib.Dec.{T}
 use Rattle.tables.specs.Queue.{size}
-use Rattle.tables.specs.Questions.{Questions, Asked, none, ask, firstNo, all-yes, yes-all}
-use Rattle.tables.specs.Rule.{Holds, _and_}
+use Rattle.tables.specs.Questions.{Asked, none, ask, firstNo, all-yes, yes-all}
+use Rattle.tables.specs.Rule.{Holds}
 use Rattle.model.specs.declared.sizes.Sizes.{Sizes}
 use Rattle.model.specs.declared.event.Store.the-variants.{Claim}
 use Rattle.model.specs.declared.event.Event.{Event}
 use Rattle.model.specs.declared.event.Event.the-variants as Event
 use Rattle.model.specs.Sizes.{sizesFit}
-use Rattle.model.specs.State.{Disk, Memory, State, files}
+use Rattle.model.specs.State.{Memory, State, files}
 use Rattle.model.specs.Rules.{diskRules, allRules}
 use Rattle.model.specs.Ruled.{OnDisk, Ruled, ruled, rules, disk-ruled, rules-disk}
 use Rattle.model.specs.Questions.{questions}
 use Rattle.model.specs.Restart as R
-use Rattle.model.specs.Step.{Outcome, outcome, diskLengths, allFit, asked, answer, carried, result, step, restart, format, in-order}
-use Rattle.model.specs.Fit.{Fit, within, fit, all-fit, disk-fit}
+use Rattle.model.specs.Step.{outcome, allFit, asked, answer, carried, result, step, restart, in-order}
+use Rattle.model.specs.Fit.{Fit, within, fit, all-fit}
 use Rattle.model.specs.Acts as A
 use Rattle.invariant.proofs.Framed.{Framed}
 use Rattle.invariant.proofs.FramesKept.{frames-kept}

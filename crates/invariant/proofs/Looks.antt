@@ -2,21 +2,20 @@
 use mathlib.Core.Path.{_≡_, refl, sym, _∙_}
 use mathlib.Core.Bool.{Bool, true, false}
 use mathlib.Core.List.{List, [], _∷_, _++_}
-use mathlib.Core.Logic.{_⊎_, inl, inr}
+use mathlib.Core.Logic.{inl, inr}
 use Prim.Native.Nat.{ℕ, zero, suc, _+_, _<_, _≤_}
 use native.Mathlib.Omega.{arith}
-use native.Mathlib.Decide.{ℕ-discrete, decLt}
 use lib.Dec.{eqb}
-use lib.ListN.{length, set, length-set, length-append, List·getD-eq-default}
-use lib.Seq.{getD-set-same, getD-set-other, set-out}
+use lib.ListN.{length, length-set, length-append}
 use Rattle.tables.specs.Base.{if}
 use Rattle.tables.specs.Queue.{members, times, size}
 use Rattle.tables.specs.TimesLaws.{times-cons, times-rotate}
 use Rattle.tables.specs.QueueLaws.{size-members}
 use Rattle.model.specs.declared.sizes.Sizes.{Sizes}
 use Rattle.model.specs.declared.frame.Frame.{Frame}
-use Rattle.model.specs.State.{State, frameAt, noFrame}
+use Rattle.model.specs.State.{State, frameAt}
 use Rattle.model.specs.Stores.{Looked, look, looking, warm, cooled}
+use Rattle.model.specs.LookLaws.{cool, cool-at, warms, warms-le, fewer}
 use Rattle.invariant.proofs.Seats.{Cooler, cooler-same}
 
 cooler-trans : {a b c : Frame} → Cooler a b → Cooler b c → Cooler a c
@@ -25,41 +24,8 @@ cooler-trans p q = record { page = p .page ∙ q .page; modified = p .modified �
 cooled-cooler : (g : Frame) → Cooler (cooled g) g
 cooled-cooler g = record { page = refl; modified = refl; wired = refl; transfer = refl; used = omega arith; initial = omega arith }
 
-abbrev cool : List Frame → ℕ → List Frame
-cool fs f = set fs f (cooled (frameAt fs f))
-
--- a frame after one look at f
-cool-at : (fs : List Frame) (f x : ℕ) → (frameAt (cool fs f) x ≡ cooled (frameAt fs x)) ⊎ ((¬ (x ≡ f)) × (frameAt (cool fs f) x ≡ frameAt fs x))
-cool-at fs f x = elim (ℕ-discrete x f) [
-  | yes e ↦ inl (rw e (elim (decLt f (length fs)) [
-    | yes h ↦ getD-set-same fs f _ noFrame h
-    | no h ↦ rw (set-out fs f (cooled (frameAt fs f)) (omega arith), List·getD-eq-default fs noFrame {n = f} (omega arith))
-  ]))
-  | no e ↦ inr (e, getD-set-other fs f x _ noFrame e)
-]
-
 cool-cooler : (fs : List Frame) (f x : ℕ) → Cooler (frameAt (cool fs f) x) (frameAt fs x)
 cool-cooler fs f x = elim (cool-at fs f x) [ inl e ↦ rw e (cooled-cooler (frameAt fs x)) | inr e ↦ rw (e .1) (cooler-same (frameAt fs x)) ]
-
--- how many entries are warm
-unfoldable warms : List Frame → List ℕ → ℕ
-warms fs [] = 0
-warms fs (x ∷ xs) = if (warm (frameAt fs x)) 1 0 + warms fs xs
-
-warms-le : (fs : List Frame) (xs : List ℕ) → warms fs xs ≤ length xs
-unfolding warms
-warms-le fs [] = omega arith
-warms-le fs (x ∷ xs) = go (warm (frameAt fs x)) (warms-le fs xs)
-  where
-    go : (b : Bool) → warms fs xs ≤ length xs → if b 1 0 + warms fs xs ≤ suc (length xs)
-    go true h = omega arith
-    go false h = omega arith
-
--- the entry looked at and moved to the end is warm no more
-fewer : (fs : List Frame) (f : ℕ) (xs : List ℕ) → warms (cool fs f) (xs ++ f ∷ []) ≤ warms fs xs
-unfolding warms
-fewer fs f [] = elim (cool-at fs f f) [ inl e ↦ rw e (omega arith) | inr e ↦ absurd (e .0 refl) ]
-fewer fs f (x ∷ xs) = elim (cool-at fs f x) [ inl e ↦ rw e (omega (arith, fewer fs f xs)) | inr e ↦ rw (e .1) (omega (arith, fewer fs f xs)) ]
 
 -- what at most k looks after n make of frames and list
 pub record Took (fs : List Frame) (xs : List ℕ) (k n : ℕ) (l : Looked) : Type 0 where

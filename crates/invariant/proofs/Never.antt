@@ -1,6 +1,6 @@
 -- Over every legal list of acts from a finished format no event is answered 1 or 2, and no restart is refused.
-use mathlib.Core.Path.{_≡_, refl, ap, sym, _∙_, subst}
-use mathlib.Core.Bool.{Bool, true, false, _&&_}
+use mathlib.Core.Path.{_≡_, refl, _∙_}
+use mathlib.Core.Bool.{Bool, true, false}
 use mathlib.Core.List.{List, [], _∷_}
 use Prim.Native.Nat.{ℕ, zero, suc, _<_}
 use native.Mathlib.Omega.{arith}
@@ -16,9 +16,9 @@ use Rattle.model.specs.State.{Memory, State, files}
 use Rattle.model.specs.Rules.{diskRules, allRules}
 use Rattle.model.specs.Ruled.{ruled, disk-ruled, rules-disk}
 use Rattle.model.specs.Questions.{questions, lookQuestions}
-use Rattle.model.specs.Step.{Outcome, outcome, diskLengths, memoryLengths, allFit, asked, answer, carried, result, step, restart, look, in-order}
+use Rattle.model.specs.Step.{outcome, diskLengths, memoryLengths, allFit, asked, answer, carried, result, step, restart, look, in-order}
 use Rattle.model.specs.Restart as R
-use Rattle.model.specs.Fit.{DiskFit, disk-fit, fit-disk, fit, all-fit}
+use Rattle.model.specs.Fit.{fit-disk, fit}
 use Rattle.model.specs.Own.{first-yes}
 use Rattle.model.specs.Acts.{Act, event, restarting, cutting, World, act, allowed, legal, run, start}
 use Rattle.model.specs.Acts as A

@@ -1,13 +1,13 @@
 -- Fault, claim and page done: each leaves pages, records and slots alone, or a page takes a free record, or a record in a frame becomes nulled or live.
 use mathlib.Core.Path.{_≡_, refl, ap, sym, subst}
 use mathlib.Core.Logic.{_⊎_, inl, inr}
-use Prim.Native.Nat.{ℕ, zero, suc, _<_, pred}
+use Prim.Native.Nat.{ℕ, suc, _<_, pred}
 use native.Mathlib.Omega.{arith}
 use native.Mathlib.Decide.{ℕ-discrete, decLt}
 use lib.Dec.{eqb, eqb→eq}
 use lib.ListN.{List·getD-eq-default}
 use Rattle.tables.specs.Base.{at, if}
-use Rattle.tables.specs.Laws.{if-elim, if-no}
+use Rattle.tables.specs.Laws.{if-elim, if-no, not-zero}
 use Rattle.tables.specs.CountLaws.{count-some}
 use Rattle.tables.specs.Questions.{Asked}
 use Rattle.tables.specs.Rule.{test, sound, same}
@@ -29,10 +29,6 @@ use Rattle.model.specs.Index.{slot-of-page, page-below}
 use Rattle.invariant.proofs.Records.{Kept, Done, counted-done}
 use Rattle.invariant.proofs.RecordsTaken.{moved, moved-kept, free-kept}
 
-nonzero : (n : ℕ) → ¬ (n ≡ 0) → n ≡ suc (pred n)
-nonzero zero e = absurd (e refl)
-nonzero (suc n) e = refl
-
 module _ (z : Sizes) (st : State) (f : Fit z st) (r : Ruled z st) where
   abbrev v : Files
   v = files st
@@ -46,8 +42,8 @@ module _ (z : Sizes) (st : State) (f : Fit z st) (r : Ruled z st) where
   -- ── the record of a page in a frame ──
   -- a frame that is not free has a page, and the page a record
   pub in-frame : (g : ℕ) → g < z .frames → c .queued g ≡ 0 → (i : ℕ) × (c .frame g .page ≡ suc i) × (i < allPages z) × (v .address i ≡ suc (Stores.recordIn z st g))
-  in-frame g h e = let i = pred (c .frame g .page) in let p = nonzero (c .frame g .page) (r .frames .busy g h e) in
-      (i, p, r .frames .fit g h .0 i p, nonzero (v .address i) (r .frames .held g h i p .0))
+  in-frame g h e = let i = pred (c .frame g .page) in let p = not-zero (c .frame g .page) (r .frames .busy g h e) in
+      (i, p, r .frames .fit g h .0 i p, not-zero (v .address i) (r .frames .held g h i p .0))
 
   -- so does a modified one, and one in transfer
   pub modified-frame : (g : ℕ) → c .frame g .modified ≡ 1 → (g < z .frames) × (c .queued g ≡ 0)

@@ -1,14 +1,12 @@
 -- Where a frame stands, by the rules: in which queue, in transfer, wired; and the frame of a page.
-use mathlib.Core.Path.{_≡_, refl}
-use Prim.Native.Nat.{ℕ, zero, suc, _+_, _<_, pred}
+use mathlib.Core.Path.{_≡_}
+use Prim.Native.Nat.{ℕ, suc, _+_, _<_}
 use native.Mathlib.Omega.{arith}
 use native.Mathlib.Decide.{ℕ-discrete}
 use lib.Dec.{eqb, eqb→eq}
 use Rattle.tables.specs.Base.{at, find}
 use Rattle.tables.specs.Laws.{found, Found, eq→T, if-yes, if-no}
 use Rattle.tables.specs.Rule.{Holds}
-use Rattle.tables.specs.Queue.{members}
-use Rattle.tables.specs.TimesLaws.{Once}
 use Rattle.model.specs.declared.sizes.Sizes.{Sizes}
 use Rattle.model.specs.declared.frame.Frame.{Frame}
 use Rattle.model.specs.State.{State, Files, Frames, files, frames, NONE, framed}
@@ -22,10 +20,6 @@ unfolding frameOf
 frame-of z c i h =
     let f : Found (z .frames) (λ k. eqb (c .frame k .page) (suc i)) 0 (find (z .frames) (λ k. eqb (c .frame k .page) (suc i)) 0) = found (z .frames) (λ k. eqb (c .frame k .page) (suc i)) 0 (h .0) (omega arith) (omega (arith, h .1)) (eq→T (h .2)) in
     (omega (arith, f .inside), eqb→eq _ _ (f .passes))
-
-pub not-zero : (a : ℕ) → ¬ (a ≡ 0) → a ≡ suc (pred a)
-not-zero zero d = absurd (d refl)
-not-zero (suc a) d = refl
 
 module _ {z : Sizes} {v : Files} {word : ℕ → ℕ} {g : Frame} {q l : ℕ} {text : ℕ → ℕ} (s : Seat z v word g q l text) where
   -- a frame with a page is not free
@@ -46,10 +40,3 @@ module _ {z : Sizes} {v : Files} {word : ℕ → ℕ} {g : Frame} {q l : ℕ} {t
 module _ (z : Sizes) (st : State) (r : Ruled z st) where
   pub seat-at : (f : ℕ) → f < z .frames → SeatAt z (files st) (frames st) (at (st .disk .records)) f
   seat-at f l = seat z (files st) (frames st) (at (st .disk .records)) (r .frames) f l
-
-  -- no frame stands twice in a queue
-  pub once-free : Once (z .frames) (members (st .memory .core .free-queue))
-  once-free f l = omega (arith, seat-at f l .place)
-
-  pub once-list : Once (z .frames) (members (st .memory .core .removal-list))
-  once-list f l = omega (arith, seat-at f l .place)

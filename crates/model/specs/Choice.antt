@@ -1,11 +1,11 @@
 -- Laws of the choice of a free record: it is below R, it is free, and it is found whenever one is free. Nothing else rests on its text.
-use mathlib.Core.Path.{_≡_, refl, ap, sym, _∙_}
+use mathlib.Core.Path.{_≡_, ap, _∙_}
 use mathlib.Core.Bool.{Bool}
-use Prim.Native.Nat.{ℕ, zero, suc, _+_, _-_, _%_, _<_, _≤_}
+use Prim.Native.Nat.{ℕ, _+_, _-_, _%_, _<_}
 use native.Mathlib.Nat.{mod-lt, mod-eq-of-lt, add-mod-right}
 use native.Mathlib.Omega.{arith}
 use native.Mathlib.Decide.{decLe}
-use lib.Dec.{T, eqb, eqb→eq}
+use lib.Dec.{eqb, eqb→eq}
 use Rattle.tables.specs.Base.{find}
 use Rattle.tables.specs.Laws.{found, Found, eq→T}
 use Rattle.model.specs.declared.sizes.Sizes.{Sizes}

@@ -1,6 +1,5 @@
 -- Demand 3: the claim about every list of acts.
 use mathlib.Core.Path.{_≡_}
-use mathlib.Core.Bool.{Bool}
 use mathlib.Core.List.{List, [], _∷_}
 use Prim.Native.Nat.{ℕ, suc, _%_, _<_}
 use lib.Dec.{T, eqb}

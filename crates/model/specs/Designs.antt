@@ -6,7 +6,7 @@ use Rattle.tables.specs.Rule.{same, _and_}
 use Rattle.tables.specs.Store.{store}
 use Rattle.model.specs.declared.sizes.Sizes.{Sizes}
 use Rattle.model.specs.Lines.{FILED, LIVE}
-use Rattle.model.specs.State.{Disk, Held, Slots, State, files}
+use Rattle.model.specs.State.{State}
 use Rattle.model.specs.Setters.{onDisk, onHeld, onSlots, setNumbers, setAccounts, setLimits, setAddresses, setStates, setActive, counted}
 use Rattle.model.specs.Parts.{ofSlot}
 

@@ -1,6 +1,6 @@
 -- Question 1 as records of statements: the sizes within their limits, and the length of every table.
 use mathlib.Core.Path.{_≡_}
-use Prim.Native.Nat.{ℕ, suc, _*_, _<_}
+use Prim.Native.Nat.{_*_, _<_}
 use lib.ListN.{length}
 use Rattle.tables.specs.Rule.{Holds}
 use Rattle.model.specs.declared.sizes.Sizes.{Sizes}

@@ -1,11 +1,11 @@
 -- Demand 3's ledger: what it is fed, and what it notes. It is no table of the keeper, and looks into none of the memory tables.
-use mathlib.Core.Bool.{Bool, true, false, not, _&&_}
+use mathlib.Core.Bool.{Bool, true, false, _&&_}
 use mathlib.Core.List.{List, [], _∷_}
-use Prim.Native.Nat.{ℕ, zero, suc, _/_, _%_, pred}
+use Prim.Native.Nat.{ℕ, zero, suc, _%_, pred}
 use lib.Dec.{eqb}
 use lib.ListN.{length}
 use Rattle.tables.specs.Base.{at, if, all}
-use Rattle.tables.specs.Rule.{Rule, same, non, _and_, some, names, test}
+use Rattle.tables.specs.Rule.{Rule, same, non, _and_, some, test}
 use Rattle.model.specs.declared.sizes.Sizes.{Sizes}
 use Rattle.model.specs.State.{Disk, allPages, pageOf, slotOf}
 use Rattle.model.specs.Parts.{ofSlot, fromPage, wordAt}

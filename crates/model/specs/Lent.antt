@@ -1,5 +1,5 @@
 -- What a caller lends, in the order in which the code takes it: the frames, the pool and the sixteen tables of numbers as one state.
-use mathlib.Core.Path.{_≡_, refl}
+use mathlib.Core.Path.{_≡_}
 use mathlib.Core.List.{List}
 use Prim.Native.Nat.{ℕ}
 use Rattle.model.specs.declared.frame.Frame.{Frame}
@@ -9,15 +9,18 @@ use Rattle.model.specs.State.{Disk, Memory, State}
 abbrev pub diskOf : List ℕ → List ℕ → List ℕ → List ℕ → List ℕ → Disk
 diskOf records numbers accounts maps limits = record { records = records; numbers = numbers; accounts = accounts; maps = maps; limits = limits }
 
+abbrev pub memoryOf : List Frame → Pool → List ℕ → List ℕ → List ℕ → List ℕ → List ℕ → List ℕ → List ℕ → List ℕ → List ℕ → List ℕ → List ℕ → Memory
+memoryOf frames pool words free-queue removal-list addresses states owners free-map active updating images used = record {
+  core = record { frames = frames; words = words; free-queue = free-queue; removal-list = removal-list };
+  held = record { addresses = addresses; states = states; owners = owners; free-map = free-map; pool = pool };
+  slots = record { active = active; updating = updating; images = images };
+  used = used;
+}
+
 abbrev pub stateOf : List Frame → Pool → List ℕ → List ℕ → List ℕ → List ℕ → List ℕ → List ℕ → List ℕ → List ℕ → List ℕ → List ℕ → List ℕ → List ℕ → List ℕ → List ℕ → List ℕ → List ℕ → State
 stateOf frames pool records numbers accounts maps limits words free-queue removal-list addresses states owners free-map active updating images used = record {
   disk = diskOf records numbers accounts maps limits;
-  memory = record {
-    core = record { frames = frames; words = words; free-queue = free-queue; removal-list = removal-list };
-    held = record { addresses = addresses; states = states; owners = owners; free-map = free-map; pool = pool };
-    slots = record { active = active; updating = updating; images = images };
-    used = used;
-  };
+  memory = memoryOf frames pool words free-queue removal-list addresses states owners free-map active updating images used;
 }
 
 -- two states are equal by their tables

@@ -13,9 +13,11 @@ pub mod Choice
 pub mod Designs
 pub mod Pages
 pub mod Stores
+pub mod LookLaws
 pub mod Restart
 pub mod Step
 pub mod Fit
+pub mod Bounds
 pub mod Own
 pub mod Calls
 pub mod OwnLaws

@@ -1,17 +1,16 @@
 -- What ties the ledger to the disk and the memory after every act: the invariant behind demand 3, as a rule that is computed along runs.
-use mathlib.Core.Bool.{Bool, not}
+use mathlib.Core.Bool.{not}
 use Prim.Native.Nat.{ℕ, suc, _+_, _*_, _%_}
 use lib.ListN.{length}
-use Rattle.tables.specs.Base.{at}
 use Rattle.tables.specs.Rule.{Rule, same, below, is, non, _and_, _then_, each, named, names}
 use Rattle.model.specs.declared.sizes.Sizes.{Sizes}
 use Rattle.model.specs.Lines.{LIVE}
 use Rattle.model.specs.State.{Files, Frames, files, frames, READING, WRITING, allPages, slotOf, live}
 use Rattle.model.specs.Rules.{isActive}
 use Rattle.model.specs.Parts.{wordAt}
-use Rattle.model.specs.Ledger.{Write, Update, Pages, Pending}
+use Rattle.model.specs.Ledger.{Write, Pages, Pending}
 use Rattle.model.specs.Acts.{World}
-use Rattle.model.specs.Demand3.{lastInto, lastUpdate, lastUpdateAt, eachOf, designOf, ofPage, newest}
+use Rattle.model.specs.Demand3.{lastInto, lastUpdateAt, eachOf, designOf, ofPage, newest}
 
 module _ (z : Sizes) (w : World) where
   abbrev v : Files

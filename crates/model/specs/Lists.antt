@@ -1,10 +1,10 @@
 -- Lists of acts that are computed: short names, the sizes of the event program, and what a list answers and leaves.
-use mathlib.Core.Bool.{Bool, true, false, _&&_, _||_}
+use mathlib.Core.Bool.{Bool, false, _||_}
 use mathlib.Core.List.{List, [], _∷_, _++_}
 use Prim.Native.Nat.{ℕ, _*_}
 use lib.Dec.{eqb}
 use lib.ListN.{replicate}
-use Rattle.tables.specs.Base.{if, all, any, count, find, those, tab}
+use Rattle.tables.specs.Base.{all, any, count, find, those, tab}
 use Rattle.tables.specs.Bits.{bits}
 use Rattle.tables.specs.Queue.{members, packed, times, without, tail, head, push-back, push-front, pop, remove, size, first}
 use Rattle.tables.specs.Questions.{firstNo}

@@ -1,16 +1,14 @@
 -- An event by its own questions, once 1 and 2 are asked; and what `step` is in each case of 1 and 2. For code that asks them apart.
-use mathlib.Core.Path.{_≡_, refl, ap, _∙_}
-use mathlib.Core.Bool.{Bool, true, false}
-use Prim.Native.Nat.{ℕ, zero, suc}
-use Rattle.tables.specs.Base.{if}
+use mathlib.Core.Path.{_≡_, ap, _∙_}
+use Prim.Native.Nat.{ℕ}
 use Rattle.tables.specs.Questions.{Questions, ask, firstNo}
-use Rattle.tables.specs.Rule.{Rule, Holds, test, told, untold}
+use Rattle.tables.specs.Rule.{Rule, Holds, told, untold}
 use Rattle.model.specs.declared.sizes.Sizes.{Sizes}
 use Rattle.model.specs.declared.event.Event.{Event}
 use Rattle.model.specs.State.{State}
 use Rattle.model.specs.Rules.{allRules}
 use Rattle.model.specs.Questions.{questions}
-use Rattle.model.specs.Step.{Outcome, outcome, allFit, asked, answer, carried, result, step}
+use Rattle.model.specs.Step.{Outcome, outcome, allFit, answer, carried, result, step}
 
 unfoldable pub own : Sizes → State → Event → Outcome State
 own z st e = outcome (firstNo (questions z st e)) (result z st e) st (carried z st e)

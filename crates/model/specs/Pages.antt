@@ -1,14 +1,13 @@
 -- The events about one page: the state once each is carried out, and its result.
-use mathlib.Core.List.{List, []}
 use Prim.Native.Nat.{ℕ, suc, _+_, _*_, _%_}
-use lib.ListN.{set, take, drop}
+use lib.ListN.{set}
 use Rattle.tables.specs.Base.{at, if}
 use Rattle.tables.specs.Queue.{first, pop, push-front, push-back, remove}
 use Rattle.tables.specs.Rule.{test, same}
 use Rattle.model.specs.declared.sizes.Sizes.{Sizes}
 use Rattle.model.specs.declared.frame.Frame.{Frame}
 use Rattle.model.specs.Lines.{NULLED}
-use Rattle.model.specs.State.{Core, Held, State, Frames, files, frames, NONE, READING, frameAt, pageOf, slotOf, live}
+use Rattle.model.specs.State.{Core, State, files, frames, NONE, READING, frameAt, pageOf, slotOf, live}
 use Rattle.model.specs.Setters.{onCore, onHeld, setFrames, setWords, setFreeQueue, setRemovalList, setAddresses, setStates, setOwners, setHand, setUsedSwitch, setModified, setWired, setInitial, counted}
 use Rattle.model.specs.Parts.{setPart, frameOf, pick}
 

@@ -16,6 +16,10 @@ abbrev pub part : ℕ → ℕ → ℕ → Part
 part zero start count = record { refusal = 0; start = start; count = count }
 part (suc n) start count = record { refusal = suc n; start = 0; count = 0 }
 
+pub no-part : (n start count : ℕ) → ¬ (n ≡ 0) → _≡_ {A = Part} (record { refusal = n; start = 0; count = 0 }) (part n start count)
+no-part zero start count d = absurd (d refl)
+no-part (suc n) start count d = refl
+
 unfoldable pub partOf : Sizes → State → ℕ → ℕ → Part
 partOf z st s p = part (firstNo (asked z st (lookQuestions z st s p))) (Pages.lookStart z st s p) (z .words)
 

@@ -1,17 +1,13 @@
 -- Parts that several events share: the pages and words of a slot, a record or a frame; a page's frame; the choice of a free record.
-use mathlib.Core.Path.{_≡_, refl, ap, sym, _∙_}
 use mathlib.Core.List.{List}
-use Prim.Native.Nat.{ℕ, zero, suc, _+_, _-_, _*_, _/_, _%_, _<_, _≤_}
-use native.Mathlib.Omega.{arith}
-use lib.Dec.{T, eqb, eqb→eq}
-use lib.ListN.{length}
+use Prim.Native.Nat.{ℕ, suc, _+_, _*_, _/_, _%_}
+use lib.Dec.{eqb}
 use Rattle.tables.specs.Base.{at, find}
-use Rattle.tables.specs.Laws.{found, Found, eq→T}
 use Rattle.tables.specs.Rule.{Rule, same, below, non, _and_}
 use Rattle.tables.specs.Store.{store}
 use Rattle.model.specs.declared.sizes.Sizes.{Sizes}
 use Rattle.model.specs.Lines.{FREE}
-use Rattle.model.specs.State.{State, Frames, frames, slotOf}
+use Rattle.model.specs.State.{Frames, frames, slotOf}
 
 -- the page is of the slot
 abbrev pub ofSlot : Sizes → ℕ → ℕ → Rule

@@ -8,7 +8,7 @@ use Rattle.tables.specs.Base.{at, if, any, find, tab}
 use Rattle.tables.specs.Queue.{packed}
 use Rattle.model.specs.declared.sizes.Sizes.{Sizes}
 use Rattle.model.specs.Lines.{FREE, FILED}
-use Rattle.model.specs.State.{Disk, State, noFrame, allPages, slotOf, mapWords}
+use Rattle.model.specs.State.{Disk, State, noFrame, allPages, slotOf}
 use Rattle.model.specs.Setters.{counted}
 
 -- Format zeroes all of the disk part.
@@ -30,8 +30,8 @@ listedAt z d r = find (allPages z) (λ i. eqb (at (d .maps) i) (suc r)) 0
 
 -- Restart: from the disk part alone; memory may hold anything. All designs inactive, hand 0, free queue 0 to F−1, free frames zeroed.
 -- Restart sets all (states) anew: listed ones filed, others free.
-unfoldable pub restarted : Sizes → Disk → State
-restarted z d = counted z (record {
+abbrev pub uncounted : Sizes → Disk → State
+uncounted z d = record {
   disk = d;
   memory = record {
     core = record { frames = replicate (z .frames) noFrame; words = replicate (z .frames * z .words) 0; free-queue = packed (z .frames) (tab (z .frames) (λ f. f) 0); removal-list = packed (z .frames) [] };
@@ -45,4 +45,8 @@ restarted z d = counted z (record {
     slots = record { active = replicate (z .slots) 0; updating = replicate (z .slots) 0; images = replicate (allPages z) 0 };
     used = [];
   };
-})
+}
+
+-- with the counts
+unfoldable pub restarted : Sizes → Disk → State
+restarted z d = counted z (uncounted z d)

@@ -1,7 +1,9 @@
 -- Question 2 as records of statements, by subject: what proofs cite of a state that keeps the rules, and what they build to show it.
 use Prim.Native.Nat.{ℕ, _<_}
+use native.Mathlib.Omega.{arith}
 use Rattle.tables.specs.Base.{at}
-use Rattle.tables.specs.Queue.{queue}
+use Rattle.tables.specs.Queue.{queue, members}
+use Rattle.tables.specs.TimesLaws.{Once}
 use Rattle.tables.specs.Rule.{Holds}
 use mathlib.Core.Path.{_≡_}
 use Rattle.model.specs.declared.sizes.Sizes.{Sizes}
@@ -67,6 +69,14 @@ pub record Ruled (z : Sizes) (st : State) : Type 0 where
   pub queues : OfQueues z st
   pub frames : OfFrames z (files st) (frames st) (at (st .disk .records))
   pub counts : OfCounts z st
+
+-- no frame stands twice in a queue
+module _ (z : Sizes) (st : State) (r : Ruled z st) where
+  pub once-free : Once (z .frames) (members (st .memory .core .free-queue))
+  once-free f h = omega (arith, r .frames .in-one-place f h)
+
+  pub once-list : Once (z .frames) (members (st .memory .core .removal-list))
+  once-list f h = omega (arith, r .frames .in-one-place f h)
 
 pub disk-ruled : (z : Sizes) (st : State) → Holds (Rules.diskRules z st) → OnDisk z (files st)
 unfolding Rules.diskRules

@@ -3,10 +3,10 @@ use Prim.Native.Nat.{ℕ, suc, _+_, _*_}
 use lib.Dec.{eqb}
 use Rattle.tables.specs.Base.{if, at}
 use Rattle.tables.specs.Queue.{queue}
-use Rattle.tables.specs.Rule.{Rule, same, below, non, _and_, _or_, _then_, each, some, named, names, Holds}
+use Rattle.tables.specs.Rule.{Rule, same, below, non, _and_, _or_, _then_, each, some, named}
 use Rattle.model.specs.declared.sizes.Sizes.{Sizes}
 use Rattle.model.specs.Lines.{FILED, NULLED, LIVE, RELEASED, LEAVING}
-use Rattle.model.specs.State.{State, Files, Frames, files, frames, NONE, READING, WRITING, allPages, slotOf, mapWords, framed, live, usedOf, freeCount, freeWord}
+use Rattle.model.specs.State.{State, Files, Frames, files, frames, NONE, READING, WRITING, allPages, slotOf, mapWords, live, usedOf, freeCount, freeWord}
 
 -- no number is named by two of the first n entries
 abbrev pub once : ℕ → (ℕ → ℕ) → Rule

@@ -3,14 +3,12 @@ use mathlib.Core.Bool.{Bool, true, false, _&&_}
 use mathlib.Core.List.{List, [], _∷_, _++_}
 use Prim.Native.Nat.{ℕ}
 use lib.Dec.{T, eqb}
-use lib.ListN.{length}
 use Rattle.tables.specs.Rule.{test}
 use Rattle.model.specs.Rules.{allRules}
-use Rattle.model.specs.Ledger
 use Rattle.model.specs.Acts.{Act, World, act, legal}
 use Rattle.model.specs.Demand3.{lastInto, lastUpdate, eachOf, someOf, ownWords, liveListed, liveReads, demand3}
 use Rattle.model.specs.Linked.{linked}
-use Rattle.model.specs.Lists.{limit, create, delete, activate, deactivate, fault, read, write, wire, unwire, claim, truncate, update, pageDone, mapDone, restart, small, cut, said, trace, begin}
+use Rattle.model.specs.Lists.{limit, create, delete, activate, deactivate, fault, read, write, wire, unwire, claim, truncate, update, pageDone, mapDone, restart, small, cut, said, begin}
 
 -- the claim and the invariant hold, and once restarted the rules
 unfoldable pub right : World → Bool

@@ -1,11 +1,10 @@
 -- One setter for each table: an event is a chain of stores, and a new table touches this file alone.
 use mathlib.Core.List.{List}
 use Prim.Native.Nat.{ℕ}
-use Rattle.tables.specs.Base.{at, tab}
+use Rattle.tables.specs.Base.{tab}
 use Rattle.model.specs.declared.sizes.Sizes.{Sizes}
 use Rattle.model.specs.declared.frame.Frame.{Frame}
-use Rattle.model.specs.declared.frame.Pool.{Pool}
-use Rattle.model.specs.State.{Disk, Core, Held, Slots, Memory, State, files, frames, mapWords, usedOf, freeCount, freeWord}
+use Rattle.model.specs.State.{Disk, Core, Held, Slots, State, files, frames, mapWords, usedOf, freeCount, freeWord}
 
 -- ── the disk part ──
 abbrev pub onDisk : (Disk → Disk) → State → State

@@ -1,17 +1,17 @@
 -- The events that free frames and records, or move pages and maps to the disk: the state once each is carried out.
 use mathlib.Core.Bool.{Bool, false, not, _&&_, _||_}
 use mathlib.Core.List.{List, [], _∷_, _++_, map}
-use Prim.Native.Nat.{ℕ, zero, suc, _+_, _*_, _%_, pred}
+use Prim.Native.Nat.{ℕ, zero, suc, pred}
 use lib.Dec.{eqb, leb}
 use lib.ListN.{length, set}
-use Rattle.tables.specs.Base.{at, if, all, those, tab}
+use Rattle.tables.specs.Base.{if, all, those, tab}
 use Rattle.tables.specs.Queue.{members, packed, without, push-front, push-back}
-use Rattle.tables.specs.Rule.{Rule, same, non, _and_, _or_, some, names, named, test}
+use Rattle.tables.specs.Rule.{Rule, same, non, _and_, _or_, some, names, test}
 use Rattle.tables.specs.Store.{store}
 use Rattle.model.specs.declared.sizes.Sizes.{Sizes}
 use Rattle.model.specs.declared.frame.Frame.{Frame}
 use Rattle.model.specs.Lines.{FREE, NULLED, LIVE, RELEASED, LEAVING}
-use Rattle.model.specs.State.{Disk, Core, Held, Slots, State, Files, Frames, files, frames, NONE, READING, WRITING, noFrame, frameAt, allPages, pageOf, framed, live}
+use Rattle.model.specs.State.{Disk, Slots, State, files, frames, NONE, READING, WRITING, noFrame, frameAt, allPages, pageOf, framed}
 use Rattle.model.specs.Setters.{onDisk, onCore, onHeld, onSlots, setRecords, setMaps, setFrames, setWords, setFreeQueue, setRemovalList, setAddresses, setStates, setOwners, setUpdating, setImages, setUsedSwitch, setModified, setInitial, setTransfer, counted}
 use Rattle.model.specs.Parts.{ofSlot, fromPage, setPart, wordAt, frameOf}
 use Rattle.model.specs.Pages.{onFrame, fresh}

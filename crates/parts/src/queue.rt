@@ -1,6 +1,6 @@
 // A queue of frames in a table: frame f as entry f + 1, packed at the front, then zeros.
 ghost use mathlib.Core.Path.{_≡_};
-ghost use Prim.Native.Nat.{ℕ, suc, _+_, _<_, _≤_};
+ghost use Prim.Native.Nat.{ℕ, _+_, _<_, _≤_};
 ghost use lib.ListN.{length};
 ghost use Rattle.tables.specs.Base.{at};
 ghost use Rattle.tables.specs.Queue.{members, times, size, first, queue, push-back, push-front, pop, remove};

@@ -1,10 +1,8 @@
 // A record is taken from the free ones or given back: its state, its slot and its bit of the free map.
 ghost use mathlib.Core.Path.{_≡_};
-ghost use Prim.Native.Nat.{ℕ, _<_, _≤_};
+ghost use Prim.Native.Nat.{_<_};
 ghost use lib.ListN.{length, set};
 ghost use Rattle.tables.specs.Base.{at};
-ghost use Rattle.tables.specs.Rule.{same, _and_};
-ghost use Rattle.tables.specs.Store.{store};
 ghost use Rattle.model.specs.Lines.{FREE, NULLED, LEAVING};
 ghost use Rattle.model.specs.State.{freeCount};
 ghost use Rattle.parts.specs.FreeMap.{freeMap};

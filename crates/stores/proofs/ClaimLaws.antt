@@ -1,21 +1,21 @@
 -- Over the full state: what claim leaves, its used counts among it, and every other table as it was.
 use mathlib.Core.Path.{_≡_, refl, ap, sym, _∙_}
-use mathlib.Core.Bool.{Bool, true, false, _||_}
+use mathlib.Core.Bool.{Bool, true, false}
 use mathlib.Core.List.{List}
 use mathlib.Core.Logic.{_⊎_, inl, inr}
-use Prim.Native.Nat.{ℕ, suc, _+_, _-_, _<_, pred}
+use Prim.Native.Nat.{ℕ, suc, _-_, _<_, pred}
 use native.Mathlib.Nat.{suc-inj}
 use native.Mathlib.Omega.{arith}
 use native.Mathlib.Decide.{ℕ-discrete}
 use lib.Dec.{T, eqb}
 use lib.ListN.{length, set}
 use borrow.Author.Tests.{eq-eqb, ne-eqb}
-use Rattle.tables.specs.Base.{at, if}
+use Rattle.tables.specs.Base.{at}
 use Rattle.tables.specs.CountLaws.{count-pos}
 use Rattle.tables.specs.Laws.{and-intro, eq→T}
 use Rattle.tables.specs.Queue.{members, times, size, packed}
 use Rattle.tables.specs.QueueLaws.{size-members, members-within}
-use Rattle.tables.specs.Rule.{Rule, Holds, test, sound, complete}
+use Rattle.tables.specs.Rule.{Holds, sound, complete}
 use Rattle.model.specs.declared.sizes.Sizes.{Sizes}
 use Rattle.model.specs.declared.frame.Frame.{Frame}
 use Rattle.model.specs.Lines.{FREE, NULLED, LIVE}
@@ -23,7 +23,7 @@ use Rattle.model.specs.State.{State, Files, Frames, files, frames, frameAt, noF
 use Rattle.model.specs.Setters.{onCore, onHeld, setFrames, setRemovalList, setStates, setTransfer, counted}
 use Rattle.model.specs.Pages.{onFrame}
 use Rattle.model.specs.Index.{split-entry, split-set, slot-below}
-use Rattle.model.specs.Stores.{Looked, look, looking, beginsWrite, recordIn, freeFrame}
+use Rattle.model.specs.Stores.{looking, beginsWrite, recordIn, freeFrame}
 use Rattle.model.specs.Stores
 use Rattle.model.specs.Step.{carried}
 use Rattle.model.specs.Fit.{Fit}

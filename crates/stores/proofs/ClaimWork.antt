@@ -1,8 +1,8 @@
 -- Claim: each of the code's ways out leaves what the definition says.
 use mathlib.Core.Path.{_≡_, refl, ap, sym, _∙_, subst}
-use mathlib.Core.Bool.{Bool, true, false, not, _||_}
+use mathlib.Core.Bool.{Bool, true, false, not}
 use mathlib.Core.List.{List}
-use mathlib.Core.Logic.{_⊎_, inl, inr}
+use mathlib.Core.Logic.{_⊎_}
 use Prim.Native.Nat.{ℕ, suc, _+_, _-_, _*_, _/_, _<_, _≤_, pred}
 use native.Mathlib.Omega.{arith}
 use native.Mathlib.Decide.{ℕ-discrete}
@@ -20,7 +20,7 @@ use Rattle.model.specs.declared.sizes.Sizes.{Sizes}
 use Rattle.model.specs.declared.frame.Frame.{Frame}
 use Rattle.model.specs.declared.applied.Framed.{Framed}
 use Rattle.model.specs.Lines.{NULLED, LIVE}
-use Rattle.model.specs.State.{State, WRITING, frameAt, noFrame, slotOf, payer}
+use Rattle.model.specs.State.{State, WRITING, frameAt, noFrame, payer}
 use Rattle.model.specs.Setters.{onCore, onHeld, setFrames, setRemovalList, setStates, setTransfer, counted}
 use Rattle.model.specs.Pages.{onFrame}
 use Rattle.model.specs.Questions.{questions}

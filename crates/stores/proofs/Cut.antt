@@ -1,11 +1,11 @@
 -- The pages of a slot from page k up, counted one at a time.
-use mathlib.Core.Path.{_≡_, refl, ap, sym, _∙_}
+use mathlib.Core.Path.{_≡_}
 use mathlib.Core.Bool.{Bool, true, false, _&&_}
-use Prim.Native.Nat.{ℕ, zero, suc, _+_, _<_, _≤_}
+use Prim.Native.Nat.{ℕ, _+_, _<_, _≤_}
 use native.Mathlib.Omega.{arith}
 use native.Mathlib.Numerals.{add-one}
-use lib.Dec.{T, leb, leb→le, le→leb}
-use Rattle.tables.specs.Base.{if, count}
+use lib.Dec.{leb, leb→le, le→leb}
+use Rattle.tables.specs.Base.{count}
 use Rattle.tables.specs.CountLaws.{count-none}
 use Rattle.tables.specs.Laws.{and-left, T→true, ¬T→false}
 

@@ -1,29 +1,26 @@
 -- Truncate's pass over the pages: the frames freed so far, in page order, and what is left of the removal list.
 use mathlib.Core.Path.{_≡_, refl, ap, sym, _∙_}
-use mathlib.Core.Bool.{Bool, true, false, _&&_, _||_}
+use mathlib.Core.Bool.{Bool, _&&_, _||_}
 use mathlib.Core.List.{List, [], _∷_, _++_, map, map-append, append-nil}
-use mathlib.Core.Logic.{_⊎_, inl, inr}
-use Prim.Native.Nat.{ℕ, zero, suc, _+_, _-_, _*_, _<_, _≤_}
-use native.Mathlib.Nat.{suc-inj}
+use mathlib.Core.Logic.{inl, inr}
+use Prim.Native.Nat.{ℕ, suc, _+_, _-_, _*_, _<_, _≤_}
 use native.Mathlib.Omega.{arith}
 use native.Mathlib.Numerals.{add-one}
-use native.Mathlib.Decide.{ℕ-discrete, decLt}
+use native.Mathlib.Decide.{decLt}
 use lib.Dec.{T, leb, eqb, eqb→eq, leb→le}
-use lib.ListN.{length, length-append}
-use Rattle.tables.specs.Base.{at, if, find, those}
-use Rattle.tables.specs.FindLaws.{find-at}
+use lib.ListN.{length}
+use Rattle.tables.specs.Base.{at, if, those}
 use Rattle.tables.specs.Laws.{found, and-left, and-right, eq→T}
 use Rattle.tables.specs.Queue.{queue, members, times, without, size, packed, push-back, remove}
 use Rattle.tables.specs.QueueLaws.{size-members, size-le, members-within, length-packed, members-packed, packed-members, fits-once, queue-repacked, queue-without}
 use Rattle.tables.specs.QueuePacked.{size-packed, push-back-more, append-none, without-more, remove-packed}
-use Rattle.tables.specs.Rule.{Rule, Holds, same, below, some, _and_, _or_, decided, test, told, untold, sound, complete, alike}
+use Rattle.tables.specs.Rule.{Rule, Holds, same, below, some, _and_, _or_, decided, test, told, untold, sound, alike}
 use Rattle.tables.specs.ThoseLaws.{those-snoc, those-none, those-elim, those-once}
 use Rattle.tables.specs.TimesLaws.{Within, Once, times-here, times-cons, times-append, times-map, times-map-none, times-without-le, length-lt, length-without, within-append, without-same}
 use Rattle.model.specs.declared.frame.Frame.{Frame}
 use Rattle.model.specs.State.{frameAt}
 use Rattle.stores.specs.Truncate.{frameIn, cutList, cutUpTo, Cutting}
-use Rattle.stores.proofs.Cut.{from-up, not-up}
-use Rattle.stores.proofs.Leaves.{in-frame}
+use Rattle.stores.proofs.Cut.{from-up}
 
 -- lists without numbers that pass alike
 pub without-alike : (p q : ℕ → Bool) (xs : List ℕ) → ((x : ℕ) → 0 < times xs x → p x ≡ q x) → without p xs ≡ without q xs

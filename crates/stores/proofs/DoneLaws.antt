@@ -1,20 +1,20 @@
 -- Over the full state: what page done leaves, and every other table as it was.
 use mathlib.Core.Path.{_≡_, refl, ap, sym, _∙_}
-use mathlib.Core.Bool.{Bool}
 use mathlib.Core.Logic.{_⊎_, inl, inr}
 use Prim.Native.Nat.{ℕ, suc, _<_, pred}
 use native.Mathlib.Nat.{suc-inj}
 use native.Mathlib.Omega.{arith}
 use native.Mathlib.Decide.{ℕ-discrete}
 use lib.Dec.{eqb}
-use lib.ListN.{length, set}
+use lib.ListN.{set}
 use borrow.Author.Tests.{eq-eqb, ne-eqb}
-use Rattle.tables.specs.Base.{at, if}
+use Rattle.tables.specs.Base.{at}
 use Rattle.tables.specs.Questions.{Asked}
-use Rattle.tables.specs.Rule.{Rule, Holds, test}
+use Rattle.tables.specs.Rule.{Holds}
+use Rattle.tables.specs.Laws.{not-zero}
 use Rattle.model.specs.declared.sizes.Sizes.{Sizes}
 use Rattle.model.specs.declared.frame.Frame.{Frame}
-use Rattle.model.specs.Lines.{FREE, NULLED, LIVE}
+use Rattle.model.specs.Lines.{FREE, LIVE}
 use Rattle.model.specs.State.{State, Files, Frames, files, frames, frameAt, noFrame, READING, slotOf, allPages, payer, charged, live, framed}
 use Rattle.model.specs.Setters.{counted}
 use Rattle.model.specs.Index.{split-entry, split-set}
@@ -27,7 +27,6 @@ use Rattle.model.specs.Lent.{stateOf, same-state}
 use Rattle.parts.specs.Counts.{counts}
 use Rattle.stores.specs.Done.{pageDone}
 use Rattle.stores.proofs.Kept.{counts-alike, charged-alike, used-kept, map-kept, pool-kept}
-use Rattle.stores.proofs.Named.{suc-pred}
 use Rattle.stores.proofs.Ready.{Paged, paged, moved}
 
 module _ (z : Sizes) (st : State) (fit : Fit z st) (ruled : Ruled z st) (f : ℕ) (h : f < z .frames) (p : Paged z st fit ruled f) where
@@ -126,7 +125,7 @@ module _ (z : Sizes) (st : State) (fit : Fit z st) (ruled : Ruled z st) (f good 
   read-good-stays : CountsStay (Stores.readGood z st f)
   unfolding Stores.readGood
   read-good-stays = record {
-    pages = page-kept z st fit ruled f (asked .0 .0) its _ (suc-pred (old .page) (omega (arith, its .named))) (frames (Stores.readGood z st f)) (λ k. refl);
+    pages = page-kept z st fit ruled f (asked .0 .0) its _ (sym (not-zero (old .page) (λ n. omega (arith, its .named, n)))) (frames (Stores.readGood z st f)) (λ k. refl);
     free = λ r h. refl;
   }
 

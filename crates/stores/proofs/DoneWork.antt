@@ -1,15 +1,12 @@
 -- Page done: each of the code's ways out leaves what the definition says.
 use mathlib.Core.Path.{_≡_, refl, ap, sym, _∙_, subst}
-use mathlib.Core.Bool.{Bool}
 use mathlib.Core.List.{List}
 use mathlib.Core.Logic.{_⊎_}
 use Prim.Native.Nat.{ℕ, suc, _+_, _*_, _/_, _%_, _<_, _≤_, pred}
 use native.Mathlib.Omega.{arith}
-use lib.Dec.{eqb}
 use lib.ListN.{length, take, set}
 use borrow.Author.Tests.{eq-eqb, ne-eqb}
-use Rattle.tables.specs.Base.{at, if}
-use Rattle.tables.specs.Laws.{if-yes, if-no}
+use Rattle.tables.specs.Base.{at}
 use Rattle.tables.specs.Queue.{queue, size, push-back, push-front}
 use Rattle.tables.specs.Questions.{firstNo, Asked, all-yes}
 use Rattle.tables.specs.Rule.{Holds, same}

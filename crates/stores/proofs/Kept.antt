@@ -1,21 +1,18 @@
 -- The counts over the full state: an event that changes nothing they count leaves the tables of counts as they were.
-use mathlib.Core.Path.{_≡_, refl, ap, sym, _∙_}
-use mathlib.Core.Bool.{Bool, true, false}
+use mathlib.Core.Path.{_≡_, ap, sym, _∙_}
 use Prim.Native.Nat.{ℕ, _<_}
 use native.Mathlib.Decide.{ℕ-discrete}
 use lib.Dec.{eqb, ltb}
 use borrow.Author.Tests.{eq-eqb, ne-eqb}
-use Rattle.tables.specs.Base.{if, tab}
+use Rattle.tables.specs.Base.{tab}
 use Rattle.tables.specs.TabLaws.{tab-entries}
 use Rattle.tables.specs.Rule.{Holds, test, alike}
 use Rattle.model.specs.declared.sizes.Sizes.{Sizes}
-use Rattle.model.specs.declared.frame.Pool.{Pool}
 use Rattle.model.specs.Lines.{FREE}
-use Rattle.model.specs.State.{State, Files, Frames, files, frames, slotOf, allPages, mapWords, payer, charged, usedOf, freeWord, freeCount, live, framed}
+use Rattle.model.specs.State.{State, Files, Frames, files, frames, slotOf, allPages, mapWords, payer, charged, usedOf, freeWord}
 use Rattle.model.specs.Setters.{counted}
 use Rattle.model.specs.Fit.{Fit}
 use Rattle.model.specs.Ruled.{OfCounts}
-use Rattle.model.specs.Lent.{stateOf, same-state}
 use Rattle.parts.specs.Counts.{counts, counts-same, free-same}
 use Rattle.parts.specs.FreeMap.{free-map-same}
 

@@ -1,23 +1,21 @@
 -- Over the full state: what each event leaves, its tables of counts among them, and every other table as it was.
 use mathlib.Core.Path.{_≡_, refl, ap, sym, _∙_}
-use mathlib.Core.Bool.{Bool}
 use mathlib.Core.Logic.{_⊎_, inl, inr}
-use Prim.Native.Nat.{ℕ, suc, _<_}
+use Prim.Native.Nat.{ℕ, _<_}
 use native.Mathlib.Nat.{suc-inj}
 use native.Mathlib.Omega.{arith}
 use native.Mathlib.Decide.{ℕ-discrete}
 use lib.Dec.{eqb}
-use lib.ListN.{length}
 use borrow.Author.Tests.{eq-eqb, ne-eqb}
-use Rattle.tables.specs.Base.{at, if}
+use Rattle.tables.specs.Base.{at}
 use Rattle.tables.specs.Questions.{Asked}
-use Rattle.tables.specs.Rule.{Rule, Holds, same, test}
-use Rattle.tables.specs.Store.{store, at-store, length-store}
+use Rattle.tables.specs.Rule.{Holds, same}
+use Rattle.tables.specs.Store.{store, at-store}
 use Rattle.model.specs.declared.sizes.Sizes.{Sizes}
 use Rattle.model.specs.Lines.{FREE, NULLED, LIVE, RELEASED, LEAVING}
-use Rattle.model.specs.State.{State, Files, Frames, files, frames, slotOf, allPages, payer, charged, live}
-use Rattle.model.specs.Setters.{onDisk, onSlots, onHeld, setStates, setOwners, setAddresses, setUpdating, setImages, counted}
-use Rattle.model.specs.Questions.{questions, wouldStore}
+use Rattle.model.specs.State.{State, Files, files, frames, slotOf, allPages, payer, charged, live}
+use Rattle.model.specs.Setters.{onSlots, onHeld, setStates, counted}
+use Rattle.model.specs.Questions.{questions}
 use Rattle.model.specs.Stores
 use Rattle.model.specs.Step.{carried}
 use Rattle.model.specs.Fit.{Fit}

@@ -1,6 +1,6 @@
 -- Update's pass over the pages of a slot: the turns of its loop are those of the two stores, and each record is met once.
 use mathlib.Core.Path.{_≡_, refl, ap, sym, _∙_}
-use mathlib.Core.Logic.{_⊎_, inl, inr}
+use mathlib.Core.Logic.{inl, inr}
 use mathlib.Core.List.{List}
 use Prim.Native.Nat.{ℕ, suc, _+_, _-_, _*_, _/_, _<_, _≤_}
 use native.Mathlib.Omega.{arith}
@@ -9,7 +9,7 @@ use lib.ListN.{length, set}
 use Rattle.tables.specs.Base.{at, find}
 use Rattle.tables.specs.FindLaws.{find-cases}
 use Rattle.tables.specs.Laws.{eq→T}
-use Rattle.tables.specs.Rule.{Rule, Holds, same, some, _and_}
+use Rattle.tables.specs.Rule.{Rule, Holds, same, some}
 use Rattle.tables.specs.Store.{Split}
 use Rattle.tables.specs.StoreLoops.{Turned, turn-on, turn-off, turned-by, turned-at, inside-part}
 use Rattle.tables.specs.StoreNamed.{Named, named-on, named-off, named-at}

@@ -1,20 +1,19 @@
 -- Map done: each of the code's ways out leaves what the definition says.
 use mathlib.Core.Path.{_≡_, refl, ap, sym, _∙_, subst}
-use mathlib.Core.Bool.{Bool}
 use mathlib.Core.List.{List}
 use mathlib.Core.Logic.{inl, inr}
-use Prim.Native.Nat.{ℕ, suc, _+_, _*_, _/_, _%_, _<_, _≤_}
+use Prim.Native.Nat.{ℕ, _+_, _*_, _/_, _<_, _≤_}
 use native.Mathlib.Omega.{arith}
 use lib.Dec.{eqb}
 use lib.ListN.{length, set}
-use borrow.Author.Tests.{eq-eqb, ne-eqb}
-use Rattle.tables.specs.Base.{at, if}
+use borrow.Author.Tests.{ne-eqb}
+use Rattle.tables.specs.Base.{at}
 use Rattle.tables.specs.Questions.{firstNo, Asked, all-yes}
-use Rattle.tables.specs.Rule.{Rule, Holds, same, _and_}
+use Rattle.tables.specs.Rule.{same}
 use Rattle.tables.specs.Store.{store, at-store}
 use Rattle.model.specs.declared.sizes.Sizes.{Sizes}
 use Rattle.model.specs.declared.frame.Pool.{Pool}
-use Rattle.model.specs.Lines.{FREE, RELEASED, LEAVING}
+use Rattle.model.specs.Lines.{FREE, RELEASED}
 use Rattle.model.specs.State.{State, freeCount}
 use Rattle.model.specs.Setters.{counted}
 use Rattle.model.specs.Questions.{questions}
@@ -23,7 +22,7 @@ use Rattle.model.specs.Step.{Outcome, carried, result}
 use Rattle.model.specs.Own.{own, refusal}
 use Rattle.parts.specs.Counts.{free-same}
 use Rattle.parts.specs.FreeMap.{freeMap, free-map-same}
-use Rattle.parts.specs.Freed.{MapFits, Freed, leaverOf}
+use Rattle.parts.specs.Freed.{Freed, leaverOf}
 use Rattle.stores.specs.declared.map_done.Freed as Handed
 use Rattle.stores.specs.Answered.{done, own-yes, own-no}
 use Rattle.stores.specs.MapDone.{mapDone, seen, MapReady, MapLeft}

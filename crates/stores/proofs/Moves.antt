@@ -2,7 +2,7 @@
 use lib.Dec.{T}
 use Rattle.tables.specs.Base.{any}
 use Rattle.tables.specs.Rule.{test}
-use Rattle.model.specs.Lines.{allowed, FREE, NULLED, LIVE, RELEASED, LEAVING}
+use Rattle.model.specs.Lines.{allowed, NULLED, LIVE, RELEASED, LEAVING}
 
 pub nulled-live : T (allowed NULLED LIVE)
 unfolding allowed test any

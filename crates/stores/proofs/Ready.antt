@@ -1,42 +1,32 @@
 -- What questions 1 and 2 give each event that is asked: a state within its sizes that keeps the rules is ready for it.
-use mathlib.Core.Path.{_≡_, refl, ap, sym, _∙_}
-use mathlib.Core.Bool.{Bool}
-use mathlib.Core.Logic.{_⊎_, inl, inr}
-use Prim.Native.Nat.{ℕ, suc, _+_, _<_, _≤_, pred}
+use mathlib.Core.Path.{_≡_, sym, _∙_}
+use mathlib.Core.Logic.{_⊎_}
+use Prim.Native.Nat.{ℕ, suc, _+_, _<_, pred}
 use native.Mathlib.Omega.{arith}
-use lib.Dec.{eqb}
 use borrow.Author.Tests.{ne-eqb}
-use Rattle.tables.specs.Base.{at, if}
-use Rattle.tables.specs.Queue.{members, times, size}
+use Rattle.tables.specs.Base.{at}
+use Rattle.tables.specs.Queue.{size}
 use Rattle.tables.specs.QueueLaws.{room}
-use Rattle.tables.specs.TimesLaws.{Once}
+use Rattle.tables.specs.Laws.{not-zero}
 use Rattle.model.specs.declared.sizes.Sizes.{Sizes}
 use Rattle.model.specs.Lines.{NULLED, LIVE}
-use Rattle.model.specs.State.{State, Frames, NONE, READING, files, frames, allPages, mapWords, frameAt}
+use Rattle.model.specs.State.{State, Frames, NONE, files, frames, allPages}
 use Rattle.model.specs.Fit.{Fit}
-use Rattle.model.specs.Ruled.{Ruled}
-use Rattle.stores.specs.Done.{InTransfer, DoneReady}
+use Rattle.model.specs.Ruled.{Ruled, once-free, once-list}
+use Rattle.stores.specs.Done.{DoneReady}
 use Rattle.stores.specs.MapDone.{MapReady}
 use Rattle.stores.specs.Update.{UpdateReady}
 use Rattle.stores.proofs.Kept.{map-is}
-use Rattle.stores.proofs.Named.{suc-pred}
 
 module _ (z : Sizes) (st : State) (fit : Fit z st) (ruled : Ruled z st) where
   abbrev c : Frames
   c = frames st
 
-  -- a frame stands at most once in each queue
-  pub queue-once : Once (z .frames) (members (st .memory .core .free-queue))
-  queue-once f h = omega (arith, ruled .frames .in-one-place f h)
-
-  pub list-once : Once (z .frames) (members (st .memory .core .removal-list))
-  list-once f h = omega (arith, ruled .frames .in-one-place f h)
-
   pub queue-room : (f : ℕ) → f < z .frames → c .queued f ≡ 0 → size (st .memory .core .free-queue) < z .frames
-  queue-room f h e = omega (arith, fit .memory .free-queue, room (st .memory .core .free-queue) (fit .memory .free-queue) (ruled .queues .free-queue) queue-once f h e)
+  queue-room f h e = omega (arith, fit .memory .free-queue, room (st .memory .core .free-queue) (fit .memory .free-queue) (ruled .queues .free-queue) (once-free z st ruled) f h e)
 
   pub list-room : (f : ℕ) → f < z .frames → c .removing f ≡ 0 → size (st .memory .core .removal-list) < z .frames
-  list-room f h e = omega (arith, fit .memory .removal-list, room (st .memory .core .removal-list) (fit .memory .removal-list) (ruled .queues .removal-list) list-once f h e)
+  list-room f h e = omega (arith, fit .memory .removal-list, room (st .memory .core .removal-list) (fit .memory .removal-list) (ruled .queues .removal-list) (once-list z st ruled) f h e)
 
   -- the record of a page in a frame
   pub record Paged (f : ℕ) : Type 0 where
@@ -55,7 +45,7 @@ module _ (z : Sizes) (st : State) (fit : Fit z st) (ruled : Ruled z st) where
       i = pred (c .frame f .page)
 
       n : c .frame f .page ≡ suc i
-      n = let d = ruled .frames .busy f h q in sym (suc-pred (c .frame f .page) (omega (arith, d)))
+      n = not-zero (c .frame f .page) (ruled .frames .busy f h q)
 
       b : i < allPages z
       b = ruled .frames .fit f h .0 i n
@@ -64,7 +54,7 @@ module _ (z : Sizes) (st : State) (fit : Fit z st) (ruled : Ruled z st) where
       r = pred (files st .address i)
 
       a : files st .address i ≡ suc r
-      a = let d = ruled .frames .held f h i n .0 in sym (suc-pred (files st .address i) (omega (arith, d)))
+      a = not-zero (files st .address i) (ruled .frames .held f h i n .0)
 
   -- ── page done ──
   pub moved : (f : ℕ) → f < z .frames → ¬ (c .frame f .transfer ≡ NONE) → (c .queued f ≡ 0) × (c .removing f ≡ 0)

@@ -3,25 +3,25 @@ use mathlib.Core.Path.{_≡_, refl, ap, sym, _∙_}
 use mathlib.Core.Bool.{Bool, true, false, _&&_, _||_}
 use mathlib.Core.List.{List}
 use mathlib.Core.Logic.{_⊎_, inl, inr}
-use Prim.Native.Nat.{ℕ, zero, suc, _+_, _-_, _*_, _/_, _%_, _<_, _≤_, pred}
+use Prim.Native.Nat.{ℕ, suc, _+_, _-_, _*_, _<_, _≤_, pred}
 use native.Mathlib.Nat.{suc-inj}
 use native.Mathlib.Omega.{arith}
 use native.Mathlib.Decide.{ℕ-discrete, decLt}
-use lib.Dec.{T, eqb, leb, eqb→eq, leb→le, le→leb}
+use lib.Dec.{T, eqb, leb}
 use lib.ListN.{length, set}
 use borrow.Author.Tests.{eq-eqb, ne-eqb}
-use Rattle.tables.specs.Base.{at, if, count, tab}
+use Rattle.tables.specs.Base.{at, if, count}
 use Rattle.tables.specs.CountLaws.{count-none, count-le, count-or, count-split}
-use Rattle.tables.specs.Laws.{and-left, and-right, and-intro, eq→T, at-tab0, length-tab, count-same, T→true, ¬T→false}
+use Rattle.tables.specs.Laws.{and-left, and-right, and-intro, eq→T, at-tab0, count-same, not-zero}
 use Rattle.tables.specs.TabLaws.{set-tab}
 use Rattle.tables.specs.Questions.{Asked}
-use Rattle.tables.specs.Rule.{Rule, Holds, same, below, non, some, _and_, test, alike, told, untold, sound, complete, decided}
-use Rattle.tables.specs.Store.{Split, store, at-store}
+use Rattle.tables.specs.Rule.{Holds, test, told, untold, sound, complete, decided}
+use Rattle.tables.specs.Store.{Split, at-store}
 use Rattle.tables.specs.StoreLoops.{between, part-inside}
 use Rattle.model.specs.declared.sizes.Sizes.{Sizes}
 use Rattle.model.specs.declared.frame.Frame.{Frame}
-use Rattle.model.specs.Lines.{FREE, NULLED, LIVE, RELEASED, allowed}
-use Rattle.model.specs.State.{State, Files, Frames, files, frames, frameAt, noFrame, slotOf, pageOf, allPages, payer, charged, usedOf, live, framed}
+use Rattle.model.specs.Lines.{FREE, NULLED, LIVE, RELEASED}
+use Rattle.model.specs.State.{State, Files, Frames, files, frames, frameAt, noFrame, slotOf, pageOf, allPages, payer, charged, usedOf}
 use Rattle.model.specs.Setters.{counted}
 use Rattle.model.specs.Index.{slot-of-page, place-of-page, page-below, from-page}
 use Rattle.model.specs.Parts.{fromPage}
@@ -29,16 +29,14 @@ use Rattle.model.specs.Questions.{questions}
 use Rattle.model.specs.Stores
 use Rattle.model.specs.Step.{carried}
 use Rattle.model.specs.Fit.{Fit}
-use Rattle.model.specs.Ruled.{Ruled}
+use Rattle.model.specs.Ruled.{Ruled, once-free, once-list}
 use Rattle.model.specs.Lent.{stateOf, same-state}
 use Rattle.parts.specs.Counts.{counts, countsFor, usedCounts}
-use Rattle.stores.specs.Truncate.{truncate, chargedPage, number, usedThen, TruncateReady}
+use Rattle.stores.specs.Truncate.{truncate, usedThen, TruncateReady}
 use Rattle.stores.proofs.Cut.{from-up, not-up}
 use Rattle.stores.proofs.Kept.{counts-alike, charged-alike, used-is, map-kept, pool-kept}
 use Rattle.stores.proofs.Moves.{nulled-released, live-released}
 use Rattle.tables.specs.StoreLoops.{part-fits}
-use Rattle.stores.proofs.Named.{suc-pred}
-use Rattle.stores.proofs.Ready.{queue-once, list-once}
 
 -- a count over all pages is one over the pages before a slot, its own, and those after
 count-parts : (m n s : ℕ) (t : ℕ → Bool) → s < m → count (m * n) t ≡ count (s * n) t + count n (λ p. t (s * n + p)) + count (m * n - (s * n + n)) (λ p. t (s * n + n + p))
@@ -92,10 +90,10 @@ module _ (z : Sizes) (st : State) (fit : Fit z st) (ruled : Ruled z st) where
     addresses-long = fit .memory .addresses;
     queued = ruled .queues .free-queue;
     listed = ruled .queues .removal-list;
-    queue-once = queue-once z st fit ruled;
-    list-once = list-once z st fit ruled;
+    queue-once = once-free z st ruled;
+    list-once = once-list z st ruled;
     unqueued = λ f h b. elim (ℕ-discrete (c .queued f) 0) [ yes e ↦ e | no e ↦ absurd (omega (arith, b, ruled .frames .free f h e .0)) ];
-    framed-once = λ f g h i b e. let q = sym (suc-pred (c .frame f .page) b) in ruled .frames .once f h g i (pred (c .frame f .page)) q (e ∙ q);
+    framed-once = λ f g h i b e. let q = not-zero (c .frame f .page) (λ n. omega (arith, b, n)) in ruled .frames .once f h g i (pred (c .frame f .page)) q (e ∙ q);
     held-once = ruled .records .held-once;
     along = λ i r h a. (rw (fit .memory .states) (ruled .records .address-fit i h r a), elim (ruled .records .held i h r a .1) [ inl q ↦ rw q nulled-released | inr q ↦ rw q live-released ]);
     pays = λ s k h. pays-enough s k h;

@@ -1,19 +1,19 @@
 -- Truncate: what the code's passes leave is what the definition says.
 use mathlib.Core.Path.{_≡_, refl, ap, sym, _∙_, subst}
 use mathlib.Core.Bool.{Bool, _&&_}
-use mathlib.Core.List.{List, [], _++_, map}
-use mathlib.Core.Logic.{_⊎_, inl, inr}
-use Prim.Native.Nat.{ℕ, zero, suc, _+_, _-_, _*_, _/_, _%_, _<_, _≤_}
+use mathlib.Core.List.{List, _++_, map}
+use mathlib.Core.Logic.{inl, inr}
+use Prim.Native.Nat.{ℕ, zero, suc, _+_, _-_, _*_, _<_, _≤_}
 use native.Mathlib.Omega.{arith}
-use lib.Dec.{T, eqb, leb}
+use lib.Dec.{leb}
 use lib.ListN.{length, take, set, length-take}
 use lib.Seq.{ext-getD}
-use Rattle.tables.specs.Base.{at, if, count, find, those, tab}
+use Rattle.tables.specs.Base.{at, if, count, those, tab}
 use Rattle.tables.specs.Laws.{at-tab0, length-tab, count-same, if-true, if-false}
-use Rattle.tables.specs.Queue.{members, packed, times, without}
+use Rattle.tables.specs.Queue.{members, packed, without}
 use Rattle.tables.specs.QueueLaws.{members-within}
 use Rattle.tables.specs.Questions.{firstNo, Asked, all-yes}
-use Rattle.tables.specs.Rule.{Rule, Holds, same, below, non, some, _and_, test, alike, complete, sound}
+use Rattle.tables.specs.Rule.{Holds, same, some, _and_, test, alike, complete, sound}
 use Rattle.tables.specs.Store.{Split, store}
 use Rattle.tables.specs.StoreLoops.{from-inside, inside-from}
 use Rattle.tables.specs.ThoseLaws.{those-same}
@@ -21,9 +21,9 @@ use Rattle.model.specs.declared.sizes.Sizes.{Sizes}
 use Rattle.model.specs.declared.frame.Frame.{Frame}
 use Rattle.model.specs.declared.applied.Framed.{Framed}
 use Rattle.model.specs.Lines.{RELEASED}
-use Rattle.model.specs.State.{State, files, frames, frameAt, noFrame, pageOf, allPages, framed, charged, payer}
+use Rattle.model.specs.State.{State, frames, frameAt, noFrame, pageOf, allPages, framed, charged, payer}
 use Rattle.model.specs.Setters.{counted}
-use Rattle.model.specs.Parts.{frameOf, fromPage}
+use Rattle.model.specs.Parts.{fromPage}
 use Rattle.model.specs.Questions.{questions}
 use Rattle.model.specs.Stores
 use Rattle.model.specs.Step.{Outcome, outcome, carried, result}

@@ -4,10 +4,10 @@ use mathlib.Core.List.{List}
 use mathlib.Core.Logic.{_⊎_, inl, inr}
 use Prim.Native.Nat.{ℕ, suc, _+_, _*_, _/_, _<_, _≤_}
 use native.Mathlib.Omega.{arith}
-use lib.ListN.{length, take, set}
+use lib.ListN.{length, set}
 use Rattle.tables.specs.Base.{at}
-use Rattle.tables.specs.Questions.{firstNo, Asked, all-yes}
-use Rattle.tables.specs.Rule.{Rule, Holds, same, some, _and_, decided}
+use Rattle.tables.specs.Questions.{firstNo, all-yes}
+use Rattle.tables.specs.Rule.{Rule, Holds, same, some, _and_}
 use Rattle.tables.specs.Store.{store, at-store}
 use Rattle.tables.specs.StoreLoops.{store-same}
 use Rattle.tables.specs.StoreNamed.{store-or}
@@ -15,14 +15,14 @@ use Rattle.model.specs.declared.sizes.Sizes.{Sizes}
 use Rattle.model.specs.declared.frame.Frame.{Frame}
 use Rattle.model.specs.declared.event.Answer.{Answer}
 use Rattle.model.specs.Lines.{RELEASED, LEAVING}
-use Rattle.model.specs.State.{State, frameAt}
+use Rattle.model.specs.State.{State}
 use Rattle.model.specs.Setters.{counted}
 use Rattle.model.specs.Questions.{questions, wouldStore}
 use Rattle.model.specs.Stores
 use Rattle.model.specs.Step.{Outcome, carried, result}
 use Rattle.model.specs.Own.{own}
 use Rattle.parts.specs.FrameLaws.{frame-take}
-use Rattle.stores.specs.Answered.{done, own-yes, own-no}
+use Rattle.stores.specs.Answered.{own-yes, own-no}
 use Rattle.stores.specs.Update.{update, seen, imageOf, leavesSlot, Leaving, UpdateReady, UpdateLeft}
 use Rattle.tables.specs.StoreLoops.{part-fits}
 use Rattle.stores.proofs.Named.{fits}

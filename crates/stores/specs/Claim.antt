@@ -3,7 +3,7 @@ use mathlib.Core.Path.{_≡_}
 use mathlib.Core.Bool.{_||_}
 use mathlib.Core.List.{List, []}
 use mathlib.Core.Logic.{_⊎_}
-use Prim.Native.Nat.{ℕ, suc, _+_, _-_, _*_, _<_, _≤_, pred}
+use Prim.Native.Nat.{ℕ, suc, _-_, _*_, _<_, pred}
 use lib.Dec.{eqb}
 use lib.ListN.{length, take, set}
 use Rattle.tables.specs.Base.{at, if}
@@ -19,8 +19,8 @@ use Rattle.model.specs.declared.event.Store.the-variants.{Claim}
 use Rattle.model.specs.Lines.{NULLED, LIVE}
 use Rattle.model.specs.State.{State, files, frames, frameAt, slotOf, payer}
 use Rattle.model.specs.Questions.{questions}
-use Rattle.model.specs.Stores.{Looked, look, looking, beginsWrite, recordIn}
-use Rattle.model.specs.Step.{Outcome, outcome}
+use Rattle.model.specs.Stores.{look, looking, beginsWrite, recordIn}
+use Rattle.model.specs.Step.{outcome}
 use Rattle.model.specs.Own.{own}
 use Rattle.model.specs.Lent.{stateOf}
 use Rattle.stores.specs.Answered.{noPool}

@@ -1,7 +1,7 @@
 -- Map done: the tables that it reads, what they keep when it is asked, and what it leaves.
 use mathlib.Core.Path.{_≡_}
 use mathlib.Core.List.{List, []}
-use Prim.Native.Nat.{ℕ, suc, _*_, _<_}
+use Prim.Native.Nat.{ℕ, _<_}
 use lib.ListN.{length}
 use Rattle.tables.specs.Base.{at}
 use Rattle.model.specs.declared.sizes.Sizes.{Sizes}

@@ -2,12 +2,11 @@
 use mathlib.Core.Path.{_≡_}
 use mathlib.Core.Bool.{Bool, _&&_}
 use mathlib.Core.List.{List, [], map}
-use mathlib.Core.Logic.{_⊎_}
 use Prim.Native.Nat.{ℕ, zero, suc, _+_, _-_, _*_, _<_, _≤_}
 use lib.Dec.{T, leb, eqb}
 use lib.ListN.{length, take, set}
-use Rattle.tables.specs.Base.{at, if, count, find, those}
-use Rattle.tables.specs.Queue.{queue, members, times, without}
+use Rattle.tables.specs.Base.{at, count, find, those}
+use Rattle.tables.specs.Queue.{queue, members, times}
 use Rattle.tables.specs.Questions.{firstNo}
 use Rattle.tables.specs.TimesLaws.{Once}
 use Rattle.tables.specs.Rule.{Rule, Holds, same, below, non, each, some, names, _and_, _or_, _then_, test}
@@ -18,7 +17,7 @@ use Rattle.model.specs.declared.event.Event.{Event}
 use Rattle.model.specs.declared.event.Event.the-variants as Event
 use Rattle.model.specs.declared.event.Store.the-variants.{Truncate}
 use Rattle.model.specs.Lines.{LIVE, RELEASED, allowed}
-use Rattle.model.specs.State.{State, NONE, frameAt, noFrame, files, frames, pageOf, allPages, charged, payer}
+use Rattle.model.specs.State.{State, NONE, frameAt, files, frames, pageOf, allPages, charged, payer}
 use Rattle.model.specs.Rules.{once}
 use Rattle.model.specs.Questions.{questions}
 use Rattle.model.specs.Step.{outcome}

@@ -1,15 +1,14 @@
 // Claim: the removal list is looked through for a frame to free or to write.
 ghost use mathlib.Core.Path.{_≡_};
-ghost use mathlib.Core.Bool.{Bool, false, not, _&&_, _||_};
+ghost use mathlib.Core.Bool.{false, not};
 ghost use mathlib.Core.Logic.{_⊎_};
-ghost use Prim.Native.Nat.{ℕ, suc, _+_, _-_, _*_, _/_, _<_, _≤_, pred};
+ghost use Prim.Native.Nat.{_+_, _-_, _*_, _/_, _<_, _≤_};
 ghost use lib.Dec.{eqb};
 ghost use lib.ListN.{length, take, set};
 ghost use Rattle.tables.specs.Base.{at, all, if};
 ghost use Rattle.tables.specs.Queue.{queue, size};
 ghost use Rattle.tables.specs.Rule.{Holds};
 ghost use Rattle.model.specs.Lines.{NULLED, LIVE};
-ghost use Rattle.model.specs.State.{frameAt};
 ghost use Rattle.model.specs.Stores.{warm};
 ghost use Rattle.stores.specs.Claim.{seen, Turned, ClaimReady, ClaimLeft};
 use crate::names::framed;

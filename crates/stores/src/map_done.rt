@@ -1,12 +1,10 @@
 // Map done: an update of a slot's map has ended, good or failed.
 ghost use mathlib.Core.Path.{_≡_};
-ghost use Prim.Native.Nat.{ℕ, _+_, _*_, _<_, _≤_};
-ghost use lib.ListN.{length};
+ghost use Prim.Native.Nat.{_+_, _*_, _<_};
 ghost use Rattle.tables.specs.Base.{at};
 ghost use Rattle.tables.specs.Questions.{firstNo};
 ghost use Rattle.tables.specs.Rule.{same, non, each, named, test};
 ghost use Rattle.model.specs.Lines.{LEAVING};
-ghost use Rattle.model.specs.State.{allPages};
 ghost use Rattle.model.specs.Questions.{questions};
 ghost use Rattle.model.specs.Own.{own};
 ghost use Rattle.stores.specs.MapDone.{mapDone, asked, seen, MapReady, MapLeft};

@@ -1,6 +1,6 @@
 // What entries name, and answers put together.
 ghost use mathlib.Core.Path.{_≡_};
-ghost use Prim.Native.Nat.{ℕ, pred};
+ghost use Prim.Native.Nat.{pred};
 ghost use Rattle.tables.specs.Base.{at};
 use model::applied::Framed;
 use model::event::Answer;

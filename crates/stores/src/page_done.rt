@@ -1,13 +1,10 @@
 // Page done: a frame's read or write has ended, good or failed.
 ghost use mathlib.Core.Path.{_≡_};
-ghost use Prim.Native.Nat.{ℕ, _<_, pred};
 ghost use lib.ListN.{set, take};
-ghost use lib.Dec.{T};
 ghost use mathlib.Core.Logic.{_⊎_};
 ghost use Rattle.tables.specs.Base.{at};
 ghost use Rattle.tables.specs.Questions.{firstNo};
 ghost use Rattle.model.specs.Lines.{NULLED, LIVE};
-ghost use Rattle.model.specs.State.{frameAt};
 ghost use Rattle.model.specs.Questions.{questions};
 ghost use Rattle.model.specs.Own.{own};
 ghost use Rattle.stores.specs.Done.{pageDone, asked, seen, DoneReady, DoneLeft};

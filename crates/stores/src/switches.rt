@@ -1,6 +1,6 @@
 // One frame as an event leaves it.
 ghost use mathlib.Core.Path.{_≡_};
-ghost use Prim.Native.Nat.{ℕ, _<_, pred};
+ghost use Prim.Native.Nat.{_<_, pred};
 ghost use Rattle.model.specs.State.{noFrame, NONE, WRITING};
 ghost use Rattle.model.specs.Setters.{setModified, setTransfer};
 ghost use Rattle.model.specs.Pages.{fresh};

@@ -4,7 +4,7 @@ ghost use mathlib.Core.Bool.{_&&_};
 ghost use mathlib.Core.List.{_++_};
 ghost use lib.ListN.{length, take, set};
 ghost use Rattle.tables.specs.Queue.{members, packed, without};
-ghost use Prim.Native.Nat.{ℕ, suc, _+_, _-_, _*_, _<_, _≤_};
+ghost use Prim.Native.Nat.{ℕ, _+_, _-_, _*_, _<_, _≤_};
 ghost use Rattle.tables.specs.Questions.{firstNo};
 ghost use Rattle.model.specs.Questions.{questions};
 ghost use lib.Dec.{leb};

@@ -1,13 +1,12 @@
 // Update: a slot's map image is made, and the records that its design gives up leave.
 ghost use mathlib.Core.Path.{_≡_};
-ghost use Prim.Native.Nat.{ℕ, suc, _+_, _*_, _/_, _<_, _≤_};
-ghost use lib.ListN.{length, take};
+ghost use Prim.Native.Nat.{suc, _+_, _*_, _/_, _<_, _≤_};
+ghost use lib.ListN.{length};
 ghost use Rattle.tables.specs.Base.{at};
 ghost use Rattle.tables.specs.Questions.{firstNo};
 ghost use Rattle.tables.specs.Rule.{Holds, same, some, _and_};
 ghost use Rattle.tables.specs.Store.{store, Split};
 ghost use Rattle.model.specs.Lines.{LEAVING};
-ghost use Rattle.model.specs.State.{allPages};
 ghost use Rattle.model.specs.Questions.{questions};
 ghost use Rattle.model.specs.Own.{own};
 ghost use Rattle.stores.specs.Update.{update, asked, seen, imageOf, leaves, leavesSlot, Leaving, UpdateReady, UpdateLeft};

@@ -1,13 +1,13 @@
 -- Loops that test a rule, one number at a time: what a function that returns a rule's test cites at each of its returns.
 use mathlib.Core.Path.{_≡_, refl, sym, ap, _∙_}
 use mathlib.Core.Bool.{Bool, true, false, not, _&&_, _||_, and-assoc}
-use Prim.Native.Nat.{ℕ, suc, _+_, _-_, _<_, _≤_}
+use Prim.Native.Nat.{ℕ, _+_, _-_, _<_, _≤_}
 use native.Mathlib.Omega.{arith}
 use native.Mathlib.Nat.{not-suc-le-zero}
 use native.Mathlib.Decide.{ℕ-discrete}
 use lib.Dec.{eqb}
 use Rattle.tables.specs.Base.{_⇒_}
-use Rattle.tables.specs.Rule.{Rule, same, non, _and_, _or_, _then_, each, named, Holds, test, sound, complete, told, untold, alike}
+use Rattle.tables.specs.Rule.{Rule, same, _and_, _then_, each, named, Holds, test, sound, complete, told, untold, alike}
 
 -- ── from a rule's statement to the value that a function returns, and back ──
 pub yes-so : (f : Rule) → Holds f → true ≡ test f
@@ -21,6 +21,13 @@ learn f e = sound f (rw (← e) tt)
 
 pub unlearn : (f : Rule) → false ≡ test f → ¬ (Holds f)
 unlearn f e h = rw (← e) at (complete f h)
+
+-- .. from a value that is the rule's test
+pub said-yes : (f : Rule) {b : Bool} → b ≡ test f → b ≡ true → Holds f
+said-yes f e q = learn f (sym q ∙ e)
+
+pub said-no : (f : Rule) {b : Bool} → b ≡ test f → b ≡ false → ¬ (Holds f)
+said-no f e q = unlearn f (sym q ∙ e)
 
 -- ── the tests that code makes ──
 pub if-then : (a b : Bool) → not a || b ≡ (a ⇒ b)

@@ -1,8 +1,7 @@
 -- `number_at` meets its contract: after k bytes the value is the number of those k bytes.
-use mathlib.Core.Path.{_≡_, refl, ap, sym, _∙_}
-use Prim.Native.Nat.{ℕ, suc, _+_, _*_, _-_, _≤_, _<_, _^_}
+use mathlib.Core.Path.{_≡_, refl}
+use Prim.Native.Nat.{ℕ, _+_, _-_, _≤_, _<_, _^_}
 use native.Mathlib.Omega.{arith}
-use lib.ListN.{length, getD}
 use Rattle.fields.specs.Fields.{number}
 use Rattle.fields.proofs.Numbers.{number-next, four, next}
 use Rattle.fields.proofs.number_at.Statement.{statement}

@@ -1,10 +1,9 @@
 -- `ask_activate` meets its contract: the questions of the slot, then of its switch.
 use borrow.Author.Needs.{needs}
-use mathlib.Core.Path.{_≡_, refl, ap, sym, _∙_}
-use native.Mathlib.Omega.{arith}
-use Rattle.tables.specs.Questions.{firstNo, all-yes, yes-all}
+use mathlib.Core.Path.{sym, _∙_}
+use Rattle.tables.specs.Questions.{yes-all}
 use Rattle.tables.specs.Also.{also-yes, also-no}
-use Rattle.model.specs.Own.{first-yes, first-no}
+use Rattle.model.specs.Own.{first-no}
 use Rattle.designs.specs.Asks.{filledAsked, inactiveAsked}
 use Rattle.designs.proofs.asks.ask_activate.Statement.{statement}
 use Rattle.designs.proofs.asks.ask_activate.Tie as tie

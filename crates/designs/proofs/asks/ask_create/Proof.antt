@@ -1,11 +1,11 @@
 -- `ask_create` meets its contract: the first test that fails gives its number.
 use borrow.Author.Needs.{needs}
-use mathlib.Core.Path.{_≡_, refl, ap, sym, _∙_}
-use native.Mathlib.Omega.{arith}
-use Rattle.tables.specs.Questions.{firstNo, all-yes, yes-all}
+use mathlib.Core.Path.{sym, _∙_}
+use Rattle.tables.specs.Questions.{yes-all}
+use Rattle.tables.specs.Turn.{said-yes, said-no}
 use Rattle.model.specs.Own.{first-yes, first-no}
 use Rattle.designs.specs.Asks.{newNumber}
-use Rattle.designs.proofs.Tests.{test-yes, test-no, three-yes, three-no}
+use Rattle.designs.proofs.Tests.{three-yes, three-no}
 use Rattle.designs.proofs.asks.ask_create.Statement.{statement}
 use Rattle.designs.proofs.asks.ask_create.Tie as tie
 
@@ -26,7 +26,7 @@ returns-3 c =
     let k = n .before .before in
     let a = k .before .before .before .before .before .args in
     let y = three-yes (a .slot) (a .sizes .slots) (a .account) (a .sizes .accounts) 0 (a .number) (k .before .if1 .taken) in
-    sym (first-yes 3 _ _ y ∙ first-yes 5 _ _ (sym (k .at32 .ensures) ∙ n .before .if2 .left) ∙ first-no 6 _ _ (test-no (newNumber (a .sizes .slots) (a .numbers .now) (a .number)) _ (n .number-new .ensures) (c .if3 .left)))
+    sym (first-yes 3 _ _ y ∙ first-yes 5 _ _ (sym (k .at32 .ensures) ∙ n .before .if2 .left) ∙ first-no 6 _ _ (said-no (newNumber (a .sizes .slots) (a .numbers .now) (a .number)) (n .number-new .ensures) (c .if3 .left)))
 
 returns-4 : tie.Need-returns-4
 returns-4 c =
@@ -34,7 +34,7 @@ returns-4 c =
     let k = n .before .before in
     let a = k .before .before .before .before .before .args in
     let y = three-yes (a .slot) (a .sizes .slots) (a .account) (a .sizes .accounts) 0 (a .number) (k .before .if1 .taken) in
-    sym (yes-all _ (y, (sym (k .at32 .ensures) ∙ n .before .if2 .left, (test-yes (newNumber (a .sizes .slots) (a .numbers .now) (a .number)) _ (n .number-new .ensures) (c .if3 .taken), tt))))
+    sym (yes-all _ (y, (sym (k .at32 .ensures) ∙ n .before .if2 .left, (said-yes (newNumber (a .sizes .slots) (a .numbers .now) (a .number)) (n .number-new .ensures) (c .if3 .taken), tt))))
 
 pub ask-create-spec : {M : Type 1} → statement M
 ask-create-spec = tie.close (tie.spec returns (λ c κs. search needs) returns-2 (λ c κs. search needs) returns-3 returns-4)

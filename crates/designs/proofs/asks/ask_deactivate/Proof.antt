@@ -1,10 +1,8 @@
 -- `ask_deactivate` meets its contract: the questions in three parts.
 use borrow.Author.Needs.{needs}
-use mathlib.Core.Path.{_≡_, refl, ap, sym, _∙_}
-use native.Mathlib.Omega.{arith}
-use Rattle.tables.specs.Questions.{firstNo, all-yes, yes-all}
+use mathlib.Core.Path.{sym, _∙_}
+use Rattle.tables.specs.Questions.{all-yes}
 use Rattle.tables.specs.Also.{_also_, also-yes, also-no}
-use Rattle.model.specs.Own.{first-yes, first-no}
 use lib.ListN.{take}
 use Rattle.model.specs.Questions.{wouldStore}
 use Rattle.designs.specs.Asks.{filledAsked, activeAsked, heldAsked}

@@ -1,13 +1,13 @@
 -- `ask_delete` meets its contract: the questions of the slot, then of its map.
 use borrow.Author.Needs.{needs}
-use mathlib.Core.Path.{_≡_, refl, ap, sym, _∙_}
+use mathlib.Core.Path.{sym, _∙_}
 use native.Mathlib.Omega.{arith}
-use Rattle.tables.specs.Questions.{firstNo, all-yes, yes-all}
+use Rattle.tables.specs.Questions.{all-yes, yes-all}
 use Rattle.tables.specs.Also.{also-yes, also-no}
+use Rattle.tables.specs.Turn.{said-yes, said-no}
 use Rattle.model.specs.Own.{first-yes, first-no}
+use Rattle.model.specs.Bounds.{slot-most}
 use Rattle.designs.specs.Asks.{filledAsked, zeroMap, emptyAsked}
-use Rattle.designs.proofs.Places.{slot-most}
-use Rattle.designs.proofs.Tests.{test-yes, test-no}
 use Rattle.designs.proofs.asks.ask_delete.Statement.{statement}
 use Rattle.designs.proofs.asks.ask_delete.Tie as tie
 
@@ -31,7 +31,7 @@ returns-2 c =
     let k = m .before .before in
     let a = k .before .before .before .before .args in
     let t = also-yes 0 (filledAsked (a .sizes) (a .slot) (a .numbers .now)) (emptyAsked (a .maps .now) (a .active .now) (a .sizes .pages) (a .slot)) tt (sym (k .ask-filled .ensures) ∙ m .before .if1 .left) in
-    sym (t ∙ first-no 7 _ _ (test-no (zeroMap (a .maps .now) (a .sizes .pages) (a .slot)) _ (m .map-zero .ensures) (c .if2 .left)))
+    sym (t ∙ first-no 7 _ _ (said-no (zeroMap (a .maps .now) (a .sizes .pages) (a .slot)) (m .map-zero .ensures) (c .if2 .left)))
 
 returns-3 : tie.Need-returns-3
 returns-3 c =
@@ -40,7 +40,7 @@ returns-3 c =
     let k = m .before .before in
     let a = k .before .before .before .before .args in
     let t = also-yes 0 (filledAsked (a .sizes) (a .slot) (a .numbers .now)) (emptyAsked (a .maps .now) (a .active .now) (a .sizes .pages) (a .slot)) tt (sym (k .ask-filled .ensures) ∙ m .before .if1 .left) in
-    sym (t ∙ first-yes 7 _ _ (test-yes (zeroMap (a .maps .now) (a .sizes .pages) (a .slot)) _ (m .map-zero .ensures) (b .before .if2 .taken)) ∙ first-no 9 _ _ (λ h. h (sym (b .at8 .ensures) ∙ c .if3 .taken)))
+    sym (t ∙ first-yes 7 _ _ (said-yes (zeroMap (a .maps .now) (a .sizes .pages) (a .slot)) (m .map-zero .ensures) (b .before .if2 .taken)) ∙ first-no 9 _ _ (λ h. h (sym (b .at8 .ensures) ∙ c .if3 .taken)))
 
 returns-4 : tie.Need-returns-4
 returns-4 c =
@@ -49,7 +49,7 @@ returns-4 c =
     let k = m .before .before in
     let a = k .before .before .before .before .args in
     let t = also-yes 0 (filledAsked (a .sizes) (a .slot) (a .numbers .now)) (emptyAsked (a .maps .now) (a .active .now) (a .sizes .pages) (a .slot)) tt (sym (k .ask-filled .ensures) ∙ m .before .if1 .left) in
-    sym (t ∙ yes-all _ (test-yes (zeroMap (a .maps .now) (a .sizes .pages) (a .slot)) _ (m .map-zero .ensures) (b .before .if2 .taken), (λ h. c .if3 .left (b .at8 .ensures ∙ h), tt)))
+    sym (t ∙ yes-all _ (said-yes (zeroMap (a .maps .now) (a .sizes .pages) (a .slot)) (m .map-zero .ensures) (b .before .if2 .taken), (λ h. c .if3 .left (b .at8 .ensures ∙ h), tt)))
 
 pub ask-delete-spec : {M : Type 1} → statement M
 ask-delete-spec = tie.close (tie.spec (λ c κs. search needs) returns map-zero-requires returns-2 (λ c κs. search needs) returns-3 returns-4)

@@ -1,6 +1,6 @@
 -- `ask_filled` meets its contract: the first test that fails gives its number.
 use borrow.Author.Needs.{needs}
-use mathlib.Core.Path.{_≡_, refl, ap, sym, _∙_}
+use mathlib.Core.Path.{sym, _∙_}
 use native.Mathlib.Omega.{arith}
 use Rattle.tables.specs.Questions.{yes-all}
 use Rattle.model.specs.Own.{first-yes, first-no}

@@ -1,6 +1,6 @@
 -- `create` meets its contract: the questions, then number and account.
 use borrow.Author.Needs.{needs}
-use mathlib.Core.Path.{_≡_, refl, ap, sym, _∙_}
+use mathlib.Core.Path.{sym, _∙_}
 use mathlib.Core.List.{[]}
 use native.Mathlib.Omega.{arith}
 use Rattle.model.specs.declared.event.Event.the-variants as Event

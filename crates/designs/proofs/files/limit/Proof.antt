@@ -1,6 +1,6 @@
 -- `limit` meets its contract: the range, then one store.
 use borrow.Author.Needs.{needs}
-use mathlib.Core.Path.{_≡_, refl, ap, sym, _∙_}
+use mathlib.Core.Path.{refl, sym, _∙_}
 use mathlib.Core.List.{[]}
 use native.Mathlib.Omega.{arith}
 use Rattle.model.specs.declared.event.Event.the-variants as Event

@@ -1,8 +1,8 @@
 -- `none_framed` meets its contract: no frame passed has a page of the slot.
 use borrow.Author.Needs.{needs}
-use mathlib.Core.Path.{_≡_, refl, ap, sym, _∙_}
+use mathlib.Core.Path.{sym}
 use native.Mathlib.Omega.{arith}
-use Prim.Native.Nat.{ℕ, suc, _+_, _-_, _*_, _<_, _≤_}
+use Prim.Native.Nat.{ℕ, _+_, _-_, _*_, _<_, _≤_}
 use borrow.Author.Count.{below-more}
 use Rattle.tables.specs.Rule.{told, untold}
 use Rattle.model.specs.State.{frameAt}

@@ -1,7 +1,5 @@
 -- `live_address` meets its contract: the address, where its record is live.
 use borrow.Author.Needs.{needs}
-use mathlib.Core.Path.{_≡_, refl, ap, sym, _∙_}
-use native.Mathlib.Omega.{arith}
 use Rattle.designs.proofs.Live.{live-none, live-on, live-off}
 use Rattle.designs.proofs.maps.live_address.Statement.{statement}
 use Rattle.designs.proofs.maps.live_address.Tie as tie

@@ -1,8 +1,8 @@
 -- `records_settled` meets its contract: no record passed is the slot's and nulled or released.
 use borrow.Author.Needs.{needs}
-use mathlib.Core.Path.{_≡_, refl, ap, sym, _∙_}
+use mathlib.Core.Path.{_≡_, sym}
 use native.Mathlib.Omega.{arith}
-use Prim.Native.Nat.{ℕ, suc, _+_, _-_, _*_, _<_, _≤_}
+use Prim.Native.Nat.{ℕ, _-_, _<_, _≤_}
 use borrow.Author.Count.{below-more}
 use Rattle.tables.specs.Base.{at}
 use Rattle.tables.specs.Rule.{told, untold}

@@ -1,6 +1,6 @@
 -- `activate` meets its contract: the questions, then addresses, states and switch.
 use borrow.Author.Needs.{needs}
-use mathlib.Core.Path.{_≡_, refl, ap, sym, _∙_}
+use mathlib.Core.Path.{sym, _∙_}
 use mathlib.Core.List.{[]}
 use native.Mathlib.Omega.{arith}
 use Rattle.model.specs.declared.event.Event.the-variants as Event
@@ -9,8 +9,8 @@ use Rattle.model.specs.OwnLaws.{own-no}
 use Rattle.designs.specs.Seen.{turned}
 use Rattle.designs.proofs.Carried.{carried-out, activate-addresses, activate-states, activate-active, filed-live}
 use Rattle.tables.specs.Questions.{all-yes}
+use Rattle.tables.specs.StoreLoops.{part-fits}
 use Rattle.model.specs.Questions.{questions}
-use Rattle.designs.proofs.Places.{slot-inside}
 use Rattle.designs.proofs.turns.activate.Statement.{statement}
 use Rattle.designs.proofs.turns.activate.Tie as tie
 
@@ -28,7 +28,7 @@ copy-slot-requires c κs =
     let s = k .before .before .before .before .before .before .before .before in
     let a = s .args in
     let t = all-yes 0 (questions (a .sizes) (turned [] (a .numbers .now) (a .maps .now) (a .addresses .now) (a .states .now) (a .owners .now) (a .active .now) []) (Event.Design (Design.Activate (a .slot)))) tt (sym (k .ask-activate .ensures) ∙ b .if1 .left) in
-    let i = slot-inside (a .sizes) (s .pre .sizes) (a .slot) (t .0) in
+    let i = part-fits (a .sizes .slots) (a .sizes .pages) (a .slot) (t .0) in
     (s .pre .sizes .pages, omega (arith, i, s .pre .maps-long), omega (arith, i, s .pre .addresses-long))
 
 move-all-requires : tie.Need-move-all-requires

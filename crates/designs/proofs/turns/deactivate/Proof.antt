@@ -1,7 +1,6 @@
 -- `deactivate` meets its contract: the questions, then addresses, states and switch.
 use borrow.Author.Needs.{needs}
-use mathlib.Core.Path.{_≡_, refl, ap, sym, _∙_}
-use mathlib.Core.List.{[]}
+use mathlib.Core.Path.{sym, _∙_}
 use native.Mathlib.Omega.{arith}
 use Rattle.model.specs.declared.event.Event.the-variants as Event
 use Rattle.model.specs.declared.event.Design.the-variants as Design
@@ -10,8 +9,8 @@ use Rattle.designs.specs.Seen.{turned}
 use Rattle.designs.proofs.Carried.{carried-out, deactivate-addresses, deactivate-states, deactivate-active, live-filed}
 use lib.ListN.{take}
 use Rattle.tables.specs.Questions.{all-yes}
+use Rattle.tables.specs.StoreLoops.{part-fits}
 use Rattle.model.specs.Questions.{questions}
-use Rattle.designs.proofs.Places.{slot-inside}
 use Rattle.designs.proofs.turns.deactivate.Statement.{statement}
 use Rattle.designs.proofs.turns.deactivate.Tie as tie
 
@@ -29,7 +28,7 @@ clear-slot-requires c κs =
     let s = k .before .before .before .before .before .before .before .before .before .before .before in
     let a = s .args in
     let t = all-yes 0 (questions (a .sizes) (turned (take (a .sizes .frames) (a .frames)) (a .numbers .now) (a .maps .now) (a .addresses .now) (a .states .now) (a .owners .now) (a .active .now) (a .updating .now)) (Event.Design (Design.Deactivate (a .slot)))) tt (sym (k .ask-deactivate .ensures) ∙ b .if1 .left) in
-    (s .pre .sizes .pages, omega (arith, slot-inside (a .sizes) (s .pre .sizes) (a .slot) (t .0), s .pre .addresses-long))
+    (s .pre .sizes .pages, omega (arith, part-fits (a .sizes .slots) (a .sizes .pages) (a .slot) (t .0), s .pre .addresses-long))
 
 move-all-requires : tie.Need-move-all-requires
 move-all-requires c κs = (c .before .before .before .before .before .before .before .before .before .before .before .before .before .before .before .before .before .pre .owners-long, live-filed)

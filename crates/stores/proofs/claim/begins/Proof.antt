@@ -1,8 +1,8 @@
 -- `begins` meets its contract.
 use borrow.Author.Needs.{needs}
 use borrow.Author.Tests.{eq-eqb, ne-eqb}
-use mathlib.Core.Path.{_≡_, ap, sym, _∙_}
-use mathlib.Core.Bool.{Bool, not}
+use mathlib.Core.Path.{ap}
+use mathlib.Core.Bool.{not}
 use Rattle.stores.proofs.claim.begins.Statement.{statement}
 use Rattle.stores.proofs.claim.begins.Tie as tie
 

@@ -1,19 +1,14 @@
 -- `claim` meets its contract: each way out by its law.
 use borrow.Author.Needs.{needs}
-use mathlib.Core.Path.{_≡_, refl, ap, sym, _∙_}
-use mathlib.Core.Bool.{Bool, false, not}
+use mathlib.Core.Path.{ap, _∙_}
 use mathlib.Core.List.{List}
-use Prim.Native.Nat.{ℕ, _+_, _-_, _*_, _/_, _<_, pred}
+use Prim.Native.Nat.{pred}
 use native.Mathlib.Omega.{arith}
-use lib.Dec.{eqb}
-use lib.ListN.{length, take, set}
-use Rattle.tables.specs.Base.{at, if, all}
+use lib.ListN.{set}
+use Rattle.tables.specs.Base.{at}
 use Rattle.tables.specs.Queue.{push-back}
 use Rattle.tables.specs.QueueEntries.{size-more}
 use Rattle.model.specs.declared.frame.Frame.{Frame}
-use Rattle.model.specs.Lines.{NULLED}
-use Rattle.model.specs.State.{WRITING, frameAt, noFrame}
-use Rattle.model.specs.Setters.{setTransfer}
 use Rattle.stores.proofs.DoneWork.{answered}
 use Rattle.stores.proofs.ClaimWork.{refused, words-fit, room, pays, moves, write-begins, freed}
 use Rattle.stores.proofs.claim.claim.Statement.{statement}

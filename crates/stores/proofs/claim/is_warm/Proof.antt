@@ -1,7 +1,5 @@
 -- `is_warm` meets its contract.
-use borrow.Author.Needs.{needs}
 use borrow.Author.Tests.{eq-eqb, ne-eqb}
-use mathlib.Core.Path.{_≡_, refl, ap, sym, _∙_}
 use Rattle.stores.proofs.claim.is_warm.Statement.{statement}
 use Rattle.stores.proofs.claim.is_warm.Tie as tie
 

@@ -1,9 +1,9 @@
 -- `make_nulled` meets its contract: live to nulled is a line, and a nulled record stays as it is.
 use borrow.Author.Needs.{needs}
 use borrow.Author.Tests.{eq-eqb, ne-eqb}
-use mathlib.Core.Path.{_≡_, refl, ap, sym, _∙_}
-use mathlib.Core.Logic.{_⊎_, ⊎-elim, inl, inr}
-use Rattle.model.specs.Lines.{NULLED, LIVE}
+use mathlib.Core.Path.{sym, _∙_}
+use mathlib.Core.Logic.{⊎-elim}
+use Rattle.model.specs.Lines.{NULLED}
 use Rattle.stores.proofs.Moves.{live-nulled}
 use Rattle.stores.proofs.Named.{set-at}
 use Rattle.stores.proofs.claim.make_nulled.Statement.{statement}

@@ -1,9 +1,8 @@
 -- `turn` meets its contract: the rest of the looks from each turn on is what the looks from the start give.
 use borrow.Author.Needs.{needs}
-use mathlib.Core.Path.{_≡_, refl, ap, sym, _∙_}
-use Prim.Native.Nat.{ℕ, suc, _-_, _<_, _≤_}
+use mathlib.Core.Path.{sym, _∙_}
+use Prim.Native.Nat.{suc, _-_}
 use native.Mathlib.Omega.{arith}
-use lib.ListN.{length}
 use Rattle.tables.specs.Queue.{size}
 use Rattle.tables.specs.QueueLaws.{size-le}
 use Rattle.stores.proofs.Looks.{Round, round-starts, entry-below, looks-most, more, round-again, round-ends}

@@ -1,11 +1,8 @@
 -- `uncharge` meets its contract.
 use borrow.Author.Needs.{needs}
 use borrow.Author.Tests.{eq-eqb, ne-eqb}
-use mathlib.Core.Path.{_≡_, refl, ap, sym, _∙_}
-use mathlib.Core.List.{List}
-use Prim.Native.Nat.{ℕ, _-_}
+use mathlib.Core.Path.{_≡_, ap, sym, _∙_}
 use native.Mathlib.Omega.{arith}
-use lib.ListN.{set}
 use Rattle.tables.specs.Base.{at}
 use Rattle.stores.proofs.claim.uncharge.Statement.{statement}
 use Rattle.stores.proofs.claim.uncharge.Tie as tie

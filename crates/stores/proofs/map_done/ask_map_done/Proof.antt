@@ -1,11 +1,10 @@
 -- `ask_map_done` meets its contract: the first question that fails.
 use borrow.Author.Needs.{needs}
-use mathlib.Core.Path.{_≡_, refl, ap, sym, _∙_}
+use mathlib.Core.Path.{sym, _∙_}
 use native.Mathlib.Omega.{arith}
-use lib.Dec.{T}
-use Rattle.tables.specs.Questions.{firstNo, yes-all}
+use Rattle.tables.specs.Questions.{yes-all}
+use Rattle.tables.specs.Turn.{said-yes, said-no}
 use Rattle.model.specs.Own.{first-yes, first-no}
-use Rattle.stores.proofs.Named.{said-yes, said-no}
 use Rattle.stores.proofs.map_done.ask_map_done.Statement.{statement}
 use Rattle.stores.proofs.map_done.ask_map_done.Tie as tie
 

@@ -1,9 +1,6 @@
 -- `map_done` meets its contract: each way out by its law.
 use borrow.Author.Needs.{needs}
-use mathlib.Core.Path.{_≡_, refl, ap, sym, _∙_}
 use native.Mathlib.Omega.{arith}
-use Prim.Native.Nat.{ℕ, _≤_}
-use lib.ListN.{length}
 use Rattle.stores.proofs.MapWork.{refused, maps-fit, images-fit, good-left, failed-left}
 use Rattle.stores.proofs.Moves.{leaving-released}
 use Rattle.stores.proofs.map_done.map_done.Statement.{statement}

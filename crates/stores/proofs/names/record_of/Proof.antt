@@ -1,7 +1,7 @@
 -- `record_of` meets its contract.
 use borrow.Author.Needs.{needs}
-use mathlib.Core.Path.{_≡_, ap, _∙_}
-use Prim.Native.Nat.{ℕ, pred}
+use mathlib.Core.Path.{ap, _∙_}
+use Prim.Native.Nat.{pred}
 use Rattle.tables.specs.Base.{at}
 use Rattle.stores.proofs.names.record_of.Statement.{statement}
 use Rattle.stores.proofs.names.record_of.Tie as tie

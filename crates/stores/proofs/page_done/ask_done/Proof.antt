@@ -1,11 +1,9 @@
 -- `ask_done` meets its contract: the first question that fails.
 use borrow.Author.Needs.{needs}
-use mathlib.Core.Path.{_≡_, refl, ap, sym, _∙_}
+use mathlib.Core.Path.{ap, sym, _∙_}
 use native.Mathlib.Omega.{arith}
-use lib.ListN.{take}
-use Rattle.tables.specs.Questions.{firstNo, yes-all}
+use Rattle.tables.specs.Questions.{yes-all}
 use Rattle.model.specs.declared.frame.Frame.{Frame}
-use Rattle.model.specs.State.{frameAt}
 use Rattle.model.specs.Own.{first-yes, first-no}
 use Rattle.parts.specs.FrameLaws.{frame-take}
 use Rattle.stores.proofs.page_done.ask_done.Statement.{statement}

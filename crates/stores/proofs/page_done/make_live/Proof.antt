@@ -1,10 +1,8 @@
 -- `make_live` meets its contract: nulled to live is a line, and a live record stays as it is.
 use borrow.Author.Needs.{needs}
-use mathlib.Core.Path.{_≡_, refl, ap, sym, _∙_}
-use mathlib.Core.Logic.{_⊎_, ⊎-elim, inl, inr}
-use lib.Dec.{T}
-use lib.ListN.{length, set}
-use Rattle.model.specs.Lines.{allowed, NULLED, LIVE}
+use mathlib.Core.Path.{sym, _∙_}
+use mathlib.Core.Logic.{⊎-elim}
+use Rattle.model.specs.Lines.{LIVE}
 use Rattle.stores.proofs.Moves.{nulled-live}
 use Rattle.stores.proofs.Named.{set-at}
 use Rattle.stores.proofs.page_done.make_live.Statement.{statement}

@@ -1,51 +1,50 @@
 -- `page_done` meets its contract: each way out by its law.
 use borrow.Author.Needs.{needs}
-use mathlib.Core.Path.{_≡_, refl, ap, sym, _∙_}
-use native.Mathlib.Omega.{arith}
-use Prim.Native.Nat.{ℕ, suc, _+_, _*_, _<_, _≤_, pred}
-use lib.ListN.{length, take, set}
+use mathlib.Core.Path.{_≡_, ap, sym, _∙_}
+use Prim.Native.Nat.{pred}
+use lib.ListN.{set}
 use mathlib.Core.List.{List}
 use Rattle.tables.specs.Base.{at}
-use Rattle.tables.specs.Questions.{firstNo}
 use Rattle.model.specs.declared.frame.Frame.{Frame}
-use Rattle.model.specs.declared.sizes.Sizes.{Sizes}
-use Rattle.model.specs.State.{frameAt}
-use Rattle.model.specs.Questions.{questions}
-use Rattle.stores.specs.Done.{pageDone, asked, seen, InTransfer, DoneReady, DoneLeft}
 use Rattle.model.specs.Pages.{fresh}
-use Rattle.stores.proofs.DoneWork.{answered, unwritten, part-record, part-frame, room-list, room-queue, paged, moves, refused, inside, moving, read-good, read-failed, write-good, write-failed}
+use Rattle.model.specs.State.{frameAt}
+use Rattle.stores.proofs.DoneWork.{answered, unwritten, part-record, part-frame, room-list, room-queue, paged, moves, refused, read-good, read-failed, write-good, write-failed}
 use Rattle.stores.proofs.page_done.page_done.Statement.{statement}
 use Rattle.stores.proofs.page_done.page_done.Tie as tie
-use Rattle.stores.proofs.page_done.page_done.Lts as lts
 
 returns : tie.Need-returns
 returns c = let a = c .before .before in refused _ _ _ _ _ _ _ _ _ _ (a .ask-done .ensures) (c .before .if1 .taken) (c .framed .ensures)
 
+-- ── the places before a record is found ──
+abbrev passed : tie.After-record-of → tie.Else1
+passed r = r .before .before
+
+abbrev asked : tie.After-record-of → tie.After-ask-done
+asked r = passed r .before
+
+abbrev start : tie.After-record-of → tie.Start
+start r = asked r .before .before .before .before .before .before .before
+
+-- the record of the frame's page
+found : (r : tie.After-record-of) → (let a = start r .args in r .record-of .result ≡ pred (at (a .addresses .now) (pred (frameAt (a .frames) (a .frame) .page))))
+found r = r .record-of .ensures ∙ ap (λ (x : Frame). pred (at (start r .args .addresses .now) (pred (x .page)))) (r .before .frame-at .ensures)
+
 copy-part-requires : tie.Need-copy-part-requires
 copy-part-requires c κs =
     let r = c .before .before .before .before .before in
-    let g = r .before in
-    let a = g .before .before in
-    let s = a .before .before .before .before .before .before .before in
-    (s .pre .positive, part-record _ _ _ _ _ _ _ _ _ _ (a .ask-done .ensures) (g .before .if1 .left) (s .pre) (r .record-of .ensures ∙ ap (λ (x : Frame). pred (at (s .args .addresses .now) (pred (x .page)))) (g .frame-at .ensures)), part-frame _ _ _ _ _ _ _ _ _ _ (a .ask-done .ensures) (g .before .if1 .left) (s .pre))
+    (start r .pre .positive, part-record _ _ _ _ _ _ _ _ _ _ (asked r .ask-done .ensures) (passed r .if1 .left) (start r .pre) (found r), part-frame _ _ _ _ _ _ _ _ _ _ (asked r .ask-done .ensures) (passed r .if1 .left) (start r .pre))
 
 push-front-requires : tie.Need-push-front-requires
 push-front-requires c κs =
     let k = c .before .before .before in
     let r = k .before .before .before .before .before .before in
-    let g = r .before in
-    let a = g .before .before in
-    let s = a .before .before .before .before .before .before .before in
-    room-list _ _ _ _ _ _ _ _ _ _ (a .ask-done .ensures) (g .before .if1 .left) (s .pre)
+    room-list _ _ _ _ _ _ _ _ _ _ (asked r .ask-done .ensures) (passed r .if1 .left) (start r .pre)
 
 served-requires : tie.Need-served-requires
 served-requires c κs =
     let k = c .before .before .before .before .before .before in
     let r = k .before .before .before .before .before .before in
-    let g = r .before in
-    let a = g .before .before in
-    let s = a .before .before .before .before .before .before .before in
-    rw (g .frame-at .ensures) (paged _ _ _ _ _ _ _ _ _ _ (a .ask-done .ensures) (g .before .if1 .left) (s .pre))
+    rw (r .before .frame-at .ensures) (paged _ _ _ _ _ _ _ _ _ _ (asked r .ask-done .ensures) (passed r .if1 .left) (start r .pre))
 
 returns-2 : tie.Need-returns-2
 returns-2 c =
@@ -65,10 +64,7 @@ returns-2 c =
 push-back-requires : tie.Need-push-back-requires
 push-back-requires c κs =
     let r = c .before .before .before .before in
-    let g = r .before in
-    let a = g .before .before in
-    let s = a .before .before .before .before .before .before .before in
-    room-queue _ _ _ _ _ _ _ _ _ _ (a .ask-done .ensures) (g .before .if1 .left) (s .pre)
+    room-queue _ _ _ _ _ _ _ _ _ _ (asked r .ask-done .ensures) (passed r .if1 .left) (start r .pre)
 
 returns-3 : tie.Need-returns-3
 returns-3 c =
@@ -77,37 +73,25 @@ returns-3 c =
     let p = v .before .before .before in
     let t = p .before .before in
     let r = t .before .before .before in
-    let g = r .before in
-    let a = g .before .before in
-    let s = a .before .before .before .before .before .before .before in
-    read-failed _ _ _ _ _ _ _ _ _ _ (a .ask-done .ensures) (g .before .if1 .left) (ap (λ (x : Frame). x .transfer) (sym (g .frame-at .ensures)) ∙ t .before .if2 .taken) (t .if3 .left) (p .push-back .ensures)
-    (c .framed3 .ensures ∙ ap (λ (fs : List Frame). answered fs 0 0) (w .with-frame2 .ensures ∙ ap (set (s .args .frames) (s .args .frame)) (v .empty .ensures)))
+    read-failed _ _ _ _ _ _ _ _ _ _ (asked r .ask-done .ensures) (passed r .if1 .left) (ap (λ (x : Frame). x .transfer) (sym (r .before .frame-at .ensures)) ∙ t .before .if2 .taken) (t .if3 .left) (p .push-back .ensures)
+    (c .framed3 .ensures ∙ ap (λ (fs : List Frame). answered fs 0 0) (w .with-frame2 .ensures ∙ ap (set (start r .args .frames) (start r .args .frame)) (v .empty .ensures)))
 
 copy-part-requires-2 : tie.Need-copy-part-requires-2
 copy-part-requires-2 c κs =
     let r = c .before .before .before .before .before in
-    let g = r .before in
-    let a = g .before .before in
-    let s = a .before .before .before .before .before .before .before in
-    (s .pre .positive, part-frame _ _ _ _ _ _ _ _ _ _ (a .ask-done .ensures) (g .before .if1 .left) (s .pre), part-record _ _ _ _ _ _ _ _ _ _ (a .ask-done .ensures) (g .before .if1 .left) (s .pre) (r .record-of .ensures ∙ ap (λ (x : Frame). pred (at (s .args .addresses .now) (pred (x .page)))) (g .frame-at .ensures)))
+    (start r .pre .positive, part-frame _ _ _ _ _ _ _ _ _ _ (asked r .ask-done .ensures) (passed r .if1 .left) (start r .pre), part-record _ _ _ _ _ _ _ _ _ _ (asked r .ask-done .ensures) (passed r .if1 .left) (start r .pre) (found r))
 
 make-live-requires : tie.Need-make-live-requires
 make-live-requires c κs =
     let k = c .before .before .before in
     let r = k .before .before .before .before .before .before in
-    let g = r .before in
-    let a = g .before .before in
-    let s = a .before .before .before .before .before .before .before in
-    moves _ _ _ _ _ _ _ _ _ _ (a .ask-done .ensures) (g .before .if1 .left) (s .pre) (r .record-of .ensures ∙ ap (λ (x : Frame). pred (at (s .args .addresses .now) (pred (x .page)))) (g .frame-at .ensures))
+    moves _ _ _ _ _ _ _ _ _ _ (asked r .ask-done .ensures) (passed r .if1 .left) (start r .pre) (found r)
 
 push-back-requires-2 : tie.Need-push-back-requires-2
 push-back-requires-2 c κs =
     let k = c .before .before .before .before .before .before .before in
     let r = k .before .before .before .before .before .before in
-    let g = r .before in
-    let a = g .before .before in
-    let s = a .before .before .before .before .before .before .before in
-    room-queue _ _ _ _ _ _ _ _ _ _ (a .ask-done .ensures) (g .before .if1 .left) (s .pre)
+    room-queue _ _ _ _ _ _ _ _ _ _ (asked r .ask-done .ensures) (passed r .if1 .left) (start r .pre)
 
 returns-4 : tie.Need-returns-4
 returns-4 c =
@@ -128,10 +112,7 @@ returns-4 c =
 push-back-requires-3 : tie.Need-push-back-requires-3
 push-back-requires-3 c κs =
     let r = c .before .before .before .before in
-    let g = r .before in
-    let a = g .before .before in
-    let s = a .before .before .before .before .before .before .before in
-    room-list _ _ _ _ _ _ _ _ _ _ (a .ask-done .ensures) (g .before .if1 .left) (s .pre)
+    room-list _ _ _ _ _ _ _ _ _ _ (asked r .ask-done .ensures) (passed r .if1 .left) (start r .pre)
 
 returns-5 : tie.Need-returns-5
 returns-5 c =
@@ -140,11 +121,8 @@ returns-5 c =
     let p = v .before .before .before in
     let t = p .before .before in
     let r = t .before .before .before in
-    let g = r .before in
-    let a = g .before .before in
-    let s = a .before .before .before .before .before .before .before in
-    write-failed _ _ _ _ _ _ _ _ _ _ (a .ask-done .ensures) (g .before .if1 .left) (λ e. t .before .if2 .left (ap (λ (x : Frame). x .transfer) (g .frame-at .ensures) ∙ e)) (t .if4 .left) (p .push-back3 .ensures)
-    (c .framed5 .ensures ∙ ap (λ (fs : List Frame). answered fs 0 0) (w .with-frame4 .ensures ∙ ap (set (s .args .frames) (s .args .frame)) (v .unwritten .ensures ∙ ap unwritten (g .frame-at .ensures))))
+    write-failed _ _ _ _ _ _ _ _ _ _ (asked r .ask-done .ensures) (passed r .if1 .left) (λ e. t .before .if2 .left (ap (λ (x : Frame). x .transfer) (r .before .frame-at .ensures) ∙ e)) (t .if4 .left) (p .push-back3 .ensures)
+    (c .framed5 .ensures ∙ ap (λ (fs : List Frame). answered fs 0 0) (w .with-frame4 .ensures ∙ ap (set (start r .args .frames) (start r .args .frame)) (v .unwritten .ensures ∙ ap unwritten (r .before .frame-at .ensures))))
 
 pub page-done-spec : {M : Type 1} → statement M
 page-done-spec =

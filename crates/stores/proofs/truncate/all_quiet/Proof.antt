@@ -1,16 +1,17 @@
 -- `all_quiet` meets its contract: every frame passed is quiet, or has none of these pages.
 use borrow.Author.Needs.{needs}
 use borrow.Author.Count.{below-more}
-use mathlib.Core.Path.{_≡_, refl, ap, sym, _∙_}
-use mathlib.Core.Logic.{_⊎_, ⊎-elim, inl, inr}
+use mathlib.Core.Path.{sym}
+use mathlib.Core.Logic.{⊎-elim}
 use mathlib.Core.List.{List}
-use Prim.Native.Nat.{ℕ, suc, _+_, _-_, _*_, _<_, _≤_}
+use Prim.Native.Nat.{ℕ, _+_, _-_, _*_, _<_, _≤_}
 use native.Mathlib.Omega.{arith}
 use Rattle.tables.specs.Rule.{Holds, told, untold}
+use Rattle.tables.specs.Turn.{said-yes, said-no}
 use Rattle.model.specs.declared.frame.Frame.{Frame}
 use Rattle.model.specs.State.{frameAt}
 use Rattle.stores.specs.Truncate.{quiet, allQuiet}
-use Rattle.stores.proofs.Named.{fits, said-yes, said-no}
+use Rattle.stores.proofs.Named.{fits}
 use Rattle.stores.proofs.truncate.all_quiet.Statement.{statement}
 use Rattle.stores.proofs.truncate.all_quiet.Tie as tie
 

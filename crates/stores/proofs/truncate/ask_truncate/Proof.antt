@@ -1,11 +1,11 @@
 -- `ask_truncate` meets its contract: the first question that fails.
 use borrow.Author.Needs.{needs}
-use mathlib.Core.Path.{_≡_, refl, ap, sym, _∙_}
+use mathlib.Core.Path.{sym, _∙_}
 use native.Mathlib.Omega.{arith}
 use Rattle.tables.specs.Questions.{yes-all}
+use Rattle.tables.specs.Turn.{said-yes, said-no}
 use Rattle.model.specs.Own.{first-yes, first-no}
 use Rattle.stores.specs.Truncate.{allQuiet}
-use Rattle.stores.proofs.Named.{said-yes, said-no}
 use Rattle.stores.proofs.TruncateWork.{quiet-model, model-quiet}
 use Rattle.stores.proofs.truncate.ask_truncate.Statement.{statement}
 use Rattle.stores.proofs.truncate.ask_truncate.Tie as tie

@@ -1,17 +1,13 @@
 -- `charges` meets its contract: the pages passed are counted.
 use borrow.Author.Needs.{needs}
-use mathlib.Core.Path.{_≡_, refl, ap, sym, _∙_}
-use mathlib.Core.Bool.{Bool, true, false, _&&_}
+use mathlib.Core.Path.{_≡_, ap, sym, _∙_}
+use mathlib.Core.Bool.{_&&_}
 use mathlib.Core.Logic.{⊎-elim}
-use mathlib.Core.List.{List}
-use Prim.Native.Nat.{ℕ, suc, _+_, _-_, _*_, _<_, _≤_}
+use Prim.Native.Nat.{ℕ, _+_, _-_, _*_, _≤_}
 use native.Mathlib.Omega.{arith}
-use native.Mathlib.Numerals.{add-one}
 use lib.Dec.{leb}
-use Rattle.tables.specs.Base.{count, if}
-use Rattle.tables.specs.Laws.{count-bound}
+use Rattle.tables.specs.Base.{count}
 use Rattle.tables.specs.Rule.{test}
-use Rattle.model.specs.declared.frame.Frame.{Frame}
 use Rattle.stores.specs.Truncate.{chargedPage}
 use Rattle.stores.proofs.Named.{fits}
 use Rattle.stores.proofs.Cut.{none-below, one-more, one-not}

@@ -1,8 +1,8 @@
 -- `is_charged` meets its contract.
 use borrow.Author.Needs.{needs}
-use mathlib.Core.Path.{_≡_, refl, ap, sym, _∙_}
-use mathlib.Core.Bool.{Bool, true, false}
-use mathlib.Core.Logic.{_⊎_, inl, inr}
+use mathlib.Core.Path.{_≡_, ap, sym, _∙_}
+use mathlib.Core.Bool.{true, false}
+use mathlib.Core.Logic.{inl, inr}
 use mathlib.Core.List.{List}
 use Prim.Native.Nat.{ℕ, suc, _-_}
 use native.Mathlib.Omega.{arith}
@@ -12,7 +12,6 @@ use lib.Dec.{eqb}
 use Rattle.tables.specs.Base.{at}
 use Rattle.tables.specs.Rule.{Holds, test, some, same, told, untold}
 use Rattle.model.specs.declared.frame.Frame.{Frame}
-use Rattle.model.specs.Lines.{LIVE}
 use Rattle.model.specs.State.{frameAt}
 use Rattle.stores.specs.Truncate.{chargedPage}
 use Rattle.stores.proofs.Leaves.{in-frame, in-none}

@@ -1,10 +1,6 @@
 -- `truncate` meets its contract: each way out by its law.
 use borrow.Author.Needs.{needs}
-use mathlib.Core.Path.{_≡_, refl, ap, sym, _∙_}
 use native.Mathlib.Omega.{arith}
-use mathlib.Core.List.{List}
-use Rattle.model.specs.declared.frame.Frame.{Frame}
-use Rattle.stores.proofs.DoneWork.{answered}
 use Rattle.stores.proofs.TruncateWork.{refused, from, small, addresses-fit, cutting, releasing, pays, cut-off}
 use Rattle.stores.proofs.truncate.truncate.Statement.{statement}
 use Rattle.stores.proofs.truncate.truncate.Tie as tie

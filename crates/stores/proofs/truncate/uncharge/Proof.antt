@@ -1,10 +1,7 @@
 -- `uncharge` meets its contract.
 use borrow.Author.Needs.{needs}
-use mathlib.Core.Path.{_≡_, refl, ap, sym, _∙_}
-use mathlib.Core.List.{List}
-use Prim.Native.Nat.{ℕ, _-_}
+use mathlib.Core.Path.{_≡_, ap, _∙_}
 use native.Mathlib.Omega.{arith}
-use lib.ListN.{set}
 use Rattle.tables.specs.Base.{at}
 use Rattle.stores.proofs.truncate.uncharge.Statement.{statement}
 use Rattle.stores.proofs.truncate.uncharge.Tie as tie

@@ -1,6 +1,6 @@
 -- `ask_update` meets its contract: the first question that fails.
 use borrow.Author.Needs.{needs}
-use mathlib.Core.Path.{_≡_, refl, ap, sym, _∙_}
+use mathlib.Core.Path.{sym, _∙_}
 use native.Mathlib.Omega.{arith}
 use Rattle.tables.specs.Questions.{yes-all}
 use Rattle.model.specs.Own.{first-yes, first-no}

@@ -1,9 +1,7 @@
 -- `fill_image` meets its contract: the turns of its loop are those of the store.
 use borrow.Author.Needs.{needs}
-use mathlib.Core.Path.{_≡_, refl, ap, sym, _∙_}
-use Prim.Native.Nat.{ℕ, _+_, _-_, _*_, _/_, _<_, _≤_}
+use Prim.Native.Nat.{_+_, _-_, _*_, _/_, _≤_}
 use native.Mathlib.Omega.{arith}
-use lib.ListN.{length}
 use Rattle.tables.specs.Rule.{same}
 use Rattle.tables.specs.StoreLoops.{Turned, turned-none, turn-on, turned-all, part-inside, inside-part}
 use Rattle.stores.specs.Update.{imageOf}

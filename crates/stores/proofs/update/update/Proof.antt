@@ -1,6 +1,5 @@
 -- `update` meets its contract: each way out by its law.
 use borrow.Author.Needs.{needs}
-use mathlib.Core.Path.{_≡_, refl, ap, sym, _∙_}
 use native.Mathlib.Omega.{arith}
 use Rattle.stores.proofs.UpdateWork.{refused, images-fit, leaving, updated}
 use Rattle.stores.proofs.Moves.{released-leaving}
