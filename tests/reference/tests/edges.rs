@@ -55,6 +55,18 @@ fn update(keeper: &mut Keeper, slot: u32) {
     does(keeper, 0x0E, &[slot, 1]);
 }
 
+/// Page 0 of slot 0 is listed with 9 at word 0; then it is brought in again, zeroed and claimed.
+fn zeros_claimed(limit: u32) -> Keeper {
+    let mut keeper = with_design(limit);
+    store(&mut keeper, 0, 0, 9);
+    update(&mut keeper, 0);
+    does(&mut keeper, 0x05, &[0, 0]);
+    does(&mut keeper, 0x0D, &[1, 1]);
+    does(&mut keeper, 0x07, &[0, 0, 0, 0]);
+    does(&mut keeper, 0x08, &[]);
+    keeper
+}
+
 fn state_of(keeper: &Keeper, page: usize) -> u8 {
     keeper.memory.states[keeper.record_of(page).unwrap()]
 }
@@ -144,13 +156,7 @@ fn edge_7_fresh_page_claimed() {
 
 #[test]
 fn edge_8_zeros_claimed_then_cut() {
-    let mut keeper = with_design(3);
-    store(&mut keeper, 0, 0, 9);
-    update(&mut keeper, 0);
-    does(&mut keeper, 0x05, &[0, 0]);
-    does(&mut keeper, 0x0D, &[1, 1]);
-    does(&mut keeper, 0x07, &[0, 0, 0, 0]);
-    does(&mut keeper, 0x08, &[]);
+    let mut keeper = zeros_claimed(3);
     assert!(keeper.memory.frames.iter().all(|frame| frame.transfer == 0));
     assert_eq!(state_of(&keeper, 0), NULLED);
     keeper.restart();
@@ -204,13 +210,7 @@ fn edge_11_one_record_in_two_entries() {
 
 #[test]
 fn edge_12_used_over_the_limit() {
-    let mut keeper = with_design(1);
-    store(&mut keeper, 0, 0, 9);
-    update(&mut keeper, 0);
-    does(&mut keeper, 0x05, &[0, 0]);
-    does(&mut keeper, 0x0D, &[1, 1]);
-    does(&mut keeper, 0x07, &[0, 0, 0, 0]);
-    does(&mut keeper, 0x08, &[]);
+    let mut keeper = zeros_claimed(1);
     does(&mut keeper, 0x01, &[1, 0, 8]);
     does(&mut keeper, 0x03, &[1]);
     store(&mut keeper, 1, 0, 5);
