@@ -1,11 +1,12 @@
 // Question 2: the disk rules alone, and both sets of rules.
 ghost use mathlib.Core.Path.{_≡_};
+ghost use lib.ListN.{take};
 ghost use Rattle.tables.specs.Rule.{_and_, test, Holds};
 ghost use Rattle.model.specs.Sizes.{sizesFit};
 ghost use Rattle.model.specs.State.{Memory};
+ghost use Rattle.model.specs.Lent.{diskOf, stateOf};
 ghost use Rattle.model.specs.Rules.{diskRules, allRules};
 ghost use Rattle.model.specs.Step.{diskLengths, allFit};
-ghost use Rattle.checks.specs.Lent.{diskOf, stateOf};
 use model::frame::Frame;
 use model::frame::Pool;
 use model::sizes::Sizes;
@@ -49,8 +50,8 @@ pub fn all_rules(
     images: &[u16],
     used: &[u16],
 ) -> bool
-    requires { ⌜ Holds (allFit z (stateOf frames count pool (now records) (now numbers) (now accounts) (now maps) (now limits) (now words) (now «free_queue») (now «removal_list») (now addresses) (now states) (now owners) (now «free_map») (now active) (now updating) (now images) (now used))) ⌝ }
-    ensures { λ r. ⌜ r ≡ test (allRules z (stateOf frames count pool (now (records .entry)) (now (numbers .entry)) (now (accounts .entry)) (now (maps .entry)) (now (limits .entry)) (now (words .entry)) (now («free_queue» .entry)) (now («removal_list» .entry)) (now (addresses .entry)) (now (states .entry)) (now (owners .entry)) (now («free_map» .entry)) (now (active .entry)) (now (updating .entry)) (now (images .entry)) (now (used .entry)))) ⌝ }
+    requires { ⌜ Holds (allFit z (stateOf (take count frames) pool (now records) (now numbers) (now accounts) (now maps) (now limits) (now words) (now «free_queue») (now «removal_list») (now addresses) (now states) (now owners) (now «free_map») (now active) (now updating) (now images) (now used))) ⌝ }
+    ensures { λ r. ⌜ r ≡ test (allRules z (stateOf (take count frames) pool (now (records .entry)) (now (numbers .entry)) (now (accounts .entry)) (now (maps .entry)) (now (limits .entry)) (now (words .entry)) (now («free_queue» .entry)) (now («removal_list» .entry)) (now (addresses .entry)) (now (states .entry)) (now (owners .entry)) (now («free_map» .entry)) (now (active .entry)) (now (updating .entry)) (now (images .entry)) (now (used .entry)))) ⌝ }
 {
     let listed = crate::parts::disk(z, numbers, accounts, maps);
     if listed.ok {} else {

@@ -1,13 +1,13 @@
 // Question 1: sizes within limits, every slice of its exact length.
 ghost use mathlib.Core.Path.{_≡_};
 ghost use mathlib.Core.List.{List};
-ghost use lib.ListN.{length, take};
+ghost use lib.ListN.{length};
 ghost use Rattle.tables.specs.Rule.{_and_, test, Holds};
 ghost use Rattle.model.specs.declared.frame.Frame.{Frame};
 ghost use Rattle.model.specs.declared.frame.Pool.{Pool};
 ghost use Rattle.model.specs.Sizes.{sizesFit};
+ghost use Rattle.model.specs.Lent.{diskOf, memoryOf, stateOf};
 ghost use Rattle.model.specs.Step.{diskLengths, memoryLengths, allFit};
-ghost use Rattle.checks.specs.Lent.{diskOf, memoryOf, stateOf};
 use model::sizes::Sizes;
 
 // Sizes within limits.
@@ -53,7 +53,7 @@ pub fn memory_lengths_fit(
     used: &[u16],
 ) -> bool
     requires { ⌜ Holds (sizesFit z) ⌝ }
-    ensures { λ r. ⌜ ((frames : List Frame) (pool : Pool) → length (take count frames) ≡ count → r ≡ test (memoryLengths z (memoryOf frames count pool (now (words .entry)) (now («free_queue» .entry)) (now («removal_list» .entry)) (now (addresses .entry)) (now (states .entry)) (now (owners .entry)) (now («free_map» .entry)) (now (active .entry)) (now (updating .entry)) (now (images .entry)) (now (used .entry))))) ⌝ }
+    ensures { λ r. ⌜ ((frames : List Frame) (pool : Pool) → length frames ≡ count → r ≡ test (memoryLengths z (memoryOf frames pool (now (words .entry)) (now («free_queue» .entry)) (now («removal_list» .entry)) (now (addresses .entry)) (now (states .entry)) (now (owners .entry)) (now («free_map» .entry)) (now (active .entry)) (now (updating .entry)) (now (images .entry)) (now (used .entry))))) ⌝ }
 {
     let pages = z.slots * z.pages;
     (count == z.frames)
@@ -108,7 +108,7 @@ pub fn all_fit(
     images: &[u16],
     used: &[u16],
 ) -> bool
-    ensures { λ r. ⌜ ((frames : List Frame) (pool : Pool) → length (take count frames) ≡ count → r ≡ test (allFit z (stateOf frames count pool (now (records .entry)) (now (numbers .entry)) (now (accounts .entry)) (now (maps .entry)) (now (limits .entry)) (now (words .entry)) (now («free_queue» .entry)) (now («removal_list» .entry)) (now (addresses .entry)) (now (states .entry)) (now (owners .entry)) (now («free_map» .entry)) (now (active .entry)) (now (updating .entry)) (now (images .entry)) (now (used .entry))))) ⌝ }
+    ensures { λ r. ⌜ ((frames : List Frame) (pool : Pool) → length frames ≡ count → r ≡ test (allFit z (stateOf frames pool (now (records .entry)) (now (numbers .entry)) (now (accounts .entry)) (now (maps .entry)) (now (limits .entry)) (now (words .entry)) (now («free_queue» .entry)) (now («removal_list» .entry)) (now (addresses .entry)) (now (states .entry)) (now (owners .entry)) (now («free_map» .entry)) (now (active .entry)) (now (updating .entry)) (now (images .entry)) (now (used .entry))))) ⌝ }
 {
     if sizes_fit(z) {} else {
         return false;

@@ -1,7 +1,7 @@
 -- The answer to questions 1 and 2 alone, which every event and a page look are asked first; and what a call is by that answer.
-use mathlib.Core.Path.{_≡_, refl, ap, sym, _∙_}
+use mathlib.Core.Path.{_≡_, ap, sym, _∙_}
 use mathlib.Core.Bool.{Bool, true, false}
-use Prim.Native.Nat.{ℕ, zero, suc}
+use Prim.Native.Nat.{ℕ}
 use Rattle.tables.specs.Base.{if}
 use Rattle.tables.specs.Rule.{Holds, test, told, same}
 use Rattle.tables.specs.Questions.{Questions, none, ask, firstNo, all-yes}
@@ -16,23 +16,15 @@ use Rattle.model.specs.Rules.{allRules}
 use Rattle.model.specs.Questions.{questions, lookQuestions}
 use Rattle.model.specs.Requests.{decoded}
 use Rattle.model.specs.Pages.{lookStart}
-use Rattle.model.specs.Step.{Outcome, outcome, allFit, asked, answer, step, result, carried}
+use Rattle.model.specs.Step.{outcome, allFit, asked, answer, step, result, carried}
 use Rattle.model.specs.Own.{own, refusal, step-own}
 use Rattle.model.specs.Calls.{unknown, stepOf, apply}
-use Rattle.model.specs.Part.{part, partOf}
+use Rattle.model.specs.OwnLaws.{outcome-no}
+use Rattle.model.specs.Part.{part, partOf, no-part}
 
 -- 0, or 1 or 2 where that question says no
 unfoldable pub common : Sizes → State → ℕ
 common z st = firstNo (asked z st none)
-
--- refused by question n
-pub refused : {A : Type 0} (n r : ℕ) (old new : A) → ¬ (n ≡ 0) → _≡_ {A = Outcome A} (record { answer = record { refusal = n; result = 0 }; left = old }) (outcome n r old new)
-refused zero r old new d = absurd (d refl)
-refused (suc n) r old new d = refl
-
-no-part : (n start count : ℕ) → ¬ (n ≡ 0) → _≡_ {A = Part} (record { refusal = n; start = 0; count = 0 }) (part n start count)
-no-part zero start count d = absurd (d refl)
-no-part (suc n) start count d = refl
 
 module _ (z : Sizes) (st : State) where
   abbrev by : Bool → Bool → ℕ
@@ -67,8 +59,8 @@ module _ (z : Sizes) (st : State) where
   unfit-apply request n e d = go (decoded request)
     where
       go : (k : Decoded) → refusal n st ≡ stepOf z st k
-      go (Known event) = refused n (result z st event) st (carried z st event) d ∙ ap (λ (m : ℕ). outcome m (result z st event) st (carried z st event)) (common-refuses (questions z st event) n e d)
-      go Unknown = refused n 0 st st d ∙ ap (λ (m : ℕ). outcome m 0 st st) (common-refuses (ask 3 (same 0 1) none) n e d)
+      go (Known event) = sym (outcome-no n (result z st event) st (carried z st event) d) ∙ ap (λ (m : ℕ). outcome m (result z st event) st (carried z st event)) (common-refuses (questions z st event) n e d)
+      go Unknown = sym (outcome-no n 0 st st d) ∙ ap (λ (m : ℕ). outcome m 0 st st) (common-refuses (ask 3 (same 0 1) none) n e d)
 
   pub unknown-apply : (request : Request) → common z st ≡ 0 → Unknown ≡ decoded request → refusal 3 st ≡ apply z st request
   unfolding apply stepOf unknown firstNo test

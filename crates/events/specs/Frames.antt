@@ -5,7 +5,6 @@ use mathlib.Core.List.{List}
 use Prim.Native.Nat.{ℕ, _<_, min}
 use native.Mathlib.Omega.{arith}
 use lib.ListN.{length, take, length-take}
-use lib.Seq.{take-all}
 use Rattle.tables.specs.Rule.{Holds, test}
 use Rattle.model.specs.declared.sizes.Sizes.{Sizes}
 use Rattle.model.specs.declared.frame.Frame.{Frame}
@@ -15,22 +14,12 @@ use Rattle.model.specs.Step.{allFit}
 use Rattle.model.specs.Fit.{fit}
 use Rattle.model.specs.Calls.{framesOf, length-frames, frames-of}
 
-pub take-lent : (fs : List Frame) (lent : ℕ) → take lent (framesOf fs lent) ≡ framesOf fs lent
-take-lent fs lent = take-all lent (framesOf fs lent) (omega (arith, length-frames fs lent))
-
-pub length-lent : (fs : List Frame) (lent : ℕ) → length (take lent (framesOf fs lent)) ≡ lent
-length-lent fs lent = ap length (take-lent fs lent) ∙ length-frames fs lent
-
 -- F frames lent, of an array of 64
 pub lent-of : (fs : List Frame) (lent n : ℕ) → lent ≡ n → n < 65 → length fs ≡ 64 → framesOf fs lent ≡ take n fs
 lent-of fs lent n e h long = frames-of fs lent (omega (arith, e, h, long)) ∙ ap (λ (m : ℕ). take m fs) e
 
 -- a state by its frames
 module _ (z : Sizes) (st : List Frame → State) (of : (l : List Frame) → st l .memory .core .frames ≡ l) (fs : List Frame) (lent : ℕ) where
-  -- question 1 asked of the first frames of those that are lent
-  pub fit-lent : (b : Bool) → b ≡ test (allFit z (st (take lent (framesOf fs lent)))) → b ≡ test (allFit z (st (framesOf fs lent)))
-  fit-lent b e = e ∙ ap (λ (l : List Frame). test (allFit z (st l))) (take-lent fs lent)
-
   module _ (f : Holds (allFit z (st (framesOf fs lent)))) where
     -- F frames are lent
     pub all-lent : lent ≡ z .frames

@@ -1,17 +1,14 @@
 // The calls, over everything that is lent: questions 1 and 2 are asked once, then the work is done.
 ghost use mathlib.Core.Path.{_≡_};
-ghost use denote.Ref.{ptr};
 ghost use Rattle.model.specs.Lent.{diskOf, stateOf};
 ghost use Rattle.model.specs.Calls.{framesOf, apply};
-ghost use Rattle.model.specs.Step.{Outcome, restart, format, look};
-ghost use Rattle.model.specs.Part.{partOf, wordAt};
+ghost use Rattle.model.specs.Step.{restart, format};
 use crate::carry::carry;
 use crate::common::common;
-use crate::looks::place_lent;
 use checks::rules::disk_rules;
 use checks::sizes::all_fit;
+use checks::sizes::disk_fit;
 use model::applied::Applied;
-use model::applied::Part;
 use model::event::Answer;
 use model::frame::Frame;
 use model::frame::Pool;
@@ -19,11 +16,12 @@ use model::request::Decoded;
 use model::request::Request;
 use model::request::decode;
 use model::sizes::Sizes;
+use restarts::format::format_tables;
 use restarts::restart::restart_tables;
 
 pub mod common; // questions 1 and 2
 pub mod carry; // an event handed on to its family
-pub mod looks; // a page look as numbers
+pub mod looks; // a page look
 
 // Every event: questions 1 and 2, the event that the request asks for, and its work.
 pub fn apply_core(
@@ -201,7 +199,7 @@ pub fn restart_core(
     )
 }
 
-// All of the disk part zeroed.
+// Question 1, then all of the disk part zeroed.
 pub fn format(
     sizes: Sizes,
     records: &mut [u32],
@@ -212,116 +210,15 @@ pub fn format(
 ) -> Answer
     ensures { λ r. ⌜ record { answer = r; left = diskOf (now (records .exit)) (now (numbers .exit)) (now (accounts .exit)) (now (maps .exit)) (now (limits .exit)) } ≡ format sizes (diskOf (now (records .entry)) (now (numbers .entry)) (now (accounts .entry)) (now (maps .entry)) (now (limits .entry))) ⌝ }
 {
-    restarts::format::format(sizes, records, numbers, accounts, maps, limits)
-}
-
-// A page look for a caller that cannot be handed a reference: where the part starts and how many words it has.
-pub fn place_core(
-    sizes: Sizes,
-    slot: usize,
-    page: usize,
-    lent: usize,
-    frames: [Frame; 64],
-    pool: Pool,
-    records: &[u32],
-    numbers: &[u32],
-    accounts: &[u16],
-    maps: &[u16],
-    limits: &[u16],
-    frame_words: &[u32],
-    free_queue: &[u16],
-    removal_list: &[u16],
-    addresses: &[u16],
-    states: &[u8],
-    owners: &[u8],
-    free_map: &[u32],
-    active: &[u8],
-    updating: &[u8],
-    images: &[u16],
-    used: &[u16],
-) -> Part
-    ensures { λ r. ⌜ r ≡ partOf sizes (stateOf (framesOf frames lent) pool (now (records .entry)) (now (numbers .entry)) (now (accounts .entry)) (now (maps .entry)) (now (limits .entry)) (now («frame_words» .entry)) (now («free_queue» .entry)) (now («removal_list» .entry)) (now (addresses .entry)) (now (states .entry)) (now (owners .entry)) (now («free_map» .entry)) (now (active .entry)) (now (updating .entry)) (now (images .entry)) (now (used .entry))) slot page ⌝ }
-{
-    place_lent(
-        sizes,
-        slot,
-        page,
-        lent,
-        frames,
-        pool,
-        records,
-        numbers,
-        accounts,
-        maps,
-        limits,
-        frame_words,
-        free_queue,
-        removal_list,
-        addresses,
-        states,
-        owners,
-        free_map,
-        active,
-        updating,
-        images,
-        used,
-    )
-}
-
-// The frame's own part of the lent words; refused, an empty part.
-pub fn look_core<'a>(
-    sizes: Sizes,
-    slot: usize,
-    page: usize,
-    lent: usize,
-    frames: [Frame; 64],
-    pool: Pool,
-    refusal: &mut u32,
-    records: &[u32],
-    numbers: &[u32],
-    accounts: &[u16],
-    maps: &[u16],
-    limits: &[u16],
-    frame_words: &'a [u32],
-    free_queue: &[u16],
-    removal_list: &[u16],
-    addresses: &[u16],
-    states: &[u8],
-    owners: &[u8],
-    free_map: &[u32],
-    active: &[u8],
-    updating: &[u8],
-    images: &[u16],
-    used: &[u16],
-) -> &'a [u32]
-    ensures { λ r. ⌜ (now r ≡ look sizes (stateOf (framesOf frames lent) pool (now (records .entry)) (now (numbers .entry)) (now (accounts .entry)) (now (maps .entry)) (now (limits .entry)) (now («frame_words» .entry)) (now («free_queue» .entry)) (now («removal_list» .entry)) (now (addresses .entry)) (now (states .entry)) (now (owners .entry)) (now («free_map» .entry)) (now (active .entry)) (now (updating .entry)) (now (images .entry)) (now (used .entry))) slot page .left) × ((now (refusal .exit) ≡ look sizes (stateOf (framesOf frames lent) pool (now (records .entry)) (now (numbers .entry)) (now (accounts .entry)) (now (maps .entry)) (now (limits .entry)) (now («frame_words» .entry)) (now («free_queue» .entry)) (now («removal_list» .entry)) (now (addresses .entry)) (now (states .entry)) (now (owners .entry)) (now («free_map» .entry)) (now (active .entry)) (now (updating .entry)) (now (images .entry)) (now (used .entry))) slot page .answer .refusal) × (ptr r ≡ wordAt (ptr («frame_words» .entry)) (partOf sizes (stateOf (framesOf frames lent) pool (now (records .entry)) (now (numbers .entry)) (now (accounts .entry)) (now (maps .entry)) (now (limits .entry)) (now («frame_words» .entry)) (now («free_queue» .entry)) (now («removal_list» .entry)) (now (addresses .entry)) (now (states .entry)) (now (owners .entry)) (now («free_map» .entry)) (now (active .entry)) (now (updating .entry)) (now (images .entry)) (now (used .entry))) slot page .start))) ⌝ }
-{
-    let part = place_lent(
-        sizes,
-        slot,
-        page,
-        lent,
-        frames,
-        pool,
-        records,
-        numbers,
-        accounts,
-        maps,
-        limits,
-        frame_words,
-        free_queue,
-        removal_list,
-        addresses,
-        states,
-        owners,
-        free_map,
-        active,
-        updating,
-        images,
-        used,
-    );
-    *refusal = part.refusal;
-    let start = part.start;
-    let end = start + part.count;
-    &frame_words[start..end]
+    if disk_fit(sizes, records, numbers, accounts, maps, limits) {} else {
+        return Answer {
+            refusal: 1,
+            result: 0,
+        };
+    }
+    format_tables(records, numbers, accounts, maps, limits);
+    Answer {
+        refusal: 0,
+        result: 0,
+    }
 }

@@ -1,12 +1,12 @@
 -- Why a call may copy at most 64 frames of a slice of any length: a slice of 64 or less is copied whole; one of more is refused by question 1, in the array and in the slice.
 --     whole     what a call leaves, from what its work leaves on the array of 64
 --     alike     what a look answers
-use mathlib.Core.Path.{_≡_, refl, sym, ap, _∙_}
+use mathlib.Core.Path.{_≡_, sym, ap, _∙_}
 use mathlib.Core.List.{List, _++_, append-nil}
 use Prim.Native.Nat.{ℕ, _≤_, _<_}
 use native.Mathlib.Omega.{arith}
 use native.Mathlib.Decide.{decLe}
-use lib.ListN.{length, take, drop, replicate, length-take, length-drop, length-append, length-replicate, take-append-drop}
+use lib.ListN.{length, take, drop, replicate, length-take, length-append, length-replicate, take-append-drop}
 use lib.Seq.{take-append-le, take-take, take-length, drop-length, take-all}
 use Rattle.tables.specs.Rule.{Holds}
 use Rattle.model.specs.declared.frame.Frame.{Frame}

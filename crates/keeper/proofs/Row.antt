@@ -1,5 +1,4 @@
 -- The frame as the walks use it: its row, the machine value of a frame, and the laws that the steps on a slice of it take.
-use mathlib.Core.Path.{_≡_}
 use Prim.Native.Nat.{ℕ, _*_, _<_, _^_}
 use native.Mathlib.Omega.{arith}
 use mathlib.Core.List.{List, [], _∷_}

@@ -181,7 +181,7 @@ pub fn page_look<'a>(
 {
     let lent = frames.len();
     let values = load(frames);
-    events::look_core(
+    events::looks::look_core(
         sizes,
         slot,
         page,
@@ -238,7 +238,7 @@ pub extern "C" fn keeper_page_look(
 {
     let lent = frames.len();
     let values = load(frames);
-    events::place_core(
+    events::looks::place_core(
         sizes,
         slot,
         page,

@@ -2,8 +2,8 @@
 use mathlib.Core.Path.{_≡_, refl, ap, sym, _∙_, subst}
 use mathlib.Core.Bool.{Bool, true, false, not, _&&_}
 use mathlib.Core.Logic.{inl, inr}
-use mathlib.Core.List.{List, []}
-use Prim.Native.Nat.{ℕ, suc, _+_, _-_, _*_, _%_, _<_}
+use mathlib.Core.List.{List}
+use Prim.Native.Nat.{ℕ, suc, _-_, _%_, _<_}
 use native.Mathlib.Omega.{arith}
 use lib.Dec.{T, eqb}
 use lib.ListN.{length, take, set}
@@ -24,19 +24,18 @@ use Rattle.model.specs.declared.event.Page.the-variants as Page
 use Rattle.model.specs.Lines.{NULLED}
 use Rattle.model.specs.State.{State, files, pageOf, slotOf, payer, live}
 use Rattle.model.specs.Index.{slot-of-page}
-use Rattle.model.specs.Fit.{Within}
 use Rattle.model.specs.Parts.{pick, setPart}
 use Rattle.model.specs.Pages as Pages
 use Rattle.model.specs.Pages.{awaiting, fresh}
 use Rattle.model.specs.Questions.{questions}
-use Rattle.model.specs.Step.{Outcome, carried, result}
+use Rattle.model.specs.Step.{carried, result}
 use Rattle.model.specs.Own.{own, refusal}
 use Rattle.model.specs.OwnLaws.{done, own-no, own-yes}
 use Rattle.parts.specs.FrameLaws.{take-frame}
 use Rattle.pages.specs.Seen.{seenFault}
 use Rattle.pages.specs.Needs.{Queued}
 use Rattle.pages.specs.Asks.{slotAsked}
-use Rattle.pages.specs.Faults.{wayOf, awayAsked, supplyAsked, goes, takes, charges, taken, cleared, charged1, FaultLeft}
+use Rattle.pages.specs.Faults.{wayOf, awayAsked, supplyAsked, goes, cleared, charged1, FaultLeft}
 use Rattle.pages.proofs.Served.{pageTest, pageRange, page-test, asked-range}
 use Rattle.pages.proofs.Ways.{way-live, zero-none}
 use Rattle.pages.proofs.Faulting.{way, live-none, way-two, fault-frames, fault-words, fault-queue, fault-list, fault-addresses, fault-states, fault-owners, fault-hand}
@@ -63,7 +62,18 @@ if-free : (b : Bool) (x y : Pool) → if b x y .free ≡ if b (x .free) (y .free
 if-free true x y = refl
 if-free false x y = refl
 
-module _ (z : Sizes) (fs : List Frame) (pool : Pool) (numbers accounts limits words queue list addresses states owners map active used : List ℕ) (s p : ℕ) where
+-- n is the answer to a fault's questions, over what the code is lent
+pub record FaultAsked (z : Sizes) (fs : List Frame) (pool : Pool) (numbers accounts limits words queue list addresses states owners map active used : List ℕ) (s p n : ℕ) : Type 0 where
+  pub answered : n ≡ firstNo (questions z (seenFault (take (z .frames) fs) pool numbers accounts limits words queue list addresses states owners map active used) (Event.Page (Page.Fault s p)))
+
+pub fault-asked : {z : Sizes} {fs : List Frame} {pool : Pool} {numbers accounts limits words queue list addresses states owners map active used : List ℕ} {s p n : ℕ}
+    → n ≡ firstNo (slotAsked (pageTest z s p) s numbers active also awayAsked z (take (z .frames) fs) (pageOf z s p) also supplyAsked (pageOf z s p) addresses states (at used (at accounts s)) (at limits (at accounts s)) (pool .free) queue)
+    → FaultAsked z fs pool numbers accounts limits words queue list addresses states owners map active used s p n
+unfolding payer
+fault-asked {z} {s = s} {p = p} h = record { answered = h ∙ asked-range (pageTest z s p) (pageRange z s p) _ (page-test z s p) }
+
+module _ {z : Sizes} {fs : List Frame} {pool : Pool} {numbers accounts limits words queue list addresses states owners map active used : List ℕ} {s p n : ℕ}
+    (q : FaultAsked z fs pool numbers accounts limits words queue list addresses states owners map active used s p n) where
   abbrev st : State
   st = seenFault (take (z .frames) fs) pool numbers accounts limits words queue list addresses states owners map active used
 
@@ -73,115 +83,109 @@ module _ (z : Sizes) (fs : List Frame) (pool : Pool) (numbers accounts limits wo
   abbrev e : Event
   e = Event.Page (Page.Fault s p)
 
-  pub fault-asked : (n : ℕ) → n ≡ firstNo (slotAsked (pageTest z s p) s numbers active also awayAsked z (take (z .frames) fs) i also supplyAsked i addresses states (at used (at accounts s)) (at limits (at accounts s)) (pool .free) queue)
-      → n ≡ firstNo (questions z st e)
-  unfolding payer
-  fault-asked n h = h ∙ asked-range (pageTest z s p) (pageRange z s p) _ (page-test z s p)
+  -- ── refused ──
+  module _ (h : ¬ (n ≡ 0)) where
+    o : refusal n st ≡ own z st e
+    o = own-no z st e n (q .answered) h
 
-  module _ (n : ℕ) (q : n ≡ firstNo (questions z st e)) where
-    -- ── refused ──
-    module _ (h : ¬ (n ≡ 0)) where
-      o : refusal n st ≡ own z st e
-      o = own-no z st e n q h
+    stays : goes z st s p ≡ false
+    unfolding goes
+    stays = ne-eqb (firstNo (questions z st e)) 0 (λ x. h (q .answered ∙ x))
 
-      stays : goes z st s p ≡ false
-      unfolding goes
-      stays = ne-eqb (firstNo (questions z st e)) 0 (λ x. h (q ∙ x))
+    pub fault-no : _≡_ {A = Answer} (record { refusal = n; result = 0 }) (own z st e .answer)
+    fault-no = λ t. o t .answer
 
-      pub fault-no : _≡_ {A = Answer} (record { refusal = n; result = 0 }) (own z st e .answer)
-      fault-no = λ t. o t .answer
+    pub fault-none : FaultLeft z st s p (take (z .frames) fs) pool words queue list addresses states owners map used
+    fault-none = record {
+      frames = λ t. o t .left .memory .core .frames;
+      words-left = λ t. o t .left .memory .core .words;
+      queue-left = λ t. o t .left .memory .core .free-queue;
+      list-left = λ t. o t .left .memory .core .removal-list;
+      addresses-left = λ t. o t .left .memory .held .addresses;
+      states-left = λ t. o t .left .memory .held .states;
+      owners-left = λ t. o t .left .memory .held .owners;
+      hand = λ t. o t .left .memory .held .pool .hand;
+      free = if-never (goes z st s p) _ _ (pool .free) stays;
+      map-left = if-never (goes z st s p) _ _ map stays;
+      used-left = if-never (goes z st s p) _ _ used stays;
+    }
 
-      pub fault-none : FaultLeft z st s p (take (z .frames) fs) pool words queue list addresses states owners map used
-      fault-none = record {
-        frames = λ t. o t .left .memory .core .frames;
-        words-left = λ t. o t .left .memory .core .words;
-        queue-left = λ t. o t .left .memory .core .free-queue;
-        list-left = λ t. o t .left .memory .core .removal-list;
-        addresses-left = λ t. o t .left .memory .held .addresses;
-        states-left = λ t. o t .left .memory .held .states;
-        owners-left = λ t. o t .left .memory .held .owners;
-        hand = λ t. o t .left .memory .held .pool .hand;
-        free = if-never (goes z st s p) _ _ (pool .free) stays;
-        map-left = if-never (goes z st s p) _ _ map stays;
-        used-left = if-never (goes z st s p) _ _ used stays;
+  -- ── carried out ──
+  module _ (h : n ≡ 0) where
+    asked : Asked (questions z st e)
+    asked = all-yes 0 (questions z st e) tt (sym (q .answered) ∙ h)
+
+    going : goes z st s p ≡ true
+    unfolding goes
+    going = eq-eqb (firstNo (questions z st e)) 0 (sym (q .answered) ∙ h)
+
+    pub fault-range : (s < z .slots) × (p < z .pages)
+    fault-range = (asked .0 .0, asked .0 .1)
+
+    pub fault-some : 0 < size queue
+    fault-some = asked .1 .1 .1 .1 .1 .1 .1 .0
+
+    -- j, w and f are the code's page, way and frame
+    module _ {j w f : ℕ} (ej : j ≡ i) (ew : w ≡ wayOf addresses states j) (ef : f ≡ first queue) where
+      its : w ≡ way z st s p
+      its = ew ∙ ap (wayOf addresses states) ej
+
+      pub fault-record : w ≡ 0 → 0 < pool .free
+      fault-record x = elim (asked .1 .1 .1 .1 .1 .1 .0) [ inl u ↦ absurd (u (zero-none addresses states i (sym its ∙ x))) | inr u ↦ u ]
+
+      pub fault-quota : ¬ (w ≡ 2) → at used (at accounts s) < at limits (at accounts s)
+      unfolding payer
+      fault-quota x = elim (asked .1 .1 .1 .1 .1 .0) [ inl u ↦ absurd (x (its ∙ live-way u)) | inr u ↦ u ]
+        where
+          live-way : Holds (live (files st) i) → way z st s p ≡ 2
+          live-way u = way-live addresses states i u
+
+      none-way : eqb (way z st s p) 0 ≡ test (same (at addresses i) 0)
+      unfolding wayOf
+      none-way = live-none (test (live (files st) i)) (test (same (at addresses i) 0)) (λ a b. let x = sound (live (files st) i) a in let u = sound (same (at addresses i) 0) b in omega (arith, x .1, u))
+
+      y : done z st e ≡ own z st e
+      y = own-yes z st e n (q .answered) h
+
+      pub fault-yes : _≡_ {A = Answer} (record { refusal = 0; result = f }) (own z st e .answer)
+      unfolding result Pages.faultFrame
+      fault-yes = (λ t. record { refusal = 0; result = ef t }) ∙ (λ t. y t .answer)
+
+      pub fault-done : (pos : 0 < z .pages) (gs : List Frame) (pool' : Pool) (words' queue' list' addresses' states' owners' map' used' : List ℕ) (k : ℕ) → k ≡ at accounts s
+          → gs ≡ set fs f (if (eqb w 2) (awaiting j) (fresh j))
+          → pool' ≡ if (eqb w 0) (record { hand = suc (pick z (at states) (pool .hand)) % z .records; free = pool .free - 1 }) pool
+          → words' ≡ if (eqb w 2) words (setPart z f (λ x. 0) words)
+          → queue' ≡ pop queue
+          → list' ≡ if (eqb w 2) list (push-front list f)
+          → addresses' ≡ if (eqb w 0) (set addresses j (suc (pick z (at states) (pool .hand)))) addresses
+          → states' ≡ if (eqb w 0) (set states (pick z (at states) (pool .hand)) NULLED) states
+          → owners' ≡ if (eqb w 0) (set owners (pick z (at states) (pool .hand)) s) owners
+          → map' ≡ if (eqb w 0) (cleared map (pick z (at states) (pool .hand))) map
+          → used' ≡ if (eqb w 2) used (charged1 used k)
+          → FaultLeft z st s p (take (z .frames) gs) pool' words' queue' list' addresses' states' owners' map' used'
+      unfolding carried payer
+      fault-done pos gs pool' words' queue' list' addresses' states' owners' map' used' k ek eg ep ewo eq el ea es eo em eu = record {
+        frames = ap (take (z .frames)) eg ∙ take-frame (z .frames) fs f _ ∙ (λ t. set (take (z .frames) fs) (ef t) (if (eqb (its t) 2) (awaiting (ej t)) (fresh (ej t)))) ∙ sym (fault-frames z st s p) ∙ (λ t. y t .left .memory .core .frames);
+        words-left = ewo ∙ (λ t. if (eqb (its t) 2) words (setPart z (ef t) (λ x. 0) words)) ∙ sym (fault-words z st s p) ∙ (λ t. y t .left .memory .core .words);
+        queue-left = eq ∙ sym (fault-queue z st s p) ∙ (λ t. y t .left .memory .core .free-queue);
+        list-left = el ∙ (λ t. if (eqb (its t) 2) list (push-front list (ef t))) ∙ sym (fault-list z st s p) ∙ (λ t. y t .left .memory .core .removal-list);
+        addresses-left = ea ∙ (λ t. if (eqb (its t) 0) (set addresses (ej t) (suc (pick z (at states) (pool .hand)))) addresses) ∙ sym (fault-addresses z st s p) ∙ (λ t. y t .left .memory .held .addresses);
+        states-left = es ∙ (λ t. if (eqb (its t) 0) (set states (pick z (at states) (pool .hand)) NULLED) states) ∙ sym (fault-states z st s p) ∙ (λ t. y t .left .memory .held .states);
+        owners-left = eo ∙ (λ t. if (eqb (its t) 0) (set owners (pick z (at states) (pool .hand)) (slot t)) owners) ∙ sym (fault-owners z st s p) ∙ (λ t. y t .left .memory .held .owners);
+        hand = ap (λ (x : Pool). x .hand) ep ∙ if-pool (eqb w 0) _ pool ∙ (λ t. if (eqb (its t) 0) (suc (pick z (at states) (pool .hand)) % z .records) (pool .hand)) ∙ sym (fault-hand z st s p) ∙ (λ t. y t .left .memory .held .pool .hand);
+        free = ap (λ (x : Pool). x .free) ep ∙ if-free (eqb w 0) _ pool ∙ (λ t. if (none t) (pool .free - 1) (pool .free)) ∙ if-also (goes z st s p) (test (same (at addresses i) 0)) (pool .free - 1) (pool .free) going;
+        map-left = em ∙ (λ t. if (none t) (cleared map (pick z (at states) (pool .hand))) map) ∙ if-also (goes z st s p) (test (same (at addresses i) 0)) (cleared map (pick z (at states) (pool .hand))) map going;
+        used-left = eu ∙ (λ t. if (two t) used (charged1 used (ek t))) ∙ if-not (goes z st s p) (test (live (files st) i)) (charged1 used (at accounts s)) used going;
       }
+        where
+          slot : s ≡ slotOf z i
+          slot = sym (slot-of-page z pos s p (fault-range .1))
 
-    -- ── carried out ──
-    module _ (h : n ≡ 0) where
-      asked : Asked (questions z st e)
-      asked = all-yes 0 (questions z st e) tt (sym q ∙ h)
+          none : eqb w 0 ≡ test (same (at addresses i) 0)
+          none = ap (λ (x : ℕ). eqb x 0) its ∙ none-way
 
-      going : goes z st s p ≡ true
-      unfolding goes
-      going = eq-eqb (firstNo (questions z st e)) 0 (sym q ∙ h)
-
-      pub fault-range : (s < z .slots) × (p < z .pages)
-      fault-range = (asked .0 .0, asked .0 .1)
-
-      pub fault-some : 0 < size queue
-      fault-some = asked .1 .1 .1 .1 .1 .1 .1 .0
-
-      -- j, w and f are the code's page, way and frame
-      module _ (j w f : ℕ) (ej : j ≡ i) (ew : w ≡ wayOf addresses states j) (ef : f ≡ first queue) where
-        its : w ≡ way z st s p
-        its = ew ∙ ap (wayOf addresses states) ej
-
-        pub fault-record : w ≡ 0 → 0 < pool .free
-        fault-record x = elim (asked .1 .1 .1 .1 .1 .1 .0) [ inl u ↦ absurd (u (zero-none addresses states i (sym its ∙ x))) | inr u ↦ u ]
-
-        pub fault-quota : ¬ (w ≡ 2) → at used (at accounts s) < at limits (at accounts s)
-        unfolding payer
-        fault-quota x = elim (asked .1 .1 .1 .1 .1 .0) [ inl u ↦ absurd (x (its ∙ live-way u)) | inr u ↦ u ]
-          where
-            live-way : Holds (live (files st) i) → way z st s p ≡ 2
-            live-way u = way-live addresses states i u
-
-        none-way : eqb (way z st s p) 0 ≡ test (same (at addresses i) 0)
-        unfolding wayOf
-        none-way = live-none (test (live (files st) i)) (test (same (at addresses i) 0)) (λ a b. let x = sound (live (files st) i) a in let u = sound (same (at addresses i) 0) b in omega (arith, x .1, u))
-
-        y : done z st e ≡ own z st e
-        y = own-yes z st e n q h
-
-        pub fault-yes : _≡_ {A = Answer} (record { refusal = 0; result = f }) (own z st e .answer)
-        unfolding result Pages.faultFrame
-        fault-yes = (λ t. record { refusal = 0; result = ef t }) ∙ (λ t. y t .answer)
-
-        pub fault-done : (pos : 0 < z .pages) (gs : List Frame) (pool' : Pool) (words' queue' list' addresses' states' owners' map' used' : List ℕ) (k : ℕ) → k ≡ at accounts s
-            → gs ≡ set fs f (if (eqb w 2) (awaiting j) (fresh j))
-            → pool' ≡ if (eqb w 0) (record { hand = suc (pick z (at states) (pool .hand)) % z .records; free = pool .free - 1 }) pool
-            → words' ≡ if (eqb w 2) words (setPart z f (λ x. 0) words)
-            → queue' ≡ pop queue
-            → list' ≡ if (eqb w 2) list (push-front list f)
-            → addresses' ≡ if (eqb w 0) (set addresses j (suc (pick z (at states) (pool .hand)))) addresses
-            → states' ≡ if (eqb w 0) (set states (pick z (at states) (pool .hand)) NULLED) states
-            → owners' ≡ if (eqb w 0) (set owners (pick z (at states) (pool .hand)) s) owners
-            → map' ≡ if (eqb w 0) (cleared map (pick z (at states) (pool .hand))) map
-            → used' ≡ if (eqb w 2) used (charged1 used k)
-            → FaultLeft z st s p (take (z .frames) gs) pool' words' queue' list' addresses' states' owners' map' used'
-        unfolding carried payer
-        fault-done pos gs pool' words' queue' list' addresses' states' owners' map' used' k ek eg ep ewo eq el ea es eo em eu = record {
-          frames = ap (take (z .frames)) eg ∙ take-frame (z .frames) fs f _ ∙ (λ t. set (take (z .frames) fs) (ef t) (if (eqb (its t) 2) (awaiting (ej t)) (fresh (ej t)))) ∙ sym (fault-frames z st s p) ∙ (λ t. y t .left .memory .core .frames);
-          words-left = ewo ∙ (λ t. if (eqb (its t) 2) words (setPart z (ef t) (λ x. 0) words)) ∙ sym (fault-words z st s p) ∙ (λ t. y t .left .memory .core .words);
-          queue-left = eq ∙ sym (fault-queue z st s p) ∙ (λ t. y t .left .memory .core .free-queue);
-          list-left = el ∙ (λ t. if (eqb (its t) 2) list (push-front list (ef t))) ∙ sym (fault-list z st s p) ∙ (λ t. y t .left .memory .core .removal-list);
-          addresses-left = ea ∙ (λ t. if (eqb (its t) 0) (set addresses (ej t) (suc (pick z (at states) (pool .hand)))) addresses) ∙ sym (fault-addresses z st s p) ∙ (λ t. y t .left .memory .held .addresses);
-          states-left = es ∙ (λ t. if (eqb (its t) 0) (set states (pick z (at states) (pool .hand)) NULLED) states) ∙ sym (fault-states z st s p) ∙ (λ t. y t .left .memory .held .states);
-          owners-left = eo ∙ (λ t. if (eqb (its t) 0) (set owners (pick z (at states) (pool .hand)) (slot t)) owners) ∙ sym (fault-owners z st s p) ∙ (λ t. y t .left .memory .held .owners);
-          hand = ap (λ (x : Pool). x .hand) ep ∙ if-pool (eqb w 0) _ pool ∙ (λ t. if (eqb (its t) 0) (suc (pick z (at states) (pool .hand)) % z .records) (pool .hand)) ∙ sym (fault-hand z st s p) ∙ (λ t. y t .left .memory .held .pool .hand);
-          free = ap (λ (x : Pool). x .free) ep ∙ if-free (eqb w 0) _ pool ∙ (λ t. if (none t) (pool .free - 1) (pool .free)) ∙ if-also (goes z st s p) (test (same (at addresses i) 0)) (pool .free - 1) (pool .free) going;
-          map-left = em ∙ (λ t. if (none t) (cleared map (pick z (at states) (pool .hand))) map) ∙ if-also (goes z st s p) (test (same (at addresses i) 0)) (cleared map (pick z (at states) (pool .hand))) map going;
-          used-left = eu ∙ (λ t. if (two t) used (charged1 used (ek t))) ∙ if-not (goes z st s p) (test (live (files st) i)) (charged1 used (at accounts s)) used going;
-        }
-          where
-            slot : s ≡ slotOf z i
-            slot = sym (slot-of-page z pos s p (fault-range .1))
-
-            none : eqb w 0 ≡ test (same (at addresses i) 0)
-            none = ap (λ (x : ℕ). eqb x 0) its ∙ none-way
-
-            two : eqb w 2 ≡ test (live (files st) i)
-            two = ap (λ (x : ℕ). eqb x 2) its ∙ way-two z st s p
+          two : eqb w 2 ≡ test (live (files st) i)
+          two = ap (λ (x : ℕ). eqb x 2) its ∙ way-two z st s p
 
 -- the first queued frame, and room for it in the removal list
 pub serve-needs : (z : Sizes) (free list : List ℕ) (f : ℕ) → Queued z free list → 0 < size free → f ≡ first free → (f < z .frames) × Holds (queue (length list) list) × (size list < length list)

@@ -1,20 +1,17 @@
 -- Fault table by table, by its way; and its questions as the code asks them.
-use mathlib.Core.Path.{_≡_, refl, ap, sym, _∙_}
-use mathlib.Core.Bool.{Bool, true, false, not, _&&_}
-use mathlib.Core.List.{List}
-use Prim.Native.Nat.{ℕ, suc, _+_, _-_, _%_, _<_}
-use native.Mathlib.Omega.{arith}
+use mathlib.Core.Path.{_≡_, refl, _∙_}
+use mathlib.Core.Bool.{Bool, true, false}
+use Prim.Native.Nat.{ℕ, suc, _%_}
 use lib.Dec.{T, eqb}
 use lib.ListN.{set}
-use Rattle.tables.specs.Base.{if, at}
+use Rattle.tables.specs.Base.{if}
 use Rattle.tables.specs.Queue.{first, pop, push-front}
 use Rattle.tables.specs.Rule.{same, test}
 use Rattle.model.specs.declared.sizes.Sizes.{Sizes}
-use Rattle.model.specs.declared.frame.Frame.{Frame}
 use Rattle.model.specs.Lines.{NULLED}
 use Rattle.model.specs.State.{State, files, pageOf, slotOf, live}
 use Rattle.model.specs.Setters.{counted}
-use Rattle.model.specs.Parts.{pick, setPart}
+use Rattle.model.specs.Parts.{setPart}
 use Rattle.model.specs.Pages as Pages
 use Rattle.model.specs.Pages.{awaiting, fresh}
 use Rattle.pages.specs.Faults.{wayOf, taken}

@@ -1,7 +1,7 @@
 -- The record that a fault takes: the free map tells it, and it is free.
-use mathlib.Core.Path.{_≡_, refl, ap, sym, _∙_}
+use mathlib.Core.Path.{_≡_, ap, _∙_}
 use mathlib.Core.List.{List}
-use Prim.Native.Nat.{ℕ, suc, _+_, _-_, _*_, _/_, _%_, _<_, _≤_}
+use Prim.Native.Nat.{ℕ, _*_, _/_, _<_, _≤_}
 use native.Mathlib.Omega.{arith}
 use lib.Dec.{T, eqb, eqb→eq}
 use lib.ListN.{length}
@@ -11,7 +11,7 @@ use Rattle.tables.specs.Rule.{test}
 use Rattle.model.specs.declared.sizes.Sizes.{Sizes}
 use Rattle.model.specs.declared.frame.Pool.{Pool}
 use Rattle.model.specs.Lines.{FREE, NULLED, allowed}
-use Rattle.model.specs.State.{mapWords, freeCount}
+use Rattle.model.specs.State.{freeCount}
 use Rattle.model.specs.Parts.{pick}
 use Rattle.model.specs.Choice.{pick-below, pick-free}
 use Rattle.model.specs.Fit.{Within}

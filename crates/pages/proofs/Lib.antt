@@ -1,4 +1,3 @@
-pub mod Places
 pub mod Seats
 pub mod Served
 pub mod OneWord
@@ -8,4 +7,3 @@ pub mod Ways
 pub mod Holding
 pub mod Faulting
 pub mod Faulted
-pub mod Laws

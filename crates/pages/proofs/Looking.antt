@@ -1,29 +1,24 @@
--- A look at a page: the part as numbers, and the part of the words.
+-- A look at a page: the part as numbers.
 use mathlib.Core.Path.{_≡_, refl, ap, sym, _∙_}
 use mathlib.Core.List.{List, []}
-use Prim.Native.Nat.{ℕ, zero, suc, _+_, _-_, _*_, _<_, _≤_}
+use Prim.Native.Nat.{ℕ, _+_, _*_, _<_, _≤_}
 use native.Mathlib.Nat.{mul-le-mul-right}
 use native.Mathlib.Omega.{arith}
-use lib.ListN.{take, drop}
+use lib.ListN.{take}
 use Rattle.tables.specs.Questions.{firstNo}
 use Rattle.tables.specs.Also.{_also_}
 use Rattle.model.specs.declared.sizes.Sizes.{Sizes}
 use Rattle.model.specs.declared.frame.Frame.{Frame}
+use Rattle.model.specs.declared.applied.Part.{Part}
 use Rattle.model.specs.State.{frames, pageOf}
 use Rattle.model.specs.Questions.{lookQuestions}
-use Rattle.model.specs.Parts.{frameOf}
 use Rattle.model.specs.Pages as Pages
-use Rattle.model.specs.Step.{Outcome, outcome}
-use Rattle.pages.specs.declared.looks.Part.{Part}
+use Rattle.model.specs.Part.{part, no-part}
 use Rattle.pages.specs.Seen.{seen}
 use Rattle.pages.specs.Asks.{seat, slotAsked, frameAsked}
-use Rattle.pages.specs.Looks.{ownLook, placed, partOf}
+use Rattle.pages.specs.Looks.{placed}
 use Rattle.pages.proofs.Seats.{seat-found}
 use Rattle.pages.proofs.Served.{pageTest, pageRange, page-test, served-answer}
-
-part-no : (n start count : ℕ) → ¬ (n ≡ 0) → _≡_ {A = Part} (record { refusal = n; start = 0; count = 0 }) (partOf n start count)
-part-no zero start count h = absurd (h refl)
-part-no (suc n) start count h = refl
 
 module _ (z : Sizes) (fs : List Frame) (numbers active : List ℕ) (s p : ℕ) where
   module _ (n : ℕ) (e : n ≡ firstNo (slotAsked (pageTest z s p) s numbers active also frameAsked z (take (z .frames) fs) (pageOf z s p))) where
@@ -32,29 +27,14 @@ module _ (z : Sizes) (fs : List Frame) (numbers active : List ℕ) (s p : ℕ) w
 
     pub placed-no : ¬ (n ≡ 0) → _≡_ {A = Part} (record { refusal = n; start = 0; count = 0 }) (placed z (seen (take (z .frames) fs) numbers [] [] active) s p)
     unfolding placed
-    placed-no h = part-no n (Pages.lookStart z (seen (take (z .frames) fs) numbers [] [] active) s p) (z .words) h ∙ ap (λ (m : ℕ). partOf m (Pages.lookStart z (seen (take (z .frames) fs) numbers [] [] active) s p) (z .words)) answered
+    placed-no h = no-part n (Pages.lookStart z (seen (take (z .frames) fs) numbers [] [] active) s p) (z .words) h ∙ ap (λ (m : ℕ). part m (Pages.lookStart z (seen (take (z .frames) fs) numbers [] [] active) s p) (z .words)) answered
 
     pub placed-yes : n ≡ 0 → (f k : ℕ) → f ≡ seat z fs (pageOf z s p) → k ≡ f * z .words + 0 → _≡_ {A = Part} (record { refusal = 0; start = k; count = z .words }) (placed z (seen (take (z .frames) fs) numbers [] [] active) s p)
     unfolding placed Pages.lookStart
     placed-yes h f k ef ek =
         let a : k ≡ f * z .words = ek ∙ omega arith in
-        ap (λ (m : ℕ). partOf 0 m (z .words)) (a ∙ ap (λ (j : ℕ). j * z .words) (ef ∙ seat-found z fs (pageOf z s p) (frames (seen (take (z .frames) fs) numbers [] [] active)) (λ x l. refl)))
-        ∙ ap (λ (m : ℕ). partOf m (Pages.lookStart z (seen (take (z .frames) fs) numbers [] [] active) s p) (z .words)) (sym h ∙ answered)
+        ap (λ (m : ℕ). part 0 m (z .words)) (a ∙ ap (λ (j : ℕ). j * z .words) (ef ∙ seat-found z fs (pageOf z s p) (frames (seen (take (z .frames) fs) numbers [] [] active)) (λ x l. refl)))
+        ∙ ap (λ (m : ℕ). part m (Pages.lookStart z (seen (take (z .frames) fs) numbers [] [] active) s p) (z .words)) (sym h ∙ answered)
 
   pub place-fits : (f k : ℕ) → f < z .frames → k ≡ f * z .words + 0 → k + z .words ≤ z .frames * z .words
   place-fits f k h e = omega (arith, mul-le-mul-right (z .words) h)
-
-  -- the part of the words that the numbers tell
-  module _ (words : List ℕ) where
-    abbrev words-of : Part → List ℕ
-    words-of x = take (x .start + x .count - x .start) (drop (x .start) words)
-
-    by : (n start : ℕ) → (words-of (partOf n start (z .words)) ≡ outcome n 0 [] (take (z .words) (drop start words)) .left) × (partOf n start (z .words) .refusal ≡ outcome n 0 [] (take (z .words) (drop start words)) .answer .refusal)
-    by zero start = let e : start + z .words - start ≡ z .words = omega arith in (ap (λ (k : ℕ). take k (drop start words)) e, refl)
-    by (suc n) start = (refl, refl)
-
-    pub look-part : (x : Part) → x ≡ placed z (seen (take (z .frames) fs) numbers [] [] active) s p
-        → (words-of x ≡ ownLook z (seen (take (z .frames) fs) numbers words [] active) s p .left) × (x .refusal ≡ ownLook z (seen (take (z .frames) fs) numbers words [] active) s p .answer .refusal)
-    unfolding placed ownLook Pages.lookStart frameOf
-    look-part x e = let r = by (firstNo (lookQuestions z (seen (take (z .frames) fs) numbers [] [] active) s p)) (Pages.lookStart z (seen (take (z .frames) fs) numbers [] [] active) s p) in
-        (ap words-of e ∙ r .0, ap (λ (y : Part). y .refusal) e ∙ r .1)

@@ -1,15 +1,14 @@
 -- Where a page is in one frame at most: the questions about its frames, by the first that has it.
-use mathlib.Core.Path.{_≡_, refl, ap, sym, _∙_}
+use mathlib.Core.Path.{_≡_, ap, sym, _∙_}
 use mathlib.Core.Logic.{inl, inr}
 use mathlib.Core.List.{List}
-use Prim.Native.Nat.{ℕ, suc, _+_, _<_, _≤_}
+use Prim.Native.Nat.{ℕ, suc, _<_, _≤_}
 use native.Mathlib.Omega.{arith}
 use lib.Dec.{eqb, eqb→eq}
 use native.Mathlib.Decide.{decLt}
 use lib.ListN.{take, set}
-use Rattle.tables.specs.Base.{find}
 use Rattle.tables.specs.FindLaws.{find-cases}
-use Rattle.tables.specs.Laws.{Found, eq→T}
+use Rattle.tables.specs.Laws.{eq→T}
 use Rattle.tables.specs.Rule.{Rule, Holds}
 use Rattle.model.specs.declared.sizes.Sizes.{Sizes}
 use Rattle.model.specs.declared.frame.Frame.{Frame}

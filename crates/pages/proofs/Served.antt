@@ -1,11 +1,11 @@
 -- The questions of a read, a write and a page look: as the code asks them, and what they give.
-use mathlib.Core.Path.{_≡_, refl, ap, sym, _∙_}
+use mathlib.Core.Path.{_≡_, refl, _∙_}
 use mathlib.Core.Bool.{Bool, true, _&&_}
 use mathlib.Core.List.{List}
 use Prim.Native.Nat.{ℕ, _<_}
 use lib.Dec.{ltb}
 use lib.ListN.{take}
-use Rattle.tables.specs.Rule.{Rule, Holds, is, below, _and_, test, sound}
+use Rattle.tables.specs.Rule.{Rule, is, below, _and_, test, sound}
 use Rattle.tables.specs.Questions.{Questions, ask, firstNo}
 use Rattle.tables.specs.Also.{_also_, ask-same}
 use Rattle.model.specs.declared.sizes.Sizes.{Sizes}

@@ -1,14 +1,13 @@
 -- The three ways of a fault: the code's numbers, and the questions by them.
-use mathlib.Core.Path.{_≡_, refl, ap, sym, _∙_}
-use mathlib.Core.Bool.{Bool, true, false, _||_}
-use mathlib.Core.Logic.{inl, inr}
+use mathlib.Core.Path.{_≡_, ap, sym, _∙_}
+use mathlib.Core.Bool.{Bool, true, _||_}
+use mathlib.Core.Logic.{inl}
 use mathlib.Core.List.{List}
-use Prim.Native.Nat.{ℕ, suc, _-_, _<_}
+use Prim.Native.Nat.{ℕ, _-_}
 use native.Mathlib.Omega.{arith}
 use lib.Dec.{eqb, ltb}
-use borrow.Author.Tests.{lt-ltb, le-ltb}
 use Rattle.tables.specs.Base.{if, at}
-use Rattle.tables.specs.Rule.{Rule, Holds, same, below, non, _or_, test, told, untold, decided}
+use Rattle.tables.specs.Rule.{Holds, same, below, non, _or_, test, told, untold, decided}
 use Rattle.model.specs.Lines.{LIVE}
 use Rattle.pages.specs.Faults.{isLive, wayOf}
 

@@ -1,10 +1,10 @@
 -- Wire and unwire: their questions as the code asks them, and what the code stores.
 use mathlib.Core.Path.{_≡_, refl, ap, sym, _∙_}
 use mathlib.Core.List.{List, []}
-use Prim.Native.Nat.{ℕ, _+_, _<_, _≤_}
+use Prim.Native.Nat.{ℕ, _<_, _≤_}
 use native.Mathlib.Omega.{arith}
 use lib.ListN.{take, set, length}
-use Rattle.tables.specs.Rule.{Rule, Holds}
+use Rattle.tables.specs.Rule.{Holds}
 use Rattle.tables.specs.Questions.{Questions, firstNo, yes-all}
 use Rattle.tables.specs.Also.{_also_, also-yes, also-no}
 use Rattle.tables.specs.Queue.{queue, size, members, times, remove, push-back}
@@ -18,7 +18,7 @@ use Rattle.model.specs.Setters.{setWired, setInitial}
 use Rattle.model.specs.Parts.{frameOf}
 use Rattle.model.specs.Questions.{served}
 use Rattle.model.specs.Pages as Pages
-use Rattle.model.specs.Step.{Outcome, carried}
+use Rattle.model.specs.Step.{carried}
 use Rattle.model.specs.Own.{own, refusal, first-no}
 use Rattle.model.specs.OwnLaws.{done, own-no, own-yes}
 use Rattle.parts.specs.FrameLaws.{frame-take}

@@ -2,7 +2,7 @@
 use mathlib.Core.Path.{_≡_}
 use mathlib.Core.Bool.{Bool, _&&_, not}
 use mathlib.Core.List.{List}
-use Prim.Native.Nat.{ℕ, suc, _+_, _-_, _/_, _%_, _^_}
+use Prim.Native.Nat.{ℕ, _+_, _-_, _/_, _%_, _^_}
 use lib.Dec.{eqb}
 use lib.ListN.{set}
 use Rattle.tables.specs.Base.{if, at}
@@ -15,7 +15,7 @@ use Rattle.model.specs.declared.frame.Pool.{Pool}
 use Rattle.model.specs.declared.event.Event.the-variants as Event
 use Rattle.model.specs.declared.event.Page.the-variants as Page
 use Rattle.model.specs.Lines.{LIVE}
-use Rattle.model.specs.State.{State, Files, files, pageOf, live, payer}
+use Rattle.model.specs.State.{State, files, pageOf, live, payer}
 use Rattle.model.specs.Parts.{pick}
 use Rattle.model.specs.Questions.{questions}
 use Rattle.model.specs.Own.{own}

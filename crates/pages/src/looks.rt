@@ -1,24 +1,17 @@
-// A look at a page: the frame's own part of the frames' words, no switch altered; refused, an empty part.
+// A look at a page: where the frame's own part of the frames' words starts and how many words it has; refused, an empty part.
 ghost use mathlib.Core.Path.{_≡_};
 ghost use mathlib.Core.List.{[]};
 ghost use Prim.Native.Nat.{_+_, _*_, _≤_};
-ghost use lib.ListN.{length, take};
+ghost use lib.ListN.{take};
 ghost use Rattle.pages.specs.Seen.{seen};
 ghost use Rattle.pages.specs.Needs.{Seats};
-ghost use Rattle.pages.specs.Looks.{ownLook, placed};
+ghost use Rattle.pages.specs.Looks.{placed};
 use crate::asks::ask_served;
 use crate::asks::seat_of;
 use crate::asks::word_of;
+use model::applied::Part;
 use model::frame::Frame;
 use model::sizes::Sizes;
-
-// A look's answer as numbers: the refusal, and where the part starts and how many words it has.
-#[repr(C)]
-pub struct Part {
-    pub refusal: u32,
-    pub start: usize,
-    pub count: usize,
-}
 
 pub fn place(
     sizes: Sizes,
@@ -47,24 +40,4 @@ pub fn place(
         start: word_of(sizes, f, 0),
         count: sizes.words,
     }
-}
-
-pub fn look<'a>(
-    sizes: Sizes,
-    slot: usize,
-    page: usize,
-    frames: [Frame; 64],
-    numbers: &[u32],
-    active: &[u8],
-    words: &'a [u32],
-    refusal: &mut u32,
-) -> &'a [u32]
-    requires { ⌜ Seats sizes (take (sizes .frames) frames) × (length (now words) ≡ sizes .frames * sizes .words) ⌝ }
-    ensures { λ r. ⌜ (now r ≡ ownLook sizes (seen (take (sizes .frames) frames) (now (numbers .entry)) (now (words .entry)) [] (now (active .entry))) slot page .left) × (now (refusal .exit) ≡ ownLook sizes (seen (take (sizes .frames) frames) (now (numbers .entry)) (now (words .entry)) [] (now (active .entry))) slot page .answer .refusal) ⌝ }
-{
-    let part = place(sizes, slot, page, frames, numbers, active);
-    *refusal = part.refusal;
-    let start = part.start;
-    let end = start + part.count;
-    &words[start..end]
 }

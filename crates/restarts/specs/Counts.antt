@@ -9,15 +9,15 @@ use native.Mathlib.Omega.{arith}
 use native.Mathlib.Decide.{ℕ-discrete, decLt}
 use lib.Dec.{eqb, ltb}
 use lib.ListN.{set, replicate, length-replicate}
-use borrow.Author.Tests.{ltb-true, lt-ltb, le-ltb, eq-eqb, ne-eqb}
+use borrow.Author.Tests.{lt-ltb, le-ltb, eq-eqb, ne-eqb}
 use Rattle.tables.specs.Base.{at, if, count, tab}
-use Rattle.tables.specs.Laws.{count-same, count-bound, at-tab0, length-tab}
+use Rattle.tables.specs.Laws.{count-same, count-bound}
 use Rattle.tables.specs.Bits.{bits}
-use Rattle.tables.specs.BitLaws.{bits-none, bits-suc, bits-same}
+use Rattle.tables.specs.BitLaws.{bits-none, bits-suc}
 use Rattle.model.specs.declared.sizes.Sizes.{Sizes}
 use Rattle.model.specs.Lines.{FREE, FILED}
 use Rattle.model.specs.State.{Files, Frames, allPages, slotOf, mapWords, payer, usedOf, freeWord}
-use Rattle.parts.specs.FreeMap.{bitOf, freeMap, free-map, isFree, bit-off, free-map-set}
+use Rattle.parts.specs.FreeMap.{bitOf, freeMap, free-map, isFree, bit-off, free-map-set, free-map-same}
 use Rattle.restarts.specs.Filled.{Filled, filled-same, filled-set, at-zeros}
 
 -- ── used counts ──
@@ -109,15 +109,6 @@ passed-above k state x h = rw (le-ltb x k h)
 bits-off : (n : ℕ) (p : ℕ → Bool) (i : ℕ) → ((x : ℕ) → p x ≡ false) → bits n p i ≡ 0
 bits-off zero p i f = bits-none p i
 bits-off (suc n) p i f = rw (bits-suc n p i, f i, bits-off n p (suc i) f)
-
--- equal tests of the records make equal maps
-pub free-map-same : (z : Sizes) (state state' : ℕ → ℕ) → ((r : ℕ) → r < z .records → eqb (state r) FREE ≡ eqb (state' r) FREE) → freeMap z state ≡ freeMap z state'
-unfolding freeWord
-free-map-same z state state' f = free-map z state' (freeMap z state) (length-tab (mapWords z) (freeWord z state) 0) (λ k h. at-tab0 (mapWords z) (freeWord z state) k 0 h ∙ bits-same 32 (isFree z state) (isFree z state') (32 * k) (λ r a b. one r (ltb r (z .records)) refl))
-  where
-    one : (r : ℕ) (b : Bool) → ltb r (z .records) ≡ b → isFree z state r ≡ isFree z state' r
-    one r true e = ap (λ (t : Bool). ltb r (z .records) && t) (f r (ltb-true r (z .records) e))
-    one r false e = rw e
 
 module _ (z : Sizes) (state : ℕ → ℕ) where
   pub free-start : replicate (mapWords z) 0 ≡ freeMap z (passed 0 state)

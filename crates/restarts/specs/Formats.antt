@@ -12,8 +12,7 @@ use Rattle.model.specs.Sizes.{sizesFit}
 use Rattle.model.specs.Lent.{diskOf}
 use Rattle.model.specs.Fit.{DiskFit, disk-fit}
 use Rattle.model.specs.Restart.{formatted}
-use Rattle.model.specs.Step.{Outcome, outcome, format}
-use Rattle.restarts.specs.Lengths.{diskIs}
+use Rattle.model.specs.Step.{Outcome, outcome, diskLengths, format}
 
 -- as many zeros as each table is long
 abbrev pub zeroed : Disk → Disk
@@ -30,10 +29,10 @@ module _ (z : Sizes) (d : Disk) where
   abbrev by : Bool → Outcome Disk
   by b = outcome (if b 0 1) 0 d (formatted z)
 
-  pub format-no : false ≡ test (sizesFit z and diskIs z d) → formatsTo 1 d ≡ format z d
+  pub format-no : false ≡ test (sizesFit z and diskLengths z d) → formatsTo 1 d ≡ format z d
   unfolding format firstNo
   format-no e = ap by e
 
-  pub format-yes : true ≡ test (sizesFit z and diskIs z d) → formatsTo 0 (zeroed d) ≡ format z d
+  pub format-yes : true ≡ test (sizesFit z and diskLengths z d) → formatsTo 0 (zeroed d) ≡ format z d
   unfolding format firstNo
-  format-yes e = ap (formatsTo 0) (formatted-long z d (disk-fit z d (sound (sizesFit z and diskIs z d) (rw (← e) tt) .1))) ∙ ap by e
+  format-yes e = ap (formatsTo 0) (formatted-long z d (disk-fit z d (sound (sizesFit z and diskLengths z d) (rw (← e) tt) .1))) ∙ ap by e

@@ -1,5 +1,4 @@
 pub mod Filled
-pub mod Lengths
 pub mod Formats
 pub mod Filed
 pub mod Counts

@@ -22,6 +22,7 @@ use Rattle.model.specs.Ruled.{OnDisk}
 use Rattle.model.specs.Rules.{fit, once}
 use Rattle.model.specs.Setters.{counted}
 use Rattle.model.specs.Restart.{restarted, isListed, listedAt}
+use Rattle.model.specs.Bounds.{pages-most}
 use Rattle.parts.specs.FreeMap.{freeMap}
 use Rattle.restarts.specs.Filled.{Filled, filled-tab, at-zeros}
 use Rattle.restarts.specs.Filed.{filedStates, filedOwners}
@@ -98,7 +99,7 @@ module _ (z : Sizes) (accounts maps states owners free-map used : List ℕ) (r :
   to-count = (
     r .within .pages,
     r .maps-long ∙ ap (λ (n : ℕ). n * z .pages) (sym (r .accounts-long)),
-    (let h : z .slots * z .pages ≤ 64 * z .pages = mul-le-mul-right (z .pages) (omega (arith, r .within .slots-most)) in omega (arith, h, r .maps-long, r .within .pages-most)),
+    omega (arith, r .maps-long, pages-most z (r .within)),
     rw (r .accounts-long, r .used-long) (r .account-fit),
   )
 

@@ -1,6 +1,5 @@
 // Format and restart: the tables set anew, each from the disk part alone.
 pub mod zero; // a table becomes zeros
-pub mod fits; // question 1, from the lengths of the tables
 pub mod format; // the disk part
 pub mod filed; // the states and owners of the records
 pub mod counts; // used counts, free map, count of free records

@@ -1,6 +1,6 @@
 -- `apply_core` meets its contract: refused by question 1 or 2, no event, or the event carried.
 use borrow.Author.Needs.{needs}
-use mathlib.Core.Path.{_≡_, refl, ap, sym, subst, _∙_}
+use mathlib.Core.Path.{_≡_, refl, sym, subst, _∙_}
 use mathlib.Core.List.{List}
 use lib.ListN.{length, take, length-map}
 use Rattle.tables.specs.Rule.{Holds}

@@ -1,7 +1,7 @@
 -- `restart_core` meets its contract: refused by question 1 or 2, or every table set anew.
 use borrow.Author.Needs.{needs}
 use mathlib.Core.Path.{_≡_, refl, sym, _∙_}
-use mathlib.Core.Bool.{true, false}
+use mathlib.Core.Bool.{true}
 use mathlib.Core.List.{List}
 use Rattle.tables.specs.Rule.{test}
 use Rattle.tables.specs.Turn.{learn}
@@ -11,10 +11,10 @@ use Rattle.model.specs.Rules.{diskRules}
 use Rattle.model.specs.Lent.{stateOf}
 use Rattle.model.specs.Step.{allFit}
 use Rattle.model.specs.Fit.{sizes-fit, fit-disk}
-use Rattle.model.specs.Calls.{framesOf}
+use Rattle.model.specs.Calls.{framesOf, length-frames}
 use Rattle.restarts.specs.Restarts.{seen, ready}
 use Rattle.restarts.specs.Answers.{fit-told, disk-told, restarted-tables, restart-unfit, restart-unruled}
-use Rattle.events.specs.Frames.{length-lent, fit-lent, all-lent}
+use Rattle.events.specs.Frames.{all-lent}
 use Rattle.events.specs.Restarting.{restarted-lent, restart-left}
 use Rattle.events.proofs.restart_core.Statement.{statement}
 use Rattle.events.proofs.restart_core.Tie as tie
@@ -31,13 +31,13 @@ returns c =
     let s = c .before .before .before .before .before .before .before .before .before .before .before .before .before .before .before .before .before .before .before .before .before .before .before .before .before .before .before .before .before in
     let a = s .args in
     restart-unfit (a .sizes) (lent s)
-    (fit-lent (a .sizes) (at s) (λ l. refl) (a .frames) (a .lent) false (sym (c .if1 .left) ∙ c .before .all-fit .ensures (framesOf (a .frames) (a .lent)) (a .pool) (length-lent (a .frames) (a .lent))))
+    (sym (c .if1 .left) ∙ c .before .all-fit .ensures (framesOf (a .frames) (a .lent)) (a .pool) (length-frames (a .frames) (a .lent)))
 
 fitted : (c : tie.Then1) → (let s = c .before .before .before .before .before .before .before .before .before .before .before .before .before .before .before .before .before .before .before .before .before .before .before .before .before .before .before .before .before in true ≡ test (allFit (s .args .sizes) (lent s)))
 fitted c =
     let s = c .before .before .before .before .before .before .before .before .before .before .before .before .before .before .before .before .before .before .before .before .before .before .before .before .before .before .before .before .before in
     let a = s .args in
-    fit-lent (a .sizes) (at s) (λ l. refl) (a .frames) (a .lent) true (sym (c .if1 .taken) ∙ c .before .all-fit .ensures (framesOf (a .frames) (a .lent)) (a .pool) (length-lent (a .frames) (a .lent)))
+    sym (c .if1 .taken) ∙ c .before .all-fit .ensures (framesOf (a .frames) (a .lent)) (a .pool) (length-frames (a .frames) (a .lent))
 
 disk-rules-requires : tie.Need-disk-rules-requires
 disk-rules-requires c κs =

@@ -2,7 +2,7 @@
 -- Everything lent is given up for good: `frames` to `load`, the rest to the work, in one piece. Of what is lent as a `&` nothing is had at exit (`stay-dropped`), so nothing is copied. What the work returns is handed on.
 -- Assumes nothing.
 use mathlib.Core.Path.{_≡_, refl, _∙_}
-use Prim.Native.Nat.{ℕ, _<_, _^_}
+use Prim.Native.Nat.{ℕ, _+_, _<_, _≤_, _^_}
 use mathlib.Core.List.{List, [], _∷_}
 use lib.Dec.{T as Holds}
 use lib.ListN.{length}
@@ -63,10 +63,10 @@ use Rattle.keeper.proofs.frames.load as load′
 use Rattle.keeper.proofs.frames.load.Symbol as load-def
 use Rattle.keeper.proofs.frames.load.Symbol.{name as #load}
 use Rattle.keeper.proofs.frames.load.Met as load-thm
-use Rattle.events.proofs.place_core as core
-use Rattle.events.proofs.place_core.Symbol as core-def
-use Rattle.events.proofs.place_core.Symbol.{name as #core}
-use Rattle.events.proofs.place_core.Met as core-thm
+use Rattle.events.proofs.looks.place_core as core
+use Rattle.events.proofs.looks.place_core.Symbol as core-def
+use Rattle.events.proofs.looks.place_core.Symbol.{name as #core}
+use Rattle.events.proofs.looks.place_core.Met as core-thm
 use Rattle.keeper.proofs.keeper_page_look.Key.{name as #key}
 use Rattle.keeper.proofs.keeper_page_look as fn
 use Rattle.keeper.proofs.keeper_page_look.Statement as stated
@@ -118,14 +118,14 @@ module _ {M : Type 1} (𝓤 : URA M) (H : Heap 𝓤) (A : Atoms 𝓤) (W : Given
 
   -- what the work's contract says of what it returns
   abbrev Left : Part → Type 0
-  Left r = r ≡ partOf z (stateOf (framesOf (loaded ys) n) p (now x0) (now x1) (now x2) (now x3) (now x4) (now x5) (now x6) (now x7) (now x8) (now x9) (now x10) (now x11) (now x12) (now x13) (now x14) (now x15)) slot page
+  Left r = (r ≡ partOf z (stateOf (framesOf (loaded ys) n) p (now x0) (now x1) (now x2) (now x3) (now x4) (now x5) (now x6) (now x7) (now x8) (now x9) (now x10) (now x11) (now x12) (now x13) (now x14) (now x15)) slot page) × (r .start + r .count ≤ length (now x5))
 
   exits : (r : Part) (w : Val) → Left r → ent 𝓤 (⋆ 𝓤 H A (‵ (flft κ0 q0) ∷ (‵ (flft κ1 q1) ⊛ (‵ (flft κ2 q2) ⊛ (‵ (flft κ3 q3) ⊛ (‵ (flft κ4 q4) ⊛ (‵ (flft κ5 q5) ⊛ (‵ (flft κ6 q6) ⊛ (‵ (flft κ7 q7) ⊛ (‵ (flft κ8 q8) ⊛ (‵ (flft κ9 q9) ⊛ (‵ (flft κ10 q10) ⊛ (‵ (flft κ11 q11) ⊛ (‵ (flft κ12 q12) ⊛ (‵ (flft κ13 q13) ⊛ (‵ (flft κ14 q14) ⊛ (‵ (flft κ15 q15) ⊛ (‵ (flft κ16 q16) ⊛ ‵ ftrue)))))))))))))))) ∷ ‵ (PT .own r (w ∷ [])) ∷ [])) (Post w)
   exits r w e =
       qed W (‵ (flft κ0 q0) ∷ (‵ (flft κ1 q1) ⊛ (‵ (flft κ2 q2) ⊛ (‵ (flft κ3 q3) ⊛ (‵ (flft κ4 q4) ⊛ (‵ (flft κ5 q5) ⊛ (‵ (flft κ6 q6) ⊛ (‵ (flft κ7 q7) ⊛ (‵ (flft κ8 q8) ⊛ (‵ (flft κ9 q9) ⊛ (‵ (flft κ10 q10) ⊛ (‵ (flft κ11 q11) ⊛ (‵ (flft κ12 q12) ⊛ (‵ (flft κ13 q13) ⊛ (‵ (flft κ14 q14) ⊛ (‵ (flft κ15 q15) ⊛ (‵ (flft κ16 q16) ⊛ ‵ ftrue)))))))))))))))) ∷ ‵ (PT .own r (w ∷ [])) ∷ []) ∵
       suffices ! _ (ends-at 𝓤 H A fn.ended stayed (fn.clauses 𝓤 H A at-mem run) W bound w r (tt, (tt, (tt, (tt, (tt, (tt, (tt, (tt, (tt, (tt, (tt, (tt, (tt, (tt, (tt, (tt, (tt, (tt, (tt, (tt, (tt, tt))))))))))))))))))))) (tt, (tt, (tt, (tt, (tt, (tt, (tt, (tt, (tt, (tt, (tt, (tt, (tt, (tt, (tt, (tt, (tt, (tt, (tt, (tt, (tt, tt)))))))))))))))))))))) $
       -- the same for a slice of frames of any length
-      says ! (e ∙ alike z ys (stateOf ys p (now x0) (now x1) (now x2) (now x3) (now x4) (now x5) (now x6) (now x7) (now x8) (now x9) (now x10) (now x11) (now x12) (now x13) (now x14) (now x15)) (λ (st : State). partOf z st slot page) noPart (part-refuses z slot page)) $ join ! $ frame ! $
+      says ! (e .0 ∙ alike z ys (stateOf ys p (now x0) (now x1) (now x2) (now x3) (now x4) (now x5) (now x6) (now x7) (now x8) (now x9) (now x10) (now x11) (now x12) (now x13) (now x14) (now x15)) (λ (st : State). partOf z st slot page) noPart (part-refuses z slot page)) $ join ! $ frame ! $
       nothing ! $ nothing ! $ fjoin ! $ nothing ! $ fjoin ! $ nothing ! $ fjoin ! $ nothing ! $ fjoin ! $ nothing ! $ fjoin ! $ nothing ! $ fjoin ! $ nothing ! $ fjoin ! $ nothing ! $ fjoin ! $ nothing ! $ fjoin ! $ nothing ! $ fjoin ! $ nothing ! $ fjoin ! $ nothing ! $ fjoin ! $ nothing ! $ fjoin ! $ nothing ! $ fjoin ! $ nothing ! $ fjoin ! $ nothing ! $ fjoin ! $ nothing ! $ fjoin ! $ nothing ! $ fjoin ! $ nothing ! $ fjoin ! $ nothing ! $ fjoin ! $ nothing ! $ fjoin ! $ done !
 
   -- what the work's triple binds outside, that the caller has what it asks, and what it leaves
@@ -197,4 +197,4 @@ keeper-page-look-spec 𝓤 H 𝓜 𝓖 𝓡 =
     (tables 𝓤 H 𝓜 𝓡 code.env .C) (tables 𝓤 H 𝓜 𝓡 code.env .Λ) #key code.function (code.unfolded 𝓤 H 𝓜 𝓡)
     (meets 𝓤 H (𝓖 .A) (givenOf 𝓤 H 𝓜 𝓖) (𝓜 .mem) (𝓡 .run) (tablesOf 𝓤 H 𝓜 (tables 𝓤 H 𝓜 𝓡 code.env))
     (cited 𝓤 H (Load 𝓤 H (𝓖 .A) (𝓜 .mem) (𝓡 .run)) 𝓜 𝓡 code.env #load load-def.routine code.calls-keeper·frames·load (load-thm.met 𝓤 H 𝓜 𝓖 𝓡))
-    (cited 𝓤 H (Core 𝓤 H (𝓖 .A) (𝓜 .mem) (𝓡 .run)) 𝓜 𝓡 code.env #core core-def.routine code.calls-events·place-core (core-thm.met 𝓤 H 𝓜 𝓖 𝓡)))
+    (cited 𝓤 H (Core 𝓤 H (𝓖 .A) (𝓜 .mem) (𝓡 .run)) 𝓜 𝓡 code.env #core core-def.routine code.calls-events·looks·place-core (core-thm.met 𝓤 H 𝓜 𝓖 𝓡)))

@@ -64,10 +64,10 @@ use Rattle.keeper.proofs.frames.load as load′
 use Rattle.keeper.proofs.frames.load.Symbol as load-def
 use Rattle.keeper.proofs.frames.load.Symbol.{name as #load}
 use Rattle.keeper.proofs.frames.load.Met as load-thm
-use Rattle.events.proofs.look_core as core
-use Rattle.events.proofs.look_core.Symbol as core-def
-use Rattle.events.proofs.look_core.Symbol.{name as #core}
-use Rattle.events.proofs.look_core.Met as core-thm
+use Rattle.events.proofs.looks.look_core as core
+use Rattle.events.proofs.looks.look_core.Symbol as core-def
+use Rattle.events.proofs.looks.look_core.Symbol.{name as #core}
+use Rattle.events.proofs.looks.look_core.Met as core-thm
 use Rattle.keeper.proofs.page_look.Key.{name as #key}
 use Rattle.keeper.proofs.page_look as fn
 use Rattle.keeper.proofs.page_look.Statement as stated
@@ -211,4 +211,4 @@ page-look-spec 𝓤 H 𝓜 𝓖 𝓡 =
     (tables 𝓤 H 𝓜 𝓡 code.env .C) (tables 𝓤 H 𝓜 𝓡 code.env .Λ) #key code.function (code.unfolded 𝓤 H 𝓜 𝓡)
     (meets 𝓤 H (𝓖 .A) (givenOf 𝓤 H 𝓜 𝓖) (𝓜 .mem) (𝓡 .run) (tablesOf 𝓤 H 𝓜 (tables 𝓤 H 𝓜 𝓡 code.env))
     (cited 𝓤 H (Load 𝓤 H (𝓖 .A) (𝓜 .mem) (𝓡 .run)) 𝓜 𝓡 code.env #load load-def.routine code.calls-keeper·frames·load (load-thm.met 𝓤 H 𝓜 𝓖 𝓡))
-    (cited 𝓤 H (Core 𝓤 H (𝓖 .A) (𝓜 .mem) (𝓡 .run)) 𝓜 𝓡 code.env #core core-def.routine code.calls-events·look-core (core-thm.met 𝓤 H 𝓜 𝓖 𝓡)))
+    (cited 𝓤 H (Core 𝓤 H (𝓖 .A) (𝓜 .mem) (𝓡 .run)) 𝓜 𝓡 code.env #core core-def.routine code.calls-events·looks·look-core (core-thm.met 𝓤 H 𝓜 𝓖 𝓡)))

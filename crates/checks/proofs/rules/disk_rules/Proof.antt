@@ -1,7 +1,7 @@
 -- The disk's passes are its rules, whatever memory holds.
 use mathlib.Core.Path.{_∙_}
 use Rattle.model.specs.Fit.{within}
-use Rattle.checks.specs.Lent.{diskOf}
+use Rattle.model.specs.Lent.{diskOf}
 use Rattle.checks.proofs.DiskLaw.{disk-told}
 use Rattle.checks.proofs.rules.disk_rules.Statement.{statement}
 use Rattle.checks.proofs.rules.disk_rules.Tie as tie

@@ -3,18 +3,18 @@ use mathlib.Core.Bool.{and-assoc}
 use native.Mathlib.Omega.{arith}
 use Rattle.tables.specs.Rule.{test}
 use Rattle.model.specs.Fit.{within}
-use Rattle.checks.proofs.Shapes.{few-pages, few-record-words}
+use Rattle.model.specs.Bounds.{pages-most, record-words-most}
 use Rattle.checks.proofs.sizes.disk_lengths_fit.Statement.{statement}
 use Rattle.checks.proofs.sizes.disk_lengths_fit.Tie as tie
 
 mul-result : tie.Need-mul-result
-mul-result c = omega (arith, few-record-words (c .before .args .z) (within (c .before .args .z) (c .before .pre)))
+mul-result c = omega (arith, record-words-most (c .before .args .z) (within (c .before .args .z) (c .before .pre)))
 
 mul-result-2 : tie.Need-mul-result-2
 mul-result-2 c =
     let args = c .before .before .before .before .args in
     let pre = c .before .before .before .before .pre in
-    omega (arith, few-pages (args .z) (within (args .z) (pre)))
+    omega (arith, pages-most (args .z) (within (args .z) (pre)))
 
 returns : tie.Need-returns
 unfolding test

@@ -6,19 +6,19 @@ use lib.ListN.{length}
 use native.Mathlib.Omega.{arith}
 use Rattle.tables.specs.Rule.{test}
 use Rattle.model.specs.Fit.{within}
-use Rattle.checks.proofs.Shapes.{few-pages, few-frame-words}
+use Rattle.model.specs.Bounds.{pages-most, frame-words-most}
 use Rattle.checks.proofs.PartLaws.{twelve}
 use Rattle.checks.proofs.sizes.memory_lengths_fit.Statement.{statement}
 use Rattle.checks.proofs.sizes.memory_lengths_fit.Tie as tie
 
 mul-pages : tie.Need-mul-pages
-mul-pages c = omega (arith, few-pages (c .before .args .z) (within (c .before .args .z) (c .before .pre)))
+mul-pages c = omega (arith, pages-most (c .before .args .z) (within (c .before .args .z) (c .before .pre)))
 
 mul-result : tie.Need-mul-result
 mul-result c =
     let args = c .before .before .before .args in
     let pre = c .before .before .before .pre in
-    omega (arith, few-frame-words (args .z) (within (args .z) (pre)))
+    omega (arith, frame-words-most (args .z) (within (args .z) (pre)))
 
 returns : tie.Need-returns
 unfolding test

@@ -10,8 +10,8 @@ use Rattle.model.specs.declared.frame.Frame.{Frame}
 use Rattle.model.specs.State.{State}
 use Rattle.model.specs.Lent.{stateOf}
 use Rattle.model.specs.Step.{allFit}
-use Rattle.model.specs.Calls.{framesOf}
-use Rattle.events.specs.Frames.{length-lent, fit-lent, fit-taken, ruled-taken}
+use Rattle.model.specs.Calls.{framesOf, length-frames}
+use Rattle.events.specs.Frames.{fit-taken, ruled-taken}
 use Rattle.events.specs.Common.{common-unfit, common-told}
 use Rattle.events.proofs.common.common.Statement.{statement}
 use Rattle.events.proofs.common.common.Tie as tie
@@ -31,14 +31,14 @@ returns c =
     let s = c .before .before .before .before .before .before .before .before .before .before .before .before .before .before .before .before .before .before in
     let a = s .args in
     common-unfit (a .sizes) (lent s)
-    (fit-lent (a .sizes) (at s) (λ l. refl) (a .frames) (a .lent) false (sym (c .if1 .left) ∙ c .before .all-fit .ensures (framesOf (a .frames) (a .lent)) (a .pool) (length-lent (a .frames) (a .lent))))
+    (sym (c .if1 .left) ∙ c .before .all-fit .ensures (framesOf (a .frames) (a .lent)) (a .pool) (length-frames (a .frames) (a .lent)))
 
 fitted : (c : tie.Then1) → (let s = c .before .before .before .before .before .before .before .before .before .before .before .before .before .before .before .before .before .before in Holds (allFit (s .args .sizes) (lent s)))
 fitted c =
     let s = c .before .before .before .before .before .before .before .before .before .before .before .before .before .before .before .before .before .before in
     let a = s .args in
     learn (allFit (a .sizes) (lent s))
-    (fit-lent (a .sizes) (at s) (λ l. refl) (a .frames) (a .lent) true (sym (c .if1 .taken) ∙ c .before .all-fit .ensures (framesOf (a .frames) (a .lent)) (a .pool) (length-lent (a .frames) (a .lent))))
+    (sym (c .if1 .taken) ∙ c .before .all-fit .ensures (framesOf (a .frames) (a .lent)) (a .pool) (length-frames (a .frames) (a .lent)))
 
 all-rules-requires : tie.Need-all-rules-requires
 all-rules-requires c κs =

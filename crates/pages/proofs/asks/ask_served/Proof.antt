@@ -1,16 +1,15 @@
 -- `ask_served` meets its contract: the slot's questions, then the frame's.
 use borrow.Author.Needs.{needs}
-use mathlib.Core.Path.{_≡_, refl, ap, sym, _∙_}
+use mathlib.Core.Path.{ap, sym, _∙_}
 use Prim.Native.Nat.{ℕ}
-use native.Mathlib.Omega.{arith}
 use lib.ListN.{take}
 use Rattle.tables.specs.Laws.{T→true}
-use Rattle.tables.specs.Questions.{Asked, firstNo, all-yes}
+use Rattle.tables.specs.Questions.{firstNo, all-yes}
 use Rattle.tables.specs.Also.{also-yes, also-no}
 use Rattle.model.specs.State.{pageOf}
+use Rattle.model.specs.Bounds.{page-most}
 use Rattle.pages.specs.Asks.{slotAsked, frameAsked}
 use Rattle.pages.proofs.Seats.{seat-in}
-use Rattle.pages.proofs.Places.{page-most}
 use Rattle.pages.proofs.asks.ask_served.Statement.{statement}
 use Rattle.pages.proofs.asks.ask_served.Tie as tie
 

@@ -1,8 +1,6 @@
 -- `ask_slot` meets its contract: the first test that fails gives its number.
 use borrow.Author.Needs.{needs}
-use mathlib.Core.Path.{_≡_, refl, ap, sym, _∙_}
-use native.Mathlib.Omega.{arith}
-use lib.Dec.{T}
+use mathlib.Core.Path.{sym, _∙_}
 use Rattle.tables.specs.Questions.{yes-all}
 use Rattle.model.specs.Own.{first-yes, first-no}
 use Rattle.pages.proofs.asks.ask_slot.Statement.{statement}

@@ -1,9 +1,9 @@
 -- `seat_of` meets its contract.
 use borrow.Author.Needs.{needs}
-use mathlib.Core.Path.{_≡_, refl, ap, sym, _∙_}
+use mathlib.Core.Path.{ap, _∙_}
 use native.Mathlib.Omega.{arith}
+use Rattle.model.specs.Bounds.{page-most}
 use Rattle.pages.specs.Asks.{seat}
-use Rattle.pages.proofs.Places.{page-most}
 use Rattle.pages.proofs.asks.seat_of.Statement.{statement}
 use Rattle.pages.proofs.asks.seat_of.Tie as tie
 

@@ -1,7 +1,6 @@
 -- `ask_fault` meets its contract: the three parts of its questions, one after the other.
 use borrow.Author.Needs.{needs}
-use mathlib.Core.Path.{_≡_, refl, ap, sym, _∙_}
-use native.Mathlib.Omega.{arith}
+use mathlib.Core.Path.{ap, sym, _∙_}
 use Prim.Native.Nat.{ℕ}
 use lib.ListN.{take}
 use Rattle.tables.specs.Base.{at}
@@ -9,9 +8,9 @@ use Rattle.tables.specs.Laws.{T→true}
 use Rattle.tables.specs.Questions.{firstNo, all-yes}
 use Rattle.tables.specs.Also.{also-yes, also-no}
 use Rattle.model.specs.State.{pageOf}
+use Rattle.model.specs.Bounds.{page-most}
 use Rattle.pages.specs.Asks.{slotAsked}
 use Rattle.pages.specs.Faults.{awayAsked, supplyAsked}
-use Rattle.pages.proofs.Places.{page-most}
 use Rattle.pages.proofs.faults.ask_fault.Statement.{statement}
 use Rattle.pages.proofs.faults.ask_fault.Tie as tie
 

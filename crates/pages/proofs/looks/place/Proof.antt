@@ -1,6 +1,4 @@
 -- `place` meets its contract: refused, or the page's frame and its words.
-use borrow.Author.Needs.{needs}
-use mathlib.Core.Path.{_≡_, refl, ap, sym, _∙_}
 use native.Mathlib.Omega.{arith}
 use Rattle.pages.proofs.Served.{page-range}
 use Rattle.pages.proofs.Looking.{placed-no, placed-yes, place-fits}

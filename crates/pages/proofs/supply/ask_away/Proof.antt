@@ -1,6 +1,6 @@
 -- `ask_away` meets its contract: the first frame that has the page is the only one.
 use borrow.Author.Needs.{needs}
-use mathlib.Core.Path.{_≡_, refl, ap, sym, _∙_}
+use mathlib.Core.Path.{ap, sym, _∙_}
 use native.Mathlib.Omega.{arith}
 use Prim.Native.Nat.{_<_, _≤_}
 use Rattle.tables.specs.Questions.{yes-all}

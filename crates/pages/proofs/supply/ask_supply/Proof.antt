@@ -1,14 +1,14 @@
 -- `ask_supply` meets its contract: the first test that fails gives its number.
 use borrow.Author.Needs.{needs}
-use mathlib.Core.Path.{_≡_, refl, ap, sym, _∙_}
+use mathlib.Core.Path.{ap, sym, _∙_}
 use native.Mathlib.Omega.{arith}
-use mathlib.Core.Bool.{true, false}
+use mathlib.Core.Bool.{true}
 use Prim.Native.Nat.{ℕ}
 use lib.Dec.{eqb, ltb}
 use Rattle.tables.specs.Base.{if, at}
 use Rattle.tables.specs.Questions.{yes-all}
 use Rattle.tables.specs.QueueEntries.{size-zero, size-more}
-use Rattle.tables.specs.Rule.{Rule, Holds, same, below, non, _or_, test, sound, complete}
+use Rattle.tables.specs.Rule.{same, below, non, _or_, sound, complete}
 use Rattle.model.specs.Own.{first-yes, first-no}
 use Rattle.pages.specs.Faults.{isLive}
 use Rattle.pages.proofs.Ways.{quota-told, supplied-told}

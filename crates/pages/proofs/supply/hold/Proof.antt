@@ -1,20 +1,15 @@
 -- `hold` meets its contract: the record that the free map tells is the one of the definition, and it is free.
 use borrow.Author.Needs.{needs}
-use mathlib.Core.Path.{_≡_, refl, ap, sym, _∙_}
+use mathlib.Core.Path.{ap, sym, _∙_}
 use native.Mathlib.Omega.{arith}
 use native.Mathlib.Nat.{mod-lt}
 use native.Mathlib.Numerals.{add-one}
-use mathlib.Core.List.{List}
-use Prim.Native.Nat.{ℕ, suc, _+_, _-_, _%_, _/_, _<_}
-use lib.Dec.{T}
-use lib.ListN.{set, length}
-use Rattle.tables.specs.Base.{at}
+use Prim.Native.Nat.{ℕ, suc, _+_, _-_, _%_}
+use lib.ListN.{set}
 use Rattle.tables.specs.Laws.{if-yes, if-no}
-use Rattle.model.specs.declared.frame.Pool.{Pool}
-use Rattle.model.specs.Lines.{NULLED, allowed}
-use Rattle.parts.specs.FreeMap.{bitOf}
+use Rattle.model.specs.Lines.{NULLED}
 use Rattle.pages.specs.Faults.{cleared}
-use Rattle.pages.proofs.Holding.{chosen, chosen-told, chosen-below, chosen-inside, chosen-on, chosen-may}
+use Rattle.pages.proofs.Holding.{chosen-told, chosen-below, chosen-inside, chosen-on, chosen-may}
 use Rattle.pages.proofs.supply.hold.Statement.{statement}
 use Rattle.pages.proofs.supply.hold.Tie as tie
 

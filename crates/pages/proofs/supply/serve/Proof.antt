@@ -1,17 +1,13 @@
 -- `serve` meets its contract, by the way.
 use borrow.Author.Needs.{needs}
-use mathlib.Core.Path.{_≡_, refl, ap, sym, _∙_}
+use mathlib.Core.Path.{ap, sym, _∙_}
 use native.Mathlib.Omega.{arith}
-use mathlib.Core.List.{List}
-use Prim.Native.Nat.{ℕ, suc, _+_, _*_, _≤_}
+use Prim.Native.Nat.{ℕ}
 use native.Mathlib.Nat.{mul-le-mul-right}
 use native.Mathlib.Numerals.{add-one}
 use lib.ListN.{set}
-use Rattle.tables.specs.Base.{if}
 use Rattle.tables.specs.Laws.{if-yes, if-no}
 use Rattle.tables.specs.Queue.{push-front}
-use Rattle.model.specs.declared.frame.Frame.{Frame}
-use Rattle.model.specs.Parts.{setPart}
 use Rattle.model.specs.Pages.{awaiting, fresh}
 use Rattle.pages.proofs.supply.serve.Statement.{statement}
 use Rattle.pages.proofs.supply.serve.Tie as tie

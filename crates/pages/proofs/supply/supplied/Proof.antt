@@ -1,7 +1,5 @@
 -- `supplied` meets its contract.
-use borrow.Author.Needs.{needs}
-use mathlib.Core.Path.{_≡_, refl, ap, sym, _∙_}
-use native.Mathlib.Omega.{arith}
+use mathlib.Core.Path.{sym}
 use Rattle.tables.specs.Laws.{if-yes, if-no}
 use Rattle.pages.proofs.supply.supplied.Statement.{statement}
 use Rattle.pages.proofs.supply.supplied.Tie as tie

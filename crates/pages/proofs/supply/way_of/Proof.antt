@@ -1,7 +1,6 @@
 -- `way_of` meets its contract: an address names the record one below it.
 use borrow.Author.Needs.{needs}
-use mathlib.Core.Path.{_≡_, refl, ap, sym, _∙_}
-use native.Mathlib.Omega.{arith}
+use mathlib.Core.Path.{sym, _∙_}
 use Rattle.pages.proofs.Ways.{way-live, way-none, way-held, named-live, named-dead}
 use Rattle.pages.proofs.supply.way_of.Statement.{statement}
 use Rattle.pages.proofs.supply.way_of.Tie as tie

@@ -3,7 +3,7 @@ use borrow.Author.Needs.{needs}
 use mathlib.Core.List.{List}
 use lib.ListN.{take}
 use Rattle.model.specs.declared.frame.Frame.{Frame}
-use mathlib.Core.Path.{_≡_, refl, ap, sym, _∙_}
+use mathlib.Core.Path.{ap, _∙_}
 use Rattle.model.specs.Step.{result}
 use Rattle.model.specs.State.{frameAt}
 use Rattle.pages.proofs.Served.{page-range}

@@ -9,7 +9,7 @@ use lib.ListN.{length}
 use Rattle.tables.specs.Base.{at}
 use Rattle.restarts.specs.Filled.{Filled, filled-tab, filled-by, filled-start}
 use Rattle.restarts.specs.Counts.{listedUsed, usedBy, used-none, used-turn, used-pass, used-room}
-use Rattle.restarts.proofs.Products.{slot-inside}
+use Rattle.restarts.proofs.Entries.{slot-inside}
 use Rattle.restarts.proofs.counts.count_used.Statement.{statement}
 use Rattle.restarts.proofs.counts.count_used.Tie as tie
 

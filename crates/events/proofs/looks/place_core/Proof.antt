@@ -1,4 +1,4 @@
--- `place_lent` meets its contract: refused by question 1 or 2, or what the look by its own questions tells.
+-- `place_core` meets its contract: refused by question 1 or 2, or what the look by its own questions tells.
 use borrow.Author.Needs.{needs}
 use mathlib.Core.Path.{_≡_, refl, sym, _∙_}
 use mathlib.Core.List.{List}
@@ -16,8 +16,8 @@ use Rattle.model.specs.Calls.{framesOf}
 use Rattle.events.specs.Frames.{lent-first}
 use Rattle.events.specs.Common.{common, common-gives, unfit-part}
 use Rattle.events.specs.Looking.{seats, placed-part}
-use Rattle.events.proofs.looks.place_lent.Statement.{statement}
-use Rattle.events.proofs.looks.place_lent.Tie as tie
+use Rattle.events.proofs.looks.place_core.Statement.{statement}
+use Rattle.events.proofs.looks.place_core.Tie as tie
 
 -- the state by its frames
 abbrev at : tie.Start → List Frame → State
@@ -56,5 +56,5 @@ returns-2 c =
       omega (arith, w, c .place .ensures .1),
     )
 
-pub place-lent-spec : {M : Type 1} → statement M
-place-lent-spec = tie.close (tie.spec (λ c κs. search needs) returns place-requires returns-2)
+pub place-core-spec : {M : Type 1} → statement M
+place-core-spec = tie.close (tie.spec (λ c κs. search needs) returns place-requires returns-2)
