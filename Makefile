@@ -1,5 +1,6 @@
 # make test: the gate. make replay: the event program on a readable example. make mutants: every wrong definition that a theorem must refuse.
-.PHONY: test replay mutants
+# make docs: what the documents take from the code.
+.PHONY: test replay mutants docs
 EXAMPLE = examples/two-mills.txt
 
 test:
@@ -13,3 +14,6 @@ replay:
 
 mutants:
 	python3 tests/mutants/run.py
+
+docs:
+	python3 tools/pictures.py --write
