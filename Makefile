@@ -17,3 +17,4 @@ mutants:
 
 docs:
 	python3 tools/pictures.py --write
+	python3 tools/counts.py --write docs/PROOF.md

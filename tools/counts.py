@@ -1,0 +1,94 @@
+#!/usr/bin/env python3
+"""Lines of code, of specifications and of proofs in each crate of crates.txt, without blank lines and comment lines.
+
+    counts.py                 prints the table
+    counts.py --write FILE    puts it between the two markers of FILE
+    counts.py --check FILE    fails if what stands between them is another
+"""
+
+import pathlib
+import sys
+
+ROOT = pathlib.Path(__file__).resolve().parent.parent
+START, END = "<!-- sizes: made by tools/counts.py -->\n", "<!-- end of sizes -->\n"
+
+# A column's name, its files in a crate, and how a comment line starts there.
+COLUMNS = [
+    ("code", "src/*.rt", "//"),
+    ("specs", "specs/**/*.antt", "--"),
+    ("proofs", "proofs/**/*.antt", "--"),
+]
+
+
+class Bad(Exception):
+    """A file that has no place for the table; says which."""
+
+
+def crates(text):
+    """The crates in the order of crates.txt: what stands before the colon."""
+    rows = (line.split("#", 1)[0].partition(":") for line in text.splitlines())
+    return [name.strip() for name, colon, _ in rows if colon]
+
+
+def counted(text, comment):
+    """The lines that are neither blank nor a comment alone."""
+    lines = (line.strip() for line in text.splitlines())
+    return sum(1 for line in lines if line and not line.startswith(comment))
+
+
+def sizes(crate):
+    """A crate's count in each column."""
+    return [
+        sum(counted(path.read_text(), comment) for path in sorted((ROOT / "crates" / crate).glob(files)))
+        for _, files, comment in COLUMNS
+    ]
+
+
+def row(name, numbers):
+    return "| " + " | ".join([name] + [f"{number:,}" for number in numbers]) + " |\n"
+
+
+def table():
+    """The counts of all crates as a Markdown table, with a total."""
+    names = crates((ROOT / "crates.txt").read_text())
+    rows = [sizes(name) for name in names]
+    heading = "| crate | " + " | ".join(name for name, _, _ in COLUMNS) + " |\n"
+    rule = "|---|" + "---:|" * len(COLUMNS) + "\n"
+    body = "".join(row(f"`{name}`", numbers) for name, numbers in zip(names, rows))
+    return heading + rule + body + row("total", map(sum, zip(*rows)))
+
+
+def parts(text, name):
+    """What stands in a file before the table, the table, and what stands after it."""
+    before, start, rest = text.partition(START)
+    inside, end, after = rest.partition(END)
+    if not start or not end:
+        raise Bad(f"{name} has not the two marker lines of the table")
+    return before + start, inside, end + after
+
+
+def main(words):
+    if not words:
+        print(table(), end="")
+        return 0
+    if len(words) != 2 or words[0] not in ("--write", "--check"):
+        print(__doc__, file=sys.stderr)
+        return 1
+    path = pathlib.Path(words[1])
+    before, inside, after = parts(path.read_text(), words[1])
+    if words[0] == "--write":
+        path.write_text(before + table() + after)
+        return 0
+    if inside == table():
+        print("1 passed, 0 failed")
+        return 0
+    print(f"the table in {words[1]} is not the current one: tools/counts.py --write {words[1]}")
+    print("0 passed, 1 failed")
+    return 1
+
+
+if __name__ == "__main__":
+    try:
+        sys.exit(main(sys.argv[1:]))
+    except (Bad, OSError) as bad:
+        sys.exit(f"counts.py: {bad}")
