@@ -1,0 +1,105 @@
+#!/usr/bin/env python3
+"""Tests that the tables of docs/USING.md are the code's: python3 tools/test_using.py"""
+
+import pathlib
+import re
+import unittest
+
+ROOT = pathlib.Path(__file__).resolve().parent.parent
+USING = (ROOT / "docs" / "USING.md").read_text()
+HEADER = (ROOT / "include" / "keeper.h").read_text()
+QUESTIONS = (ROOT / "crates" / "model" / "specs" / "Questions.antt").read_text()
+PRINTED = (ROOT / "examples" / "firmware.out").read_text()
+
+
+def rows(start):
+    """The rows of the table whose heading starts so, the heading first."""
+    table = USING[USING.index("| " + start + " |") :].split("\n\n")[0].splitlines()
+    cells = [[cell.strip() for cell in line.strip("|").split("|")] for line in table]
+    return [cells[0]] + cells[2:]
+
+
+def enum(comment):
+    """An enum of the header: names without the prefix and numbers, by the comment before it."""
+    found = re.search(re.escape(comment) + r".*?\*/\nenum \{(.*?)\};", HEADER, re.S)
+    return re.findall(r"KEEPER_([A-Z_]+) = (\d+)", found.group(1))
+
+
+def bytes_of(formula, sizes):
+    """A formula of the table of tables, for these sizes."""
+    return eval(formula.replace("⌈R/32⌉", "((R + 31) // 32)").replace("·", "*"), dict(sizes))
+
+
+def sizes_in(cell):
+    """The sizes that a heading names, by letter."""
+    return {letter: int(value) for letter, value in re.findall(r"([WRFSNQ]) (\d+)", cell)}
+
+
+def largest():
+    """The header's limits, by letter."""
+    return {letter: int(most) for letter, (_, most) in zip("WRFSNQ", enum("/* Limits of the sizes"))}
+
+
+class Bytes(unittest.TestCase):
+    def setUp(self):
+        self.heading, *self.rows = rows("part")
+        self.sizes = [sizes_in(cell) for cell in self.heading[5:7]] + [largest()]
+
+    def test_each_table(self):
+        for row in self.rows:
+            with self.subTest(row[1]):
+                self.assertEqual([f"{bytes_of(row[4], sizes):,}" for sizes in self.sizes], row[5:])
+
+    def test_totals(self):
+        for part in ("disk", "memory"):
+            numbers = [[int(cell.replace(",", "")) for cell in row[5:]] for row in self.rows if row[0] == part]
+            self.assertEqual([sum(column) for column in zip(*numbers[:-1])], numbers[-1])
+
+    def test_order_of_the_call(self):
+        lent = re.findall(r"size_t ([a-z_]+)_count,? +/\*", HEADER)
+        named = [row[1] for row in self.rows if row[1] not in ("all", "frames", "pool")]
+        self.assertEqual(named, lent)
+
+
+class Requests(unittest.TestCase):
+    def test_kinds(self):
+        section = re.search(r"/\* The kinds of request\. \*/\nenum \{(.*?)\};", HEADER, re.S).group(1)
+        kinds = re.findall(r"KEEPER_[A-Z_]+(?= =)", section)
+        values = [re.split(r"[;:]", comment)[0].strip() for comment in re.findall(r"/\* (.*?) \*/", section)]
+        values = ["" if value == "result" else value for value in values]
+        table = rows("kind")[1:]
+        self.assertEqual([row[0].strip("`") for row in table], kinds)
+        self.assertEqual([row[1] for row in table], values)
+
+    def test_refusals(self):
+        asked = dict(re.findall(r"^  (?:design|page|store)Questions \(?([A-Za-z]+).*? = (.*)$", QUESTIONS, re.M))
+        served = re.search(r"^  served range s p = (.*)$", QUESTIONS, re.M).group(1)
+        for name, _, _, refusals in rows("kind")[1:]:
+            event = name.strip("`").replace("KEEPER_", "").title().replace("_", "")
+            numbers = re.findall(r"\bq(\d+)\b", asked[event].replace("served", served))
+            with self.subTest(event):
+                self.assertEqual(refusals.split(), [n for n in numbers if n not in ("3", "23")])
+
+
+class Answers(unittest.TestCase):
+    def test_numbers_and_names(self):
+        table = [(row[1].strip("`").replace("KEEPER_", ""), row[0]) for row in rows("number")[1:]]
+        self.assertEqual(table, enum("/* The refusals.")[1:])
+        self.assertEqual([number for _, number in table], [str(n) for n in range(1, 24)])
+
+
+class Example(unittest.TestCase):
+    def test_printed(self):
+        section = USING[USING.index("## The example") : USING.index("## The answers")]
+        quoted = re.findall(r"`((?:mill \d|restart:|\d calls)[^`]*)`", section)
+        self.assertEqual(len(quoted), 10)
+        for line in quoted:
+            self.assertIn(line + "\n", PRINTED)
+
+    def test_pictures(self):
+        for name in re.findall(r"\]\((.*?\.svg)\)", USING):
+            self.assertTrue((ROOT / "docs" / name).exists(), name)
+
+
+if __name__ == "__main__":
+    unittest.main()
