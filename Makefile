@@ -1,7 +1,8 @@
 # make test: the gate. make replay: the event program on a readable example. make mutants: every wrong definition that a theorem must refuse.
-# make docs: what the documents take from the code.
-.PHONY: test replay mutants docs
+# make docs: what the documents take from the code. make bench: the keeper's speed beside the C port's and the reference's (docs/BENCHMARKS.md).
+.PHONY: test replay mutants docs bench
 EXAMPLE = examples/two-mills.txt
+LIBRARY = target/staticlib/libkeeper.a
 
 test:
 	bash .ci/run
@@ -18,3 +19,9 @@ mutants:
 docs:
 	python3 tools/pictures.py --write
 	python3 tools/counts.py --write docs/PROOF.md
+
+bench: $(LIBRARY)
+	python3 bench/run.py
+
+$(LIBRARY): crates.txt $(shell find crates -name '*.rt' -o -name '*.antt')
+	rt staticlib keeper

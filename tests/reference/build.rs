@@ -1,9 +1,12 @@
-//! Builds the C port of the keeper, for the test that compares it with the reference; and finds the proved keeper, if it is built.
+//! Builds the C port of the keeper, which is compared with the reference and the proved keeper; and finds the latter, if it is built.
 
 use std::path::Path;
 use std::process::Command;
 
 const FILES: [&str; 4] = ["keeper", "rules", "questions", "events"];
+
+/// The proved keeper's calls have these names too: here they become c_port_*.
+const CALLS: [&str; 4] = ["format", "restart", "apply", "page_look"];
 
 fn run(command: &mut Command) {
     let status = command.status().unwrap_or_else(|error| panic!("{command:?}: {error}"));
@@ -14,13 +17,14 @@ fn main() {
     let bench = Path::new(env!("CARGO_MANIFEST_DIR")).join("../../bench");
     let out = std::env::var("OUT_DIR").expect("cargo sets OUT_DIR");
     let out = Path::new(&out);
+    let names = CALLS.map(|call| format!("-Dkeeper_{call}=c_port_{call}"));
     let mut archive = Command::new("ar");
     archive.arg("rcs").arg(out.join("libkeeper_c.a"));
     for file in FILES {
         let object = out.join(file).with_extension("o");
         let source = bench.join(file).with_extension("c");
-        let flags = ["-O2", "-Wall", "-Wextra", "-Werror", "-std=c11", "-fPIC", "-c", "-o"];
-        run(Command::new("gcc").args(flags).arg(&object).arg(source));
+        let flags = ["-O2", "-Wall", "-Wextra", "-Werror", "-std=c11", "-fPIE", "-c", "-o"];
+        run(Command::new("gcc").args(&names).args(flags).arg(&object).arg(source));
         archive.arg(object);
     }
     run(&mut archive);
@@ -29,7 +33,7 @@ fn main() {
     proved();
 }
 
-/// The proved keeper's static library, made by `rt staticlib keeper`: its test is compiled only where it is there.
+/// The proved keeper's static library, made by `rt staticlib keeper`: its test and the benchmark are compiled only where it is there.
 fn proved() {
     let folder = Path::new(env!("CARGO_MANIFEST_DIR")).join("../../target/staticlib");
     let archive = folder.join("libkeeper.a");

@@ -1,11 +1,13 @@
 //! The page keeper of paper 01 written plainly, from the paper alone, to compare the proved keeper with.
 //! It shares no code with it: only the layout of the lent tables is the same.
 
+pub mod bench; // the lists that speed is measured over, and the measuring
 pub mod drive; // random lists of events, and what must hold along them
 pub mod event; // requests as numbers, and their events
 pub mod events; // what each event does
 pub mod fit; // question 1
 pub mod keeper; // the public calls
+pub mod linked; // keepers that are linked in, to drive beside this one
 pub mod program; // the event program
 pub mod questions; // questions 3 to 23
 pub mod queue; // the free queue and the removal list

@@ -1,0 +1,64 @@
+//! The next event of a list: of the kind that came least so far, if the tables allow one of it;
+//! but a page done while many pages are in transfer.
+
+use super::{values, LOOK, PAGE_DONE};
+use crate::drive::random::Random;
+use crate::event::{Event, Request};
+use crate::keeper::Keeper;
+use crate::questions;
+
+/// A call of a list. A format or restart has no values; a page look has slot and page.
+#[derive(Clone, Copy, Debug)]
+pub struct Step {
+    pub kind: usize,
+    pub values: [u32; 4],
+}
+
+impl Step {
+    /// The event that it asks for, of the kinds that a mix holds.
+    fn event(&self) -> Event {
+        let [first, second, third, fourth] = self.values;
+        if self.kind == LOOK {
+            return Event::Look { slot: first as usize, page: second as usize };
+        }
+        let request = Request { kind: self.kind as u32 + 1, first, second, third, fourth };
+        Event::decode(&request).expect("a kind of event")
+    }
+}
+
+pub struct Mix {
+    pub random: Random,
+    /// How often each kind of request, and page look, came.
+    counts: Vec<(usize, usize)>,
+}
+
+impl Mix {
+    pub fn new(random: Random) -> Mix {
+        let kinds = (0..15).chain([LOOK]).map(|kind| (0, kind));
+        Mix { random, counts: kinds.collect() }
+    }
+
+    pub fn next(&mut self, keeper: &Keeper) -> Step {
+        let random = &mut self.random;
+        let report = values::many_transfers(keeper);
+        self.counts
+            .sort_by_cached_key(|&(count, kind)| (!(report && kind == PAGE_DONE), count, random.next()));
+        for at in 0..self.counts.len() {
+            let kind = self.counts[at].1;
+            if let Some(step) = self.allowed(kind, keeper) {
+                self.counts[at].0 += 1;
+                return step;
+            }
+        }
+        unreachable!("a limit can always be set")
+    }
+
+    /// A call of this kind that every question says yes to, if a few tries find one.
+    pub fn allowed(&mut self, kind: usize, keeper: &Keeper) -> Option<Step> {
+        (0..8).find_map(|_| {
+            let values = values::likely(kind, keeper, &mut self.random)?.map(|value| value as u32);
+            let step = Step { kind, values };
+            (questions::refusal(keeper, step.event()) == 0).then_some(step)
+        })
+    }
+}

@@ -1,0 +1,117 @@
+//! The C port. build.rs names its calls `c_port_*`, so that it and the proved keeper link into one program.
+
+use crate::drive::Subject;
+use crate::event::{Answer, Part, Request};
+use crate::keeper::Keeper;
+use crate::tables::{Frame, Pool, Sizes};
+use std::marker::PhantomData;
+
+#[repr(C)]
+struct Slice<T> {
+    at: *mut T,
+    len: usize,
+}
+
+#[repr(C)]
+struct Disk {
+    records: Slice<u32>,
+    numbers: Slice<u32>,
+    accounts: Slice<u16>,
+    maps: Slice<u16>,
+    limits: Slice<u16>,
+}
+
+#[repr(C)]
+struct Memory {
+    frames: Slice<Frame>,
+    frame_words: Slice<u32>,
+    free_queue: Slice<u16>,
+    removal_list: Slice<u16>,
+    addresses: Slice<u16>,
+    states: Slice<u8>,
+    owners: Slice<u8>,
+    free_map: Slice<u32>,
+    active: Slice<u8>,
+    updating: Slice<u8>,
+    images: Slice<u16>,
+    used: Slice<u16>,
+    pool: *mut Pool,
+}
+
+/// `struct keeper` of bench/keeper.h over a keeper's tables.
+#[repr(C)]
+pub struct Lent<'a> {
+    sizes: Sizes,
+    disk: Disk,
+    memory: Memory,
+    tables: PhantomData<&'a mut Keeper>,
+}
+
+#[link(name = "keeper_c", kind = "static")]
+extern "C" {
+    fn c_port_format(keeper: *mut Lent) -> Answer;
+    fn c_port_restart(keeper: *mut Lent) -> Answer;
+    fn c_port_apply(keeper: *mut Lent, request: Request) -> Answer;
+    fn c_port_page_look(keeper: *const Lent, slot: usize, page: usize) -> Part;
+}
+
+fn slice<T>(table: &mut Vec<T>) -> Slice<T> {
+    Slice { at: table.as_mut_ptr(), len: table.len() }
+}
+
+impl Lent<'_> {
+    pub fn of(keeper: &mut Keeper) -> Lent<'_> {
+        let (disk, memory) = (&mut keeper.disk, &mut keeper.memory);
+        Lent {
+            sizes: keeper.sizes,
+            disk: Disk {
+                records: slice(&mut disk.records),
+                numbers: slice(&mut disk.numbers),
+                accounts: slice(&mut disk.accounts),
+                maps: slice(&mut disk.maps),
+                limits: slice(&mut disk.limits),
+            },
+            memory: Memory {
+                frames: slice(&mut memory.frames),
+                frame_words: slice(&mut memory.frame_words),
+                free_queue: slice(&mut memory.free_queue),
+                removal_list: slice(&mut memory.removal_list),
+                addresses: slice(&mut memory.addresses),
+                states: slice(&mut memory.states),
+                owners: slice(&mut memory.owners),
+                free_map: slice(&mut memory.free_map),
+                active: slice(&mut memory.active),
+                updating: slice(&mut memory.updating),
+                images: slice(&mut memory.images),
+                used: slice(&mut memory.used),
+                pool: &mut memory.pool,
+            },
+            tables: PhantomData,
+        }
+    }
+
+    pub fn format(&mut self) -> Answer {
+        unsafe { c_port_format(self) }
+    }
+
+    pub fn restart(&mut self) -> Answer {
+        unsafe { c_port_restart(self) }
+    }
+
+    pub fn apply(&mut self, request: Request) -> Answer {
+        unsafe { c_port_apply(self, request) }
+    }
+
+    pub fn page_look(&self, slot: u32, page: u32) -> Part {
+        unsafe { c_port_page_look(self, slot as usize, page as usize) }
+    }
+}
+
+pub const C_PORT: Subject = Subject {
+    name: "C port",
+    format: |keeper| Lent::of(keeper).format(),
+    restart: |keeper| Lent::of(keeper).restart(),
+    apply: |keeper, request| Lent::of(keeper).apply(request),
+    // the look changes nothing, so a copy of the tables serves
+    page_look: |keeper, slot, page| Lent::of(&mut keeper.clone()).page_look(slot, page),
+};

@@ -1,0 +1,5 @@
+//! The keepers that are linked in as C symbols: the C port, and the proved keeper once its library is built.
+
+pub mod c_port; // the C port of bench/
+#[cfg(keeper)]
+pub mod proved; // the static library that firmware links
