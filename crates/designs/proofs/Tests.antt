@@ -1,12 +1,12 @@
 -- A rule by its test, as code tells it.
 use mathlib.Core.Path.{_≡_, refl}
-use mathlib.Core.Bool.{true, false, _&&_, _||_}
-use mathlib.Core.Logic.{_⊎_}
+use mathlib.Core.Bool.{Bool, true, false, not, _&&_, _||_}
 use mathlib.Core.List.{List}
 use Prim.Native.Nat.{ℕ}
 use lib.Dec.{ltb, eqb}
 use lib.ListN.{take}
-use Rattle.tables.specs.Rule.{Holds, test, same, below, _and_, _or_, alike}
+use Rattle.tables.specs.Base.{_⇒_}
+use Rattle.tables.specs.Rule.{Holds, test, same, below, non, _and_, _or_, _then_, alike}
 use Rattle.tables.specs.Turn.{said-yes, said-no}
 use Rattle.model.specs.declared.frame.Frame.{Frame}
 use Rattle.parts.specs.FrameLaws.{frame-take}
@@ -33,16 +33,15 @@ three-yes a b c d e f = said-yes (below a b and below c d and below e f) (three-
 pub three-no : (a b c d e f : ℕ) → (ltb a b && (ltb c d && ltb e f)) ≡ false → ¬ Holds (below a b and below c d and below e f)
 three-no a b c d e f = said-no (below a b and below c d and below e f) (three-below a b c d e f)
 
--- a record of the slot in one of two states
-one-of : (o s t x y : ℕ) → (eqb o s && (eqb t x || eqb t y)) ≡ test (same o s and (same t x or same t y))
+-- a record that is not the slot's, or in neither of two states
+pub none-of : (o s t x y : ℕ) → (not (eqb o s) || (not (eqb t x) && not (eqb t y))) ≡ test (same o s then non (same t x or same t y))
 unfolding test
-one-of o s t x y = refl
-
-pub one-yes : {o t : ℕ} (o' s t' x y : ℕ) → o ≡ o' → t ≡ t' → (eqb o s && (eqb t x || eqb t y)) ≡ true → (o' ≡ s) × ((t' ≡ x) ⊎ (t' ≡ y))
-one-yes o' s t' x y p q e = said-yes (same o' s and (same t' x or same t' y)) (one-of o' s t' x y) (rw (p, q) at e)
-
-pub one-no : {o t : ℕ} (o' s t' x y : ℕ) → o ≡ o' → t ≡ t' → (eqb o s && (eqb t x || eqb t y)) ≡ false → o' ≡ s → ¬ ((t' ≡ x) ⊎ (t' ≡ y))
-one-no o' s t' x y p q e h k = said-no (same o' s and (same t' x or same t' y)) (one-of o' s t' x y) (rw (p, q) at e) (h, k)
+none-of o s t x y = go (eqb o s) (eqb t x) (eqb t y)
+  where
+    go : (a b c : Bool) → (not a || (not b && not c)) ≡ (a ⇒ not (b || c))
+    go false b c = refl
+    go true true c = refl
+    go true false c = refl
 
 -- only the first frames are asked
 pub unframed-taken : (count : ℕ) (fs : List Frame) (pages s : ℕ) → test (unframed count fs pages s) ≡ test (unframed count (take count fs) pages s)

@@ -46,8 +46,11 @@ abbrev pub trueMap : List ℕ → List ℕ → List ℕ → ℕ → ℕ → Rule
 trueMap maps addresses states pages s = each pages λ p. same (at maps (s * pages + p)) (liveAddress addresses states (s * pages + p))
 
 -- .. and no record of it nulled or released
+abbrev pub settledRecord : ℕ → ℕ → ℕ → Rule
+settledRecord state owner s = same owner s then non (same state NULLED or same state RELEASED)
+
 abbrev pub settled : ℕ → List ℕ → List ℕ → ℕ → Rule
-settled records states owners s = each records λ r. same (at owners r) s then non (same (at states r) NULLED or same (at states r) RELEASED)
+settled records states owners s = each records λ r. settledRecord (at states r) (at owners r) s
 
 -- 11 and 12
 abbrev pub heldAsked : Sizes → ℕ → List Frame → List ℕ → List ℕ → List ℕ → List ℕ → Questions

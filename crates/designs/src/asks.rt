@@ -1,8 +1,8 @@
 // The questions about a slot, in parts: each part answers 0, or the number of its first question that fails.
 ghost use mathlib.Core.Path.{_≡_};
 ghost use mathlib.Core.List.{[]};
-ghost use Prim.Native.Nat.{_<_};
-ghost use lib.ListN.{take};
+ghost use Prim.Native.Nat.{_<_, _≤_};
+ghost use lib.ListN.{length, take};
 ghost use Rattle.tables.specs.Questions.{firstNo};
 ghost use Rattle.tables.specs.Rule.{test};
 ghost use Rattle.model.specs.declared.event.Design.the-variants as Design;
@@ -119,7 +119,7 @@ pub fn ask_held(
     states: &[u8],
     owners: &[u8],
 ) -> u32
-    requires { ⌜ Within sizes × (slot < sizes .slots) ⌝ }
+    requires { ⌜ Within sizes × (slot < sizes .slots) × (length (now states) ≤ length (now owners)) ⌝ }
     ensures { λ r. ⌜ r ≡ firstNo (heldAsked sizes slot (take (sizes .frames) frames) (now (maps .entry)) (now (addresses .entry)) (now (states .entry)) (now (owners .entry))) ⌝ }
 {
     if none_framed(frames, sizes.frames, sizes.pages, slot) {} else {
@@ -147,7 +147,7 @@ pub fn ask_deactivate(
     active: &[u8],
     updating: &[u8],
 ) -> u32
-    requires { ⌜ Within sizes ⌝ }
+    requires { ⌜ Within sizes × (length (now states) ≤ length (now owners)) ⌝ }
     ensures { λ r. ⌜ r ≡ firstNo (questions sizes (turned (take (sizes .frames) frames) (now (numbers .entry)) (now (maps .entry)) (now (addresses .entry)) (now (states .entry)) (now (owners .entry)) (now (active .entry)) (now (updating .entry))) (Event.Design (Design.Deactivate slot))) ⌝ }
 {
     let no = ask_filled(sizes, slot, numbers);

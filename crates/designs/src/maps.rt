@@ -1,8 +1,9 @@
 // The questions about a slot's map and its records: each is one pass.
 ghost use mathlib.Core.Path.{_≡_};
-ghost use Prim.Native.Nat.{_+_, _*_, _<_};
+ghost use Prim.Native.Nat.{_+_, _*_, _<_, _≤_};
+ghost use lib.ListN.{length};
 ghost use Rattle.tables.specs.Rule.{test};
-ghost use Rattle.designs.specs.Asks.{zeroMap, liveAddress, trueMap, settled};
+ghost use Rattle.designs.specs.Asks.{zeroMap, liveAddress, trueMap, settledRecord, settled};
 use parts::cells::at8;
 use parts::cells::at16;
 
@@ -54,18 +55,38 @@ pub fn map_true(maps: &[u16], addresses: &[u16], states: &[u8], pages: usize, sl
     true
 }
 
-// Whether no record of the slot is nulled or released.
+// The smaller of two.
+fn smaller(a: usize, b: usize) -> usize
+    ensures { λ r. ⌜ (r ≤ a) × (r ≤ b) × (r < a → r ≡ b) ⌝ }
+{
+    if a < b {
+        return a;
+    }
+    b
+}
+
+// Whether the record is not the slot's, or neither nulled nor released.
+fn is_settled(state: u8, owner: u8, slot: u8) -> bool
+    ensures { λ r. ⌜ r ≡ test (settledRecord state owner slot) ⌝ }
+{
+    (owner != slot) | ((state != 2) & (state != 4))
+}
+
+// Whether no record of the slot is nulled or released. All are asked, so that no branch hangs on a record.
 pub fn records_settled(records: usize, states: &[u8], owners: &[u8], slot: usize) -> bool
+    requires { ⌜ length (now states) ≤ length (now owners) ⌝ }
     ensures { λ r. ⌜ r ≡ test (settled records (now (states .entry)) (now (owners .entry)) slot) ⌝ }
 {
+    if slot > 255 {
+        return true;
+    }
+    let own = slot as u8;
+    let end = smaller(records, states.len());
+    let mut all = true;
     let mut r = 0;
-    while r < records {
-        let owner = at8(owners, r) as usize;
-        let state = at8(states, r);
-        if (owner == slot) & ((state == 2) | (state == 4)) {
-            return false;
-        }
+    while r < end {
+        all = all & is_settled(states[r], owners[r], own);
         r += 1;
     }
-    true
+    all
 }

@@ -32,7 +32,7 @@ ask-held-requires c κs =
     let m = c .before in
     let k = m .before .before in
     let s = k .before .before .before .before .before .before .before .before in
-    (s .pre, all-yes 0 (filledAsked (s .args .sizes) (s .args .slot) (s .args .numbers .now)) tt (sym (k .ask-filled .ensures) ∙ m .before .if1 .left) .0)
+    (s .pre .0, all-yes 0 (filledAsked (s .args .sizes) (s .args .slot) (s .args .numbers .now)) tt (sym (k .ask-filled .ensures) ∙ m .before .if1 .left) .0, s .pre .1)
 
 returns-3 : tie.Need-returns-3
 unfolding wouldStore
