@@ -19,8 +19,9 @@ use Rattle.tables.specs.ThoseLaws.{those-snoc, those-none, those-elim, those-on
 use Rattle.tables.specs.TimesLaws.{Within, Once, times-here, times-cons, times-append, times-map, times-map-none, times-without-le, length-lt, length-without, within-append, without-same}
 use Rattle.model.specs.declared.frame.Frame.{Frame}
 use Rattle.model.specs.State.{frameAt}
+use Rattle.stores.specs.ByPage.{ByPage}
 use Rattle.stores.specs.Truncate.{frameIn, cutList, cutUpTo, Cutting}
-use Rattle.stores.proofs.Cut.{from-up}
+use Rattle.stores.proofs.Cut.{from-up, not-up}
 
 -- lists without numbers that pass alike
 pub without-alike : (p q : ℕ → Bool) (xs : List ℕ) → ((x : ℕ) → 0 < times xs x → p x ≡ q x) → without p xs ≡ without q xs
@@ -181,3 +182,16 @@ module _ (n pages s k : ℕ) (fs : List Frame) (fq rl : List ℕ) (ready : Cutti
       so-queue = a ∙ t .so-queue ∙ ap (λ (l : List ℕ). packed (length fq) (members fq ++ l)) (sym (cut-same m up d));
       so-list = b ∙ t .so-list ∙ ap (packed (length rl)) (without-alike (gone m) (gone (m + 1)) (members rl) (gone-same m d));
     }
+
+-- a page's frame by the table of the slot's frames
+module _ (n pages s k : ℕ) (fs : List Frame) (fq rl : List ℕ) (ready : Cutting n pages s k fs fq rl) {table : List ℕ} (t : ByPage n pages s fs table) (p : ℕ) (b : p < pages) {e : ℕ} (q : e ≡ at table p) where
+  module _ (d : ¬ (e ≡ 0)) where
+    pub in-entry : Holds (some n λ f. same (frameAt fs f .page) (suc (s * pages + p)))
+    in-entry = let x = t .framed p (e - 1) b (omega (arith, q, d)) in (e - 1, x .0, x .1)
+
+    pub its-entry : e - 1 ≡ frameIn n fs (s * pages + p)
+    unfolding in-entry
+    its-entry = sym (its-only n pages s k fs fq rl ready p (e - 1) (in-entry .1) (in-entry .2))
+
+  pub no-entry : e ≡ 0 → ¬ Holds (some n λ f. same (frameAt fs f .page) (suc (s * pages + p)))
+  no-entry z = t .unframed p b (sym q ∙ z)

@@ -1,3 +1,4 @@
+pub mod ByPage
 pub mod ClaimLaws
 pub mod ClaimWork
 pub mod Cut

@@ -1,4 +1,5 @@
 pub mod Answered
+pub mod ByPage
 pub mod Claim
 pub mod Done
 pub mod MapDone

@@ -1,4 +1,5 @@
 // The events that free frames and records, or move pages and maps to the disk: one function for each.
+mod by_page;
 pub mod claim;
 pub mod map_done;
 mod names;

@@ -9,11 +9,14 @@ ghost use Rattle.tables.specs.Questions.{firstNo};
 ghost use Rattle.model.specs.Questions.{questions};
 ghost use lib.Dec.{leb};
 ghost use Rattle.tables.specs.Base.{at};
+ghost use Rattle.stores.specs.ByPage.{chargedEntry};
 ghost use Rattle.stores.specs.Truncate.{number};
 ghost use Rattle.tables.specs.Rule.{Holds, test};
 ghost use Rattle.tables.specs.Store.{Split};
 ghost use Rattle.model.specs.State.{frameAt, noFrame};
 ghost use Rattle.stores.specs.Truncate.{quiet, allQuiet, chargedPage, cutUpTo, cutList, Cutting, truncate, asked, seen, TruncateReady, TruncateLeft};
+use crate::by_page::by_page;
+use crate::by_page::wide;
 use crate::names::framed;
 use crate::switches::empty;
 use model::applied::Framed;
@@ -23,7 +26,6 @@ use parts::cells::at8;
 use parts::cells::at16;
 use parts::cells::at32;
 use parts::cells::put16;
-use parts::frames::frame_of;
 use parts::queue::push_back;
 use parts::queue::remove;
 use parts::slots::clear_from;
@@ -68,12 +70,11 @@ fn all_quiet(
     true
 }
 
-// Whether the page is charged.
-fn is_charged(count: usize, frames: [Frame; 64], addresses: &[u16], states: &[u8], i: usize) -> bool
-    requires { ⌜ (count < 65) × (i < 65535) ⌝ }
-    ensures { λ r. ⌜ r ≡ test (chargedPage count frames (now (addresses .entry)) (now (states .entry)) i) ⌝ }
+// Whether the page is charged, by the entry of its frame.
+fn is_charged(entry: u8, addresses: &[u16], states: &[u8], i: usize) -> bool
+    ensures { λ r. ⌜ r ≡ test (chargedEntry entry (now (addresses .entry)) (now (states .entry)) i) ⌝ }
 {
-    if frame_of(frames, count, i) < count {
+    if entry != 0 {
         return true;
     }
     let address = at16(addresses, i);
@@ -97,10 +98,11 @@ fn charges(
     ensures { λ r. ⌜ r ≡ number pages (λ p. leb k p && test (chargedPage count frames (now (addresses .entry)) (now (states .entry)) (slot * pages + p))) ⌝ }
 {
     let start = slot * pages;
+    let entries = by_page(count, pages, slot, frames, [0; 256]);
     let mut n = 0;
     let mut p = k;
     while p < pages {
-        if is_charged(count, frames, addresses, states, start + p) {
+        if is_charged(entries[p], addresses, states, start + p) {
             n += 1;
         }
         p += 1;
@@ -148,13 +150,13 @@ fn free_frames(
     requires { ⌜ Cutting count pages slot k frames (now «free_queue») (now «removal_list») ⌝ }
     ensures { λ _. ⌜ (now («free_queue» .exit) ≡ packed (length (now («free_queue» .entry))) (members (now («free_queue» .entry)) ++ cutList count pages slot k frames pages)) × (now («removal_list» .exit) ≡ packed (length (now («removal_list» .entry))) (without (λ f. test (cutUpTo pages slot k pages (frameAt frames f))) (members (now («removal_list» .entry))))) ⌝ }
 {
-    let start = slot * pages;
+    let entries = by_page(count, pages, slot, frames, [0; 256]);
     let mut p = k;
     while p < pages {
-        let f = frame_of(frames, count, start + p);
-        if f < count {
-            push_back(free_queue, f);
-            remove(removal_list, f);
+        let entry = wide(entries[p]);
+        if entry != 0 {
+            push_back(free_queue, entry - 1);
+            remove(removal_list, entry - 1);
         }
         p += 1;
     }
