@@ -1,11 +1,9 @@
 -- The passes over the disk are the disk rules.
-use mathlib.Core.Path.{_≡_, refl, ap, sym, _∙_}
-use mathlib.Core.Logic.{_⊎_, inl, inr}
+use mathlib.Core.Path.{_≡_, sym, _∙_}
 use mathlib.Core.List.{List}
-use Prim.Native.Nat.{ℕ, suc, _+_, _-_, _*_, _/_, _<_, _≤_}
+use Prim.Native.Nat.{ℕ, suc, _-_}
 use native.Mathlib.Omega.{arith}
 use native.Mathlib.Decide.{ℕ-discrete, decLt}
-use lib.ListN.{length}
 use Rattle.tables.specs.Base.{at}
 use Rattle.tables.specs.Rule.{Rule, Holds, test, alike}
 use Rattle.model.specs.declared.sizes.Sizes.{Sizes}

@@ -1,10 +1,8 @@
 -- The passes over pages, records and slots are the memory rules of pages, records and slots.
-use mathlib.Core.Path.{_≡_, refl, ap, sym, _∙_}
-use mathlib.Core.Logic.{_⊎_, inl, inr}
-use mathlib.Core.List.{List}
-use Prim.Native.Nat.{ℕ, suc, _+_, _*_, _/_, _<_, _≤_}
+use mathlib.Core.Path.{_≡_, sym, _∙_}
+use mathlib.Core.Logic.{inl, inr}
+use Prim.Native.Nat.{ℕ, suc, _*_, _/_, _<_}
 use native.Mathlib.Omega.{arith}
-use lib.ListN.{length}
 use Rattle.tables.specs.Base.{at}
 use Rattle.tables.specs.Rule.{Rule, Holds}
 use Rattle.model.specs.declared.sizes.Sizes.{Sizes}
@@ -41,8 +39,8 @@ module _ (z : Sizes) (st : State) (long : FilesLong z (st .disk .numbers) (st .d
 
   -- a filed record is no active page's
   not-filed : (s i r : ℕ) → Entries s i → map i ≡ suc r → state r ≡ 1 → ¬ (at (st .memory .slots .active) s ≡ 1)
-  not-filed s i r e m f on = elim (e .0 r m .1 on) [
-    | inl a ↦ elim (e .1 .0 r a .0 .1) [ inl n ↦ omega (arith, f, n) | inr n ↦ omega (arith, f, n) ]
+  not-filed s i r e m f on = elim (e .1 .0 r m on) [
+    | inl a ↦ elim (e .1 .1 .0 r a .1) [ inl n ↦ omega (arith, f, n) | inr n ↦ omega (arith, f, n) ]
     | inr a ↦ elim (a .1) [ inl n ↦ omega (arith, f, n) | inr n ↦ omega (arith, f, n) ]
   ]
 
@@ -61,17 +59,17 @@ module _ (z : Sizes) (st : State) (long : FilesLong z (st .disk .numbers) (st .d
         active-fit = λ x k. s x k .0;
         updating-fit = λ x k. s x k .1 .0;
         held-once = held .1;
-        held = λ i k r q. entries i k .1 .0 r q .0;
+        held = λ i k. entries i k .1 .1 .0;
         held-by = λ r k. rows r k .1 .1 .0;
-        filed = λ i k r q. entries i k .0 r q .0;
+        filed = λ i k. entries i k .0;
         filed-by = λ r k f. let x = rows r k .1 .1 .1 .0 f in (x .0, x .1, (x .2, not-filed (x .0 / z .pages) (x .0) r (entries (x .0) (x .1)) (x .2) f));
-        mapped = λ i k r q. entries i k .0 r q .1;
-        imaged = λ i k r q. entries i k .1 .1 r q .0;
+        mapped = λ i k. entries i k .1 .0;
+        imaged = λ i k. entries i k .1 .1 .1 .1 .0;
         image-once = λ i k j l r p q n. begun .1 i k j l r p q;
-        image-zero = λ i k r q. entries i k .1 .1 r q .1;
+        image-zero = λ i k. entries i k .1 .1 .1 .1 .1;
         leaving-begun = λ r k. rows r k .1 .1 .1 .1;
         active-filled = λ x k. s x k .1 .1 .0;
-        address-active = λ i k r q. entries i k .1 .0 r q .1;
+        address-active = λ i k. entries i k .1 .1 .1 .0;
         update-active = λ x k. s x k .1 .1 .1;
       }
 
@@ -90,10 +88,7 @@ module _ (z : Sizes) (st : State) (long : FilesLong z (st .disk .numbers) (st .d
       (
         λ s k. (o .active-fit s k, (o .updating-fit s k, (o .active-filled s k, o .update-active s k))),
         (
-          of-row (z .slots) (z .pages) (long .within .pages) Entries (λ i k. (
-            λ r q. (o .filed i k r q, o .mapped i k r q),
-            (λ r q. (o .held i k r q, o .address-active i k r q), λ r q. (o .imaged i k r q, o .image-zero i k r q)),
-          )),
+          of-row (z .slots) (z .pages) (long .within .pages) Entries (λ i k. (o .filed i k, (o .mapped i k, (o .held i k, (o .address-active i k, (o .imaged i k, o .image-zero i k)))))),
           rw (long .maps-long) (λ r k. (o .owner-fit r k, (o .state-fit r k, (o .held-by r k, (λ f. let x = o .filed-by r k f in (x .0, x .1, x .2 .0), o .leaving-begun r k))))),
         ),
       ),

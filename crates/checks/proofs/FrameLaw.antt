@@ -1,16 +1,15 @@
 -- The passes over frames and queues are the memory rules of frames and queues.
-use mathlib.Core.Path.{_≡_, refl, ap, sym, _∙_, subst}
+use mathlib.Core.Path.{_≡_, ap, sym, _∙_, subst}
 use mathlib.Core.List.{List}
-use Prim.Native.Nat.{ℕ, suc, _+_, _*_, _/_, _<_, _≤_}
-use lib.ListN.{length}
+use Prim.Native.Nat.{ℕ, _*_, _<_}
 use Rattle.tables.specs.Base.{at}
 use Rattle.tables.specs.Queue.{members, times}
-use Rattle.tables.specs.Rule.{Rule, Holds, test, alike}
+use Rattle.tables.specs.Rule.{Holds}
 use Rattle.model.specs.declared.frame.Frame.{Frame}
 use Rattle.model.specs.declared.sizes.Sizes.{Sizes}
-use Rattle.model.specs.State.{State, files, frames, frameAt}
+use Rattle.model.specs.State.{State, files, frames}
 use Rattle.model.specs.Ruled.{OfFrames, OfQueues}
-use Rattle.passes.specs.Passes.{inverse, frameRow, cleanFrame}
+use Rattle.passes.specs.Passes.{marked, frameRow, cleanFrame}
 use Rattle.checks.specs.Parts.{framePasses}
 
 -- frames that are the same below `count`
@@ -28,8 +27,8 @@ module _ (count words pages total : ℕ) (g h : ℕ → Frame) (e : (f : ℕ) �
     ),
   )
 
-  pub inverse-same : (size : ℕ) (t : List ℕ) → Holds (inverse size count (λ f. g f .page) t) → Holds (inverse size count (λ f. h f .page) t)
-  inverse-same size t v = (λ f l i p. v .0 f l i (page-of f l ∙ p), λ i l f p. let x = v .1 i l f p in (x .0, sym (page-of f (x .0)) ∙ x .1))
+  pub marked-same : (marks : List ℕ) → Holds (marked total count (λ f. g f .page) marks) → Holds (marked total count (λ f. h f .page) marks)
+  marked-same marks v = (λ f l i p. v .0 f l i (page-of f l ∙ p), λ i l on. let x = v .1 i l on in (x .0, x .1, sym (page-of (x .0) (x .1)) ∙ x .2))
 
 module _ (z : Sizes) (st : State) where
   pub of-frames : Holds (framePasses (z .frames) (z .words) (z .pages) (z .slots * z .pages) (frames st .frame) (st .disk .records) (st .memory .core .words) (st .memory .core .free-queue)
@@ -38,12 +37,12 @@ module _ (z : Sizes) (st : State) where
     record {
       fit = λ f l. (d f l, r f l .0);
       in-one-place = λ f l. r f l .1 .0;
-      active = λ f l i e. r f l .1 .1 .1 i e .0;
+      active = λ f l. r f l .1 .1 .1 .1 .1 .0;
       once = o;
-      held = λ f l i e. r f l .1 .1 .1 i e .1;
-      writing = λ f l. r f l .1 .1 .0 .0;
-      free = λ f l. r f l .1 .1 .0 .1 .0;
-      busy = λ f l. r f l .1 .1 .0 .1 .1;
+      held = λ f l. r f l .1 .1 .1 .1 .1 .1;
+      writing = λ f l. r f l .1 .1 .0;
+      free = λ f l. r f l .1 .1 .1 .0;
+      busy = λ f l. r f l .1 .1 .1 .1 .0;
       clean = c;
     },
     record { free-queue = q; removal-list = p },
@@ -55,7 +54,7 @@ module _ (z : Sizes) (st : State) where
   frames-of o q = (
     ((λ f l. o .fit f l .0, o .once), (q .free-queue, q .removal-list)),
     (
-      λ f l. (o .fit f l .1, (o .in-one-place f l, ((o .writing f l, (o .free f l, o .busy f l)), λ i e. (o .active f l i e, o .held f l i e)))),
+      λ f l. (o .fit f l .1, (o .in-one-place f l, (o .writing f l, (o .free f l, (o .busy f l, (o .active f l, o .held f l)))))),
       o .clean,
     ),
   )

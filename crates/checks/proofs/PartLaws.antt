@@ -1,23 +1,22 @@
 -- What the parts' proofs cite: tests joined, and tables made on the way put in place of what they tell.
-use mathlib.Core.Path.{_≡_, refl, ap, sym, _∙_}
+use mathlib.Core.Path.{_≡_, refl, sym, _∙_}
 use mathlib.Core.Bool.{Bool, true, false, _&&_}
-use mathlib.Core.Logic.{_⊎_, inl, inr}
 use mathlib.Core.List.{List}
-use Prim.Native.Nat.{ℕ, suc, _+_, _-_, _*_, _/_, _<_, _≤_}
+use Prim.Native.Nat.{ℕ, suc, _-_, _*_, _<_, _≤_}
 use native.Mathlib.Omega.{arith}
-use native.Mathlib.Decide.{ℕ-discrete}
 use lib.Dec.{eqb, ltb}
 use lib.ListN.{length}
 use Rattle.tables.specs.Base.{at}
-use Rattle.tables.specs.Queue.{members, times, queue}
-use Rattle.tables.specs.Rule.{Rule, same, below, non, _and_, _or_, _then_, each, some, Holds, test, alike}
-use Rattle.tables.specs.Turn.{not-so, unlearn, learn}
+use Rattle.tables.specs.Queue.{members, times}
+use Rattle.tables.specs.Marks.{bitOf}
+use Rattle.tables.specs.Rule.{same, below, _and_, _or_, each, Holds, test, alike}
 use Rattle.model.specs.declared.frame.Frame.{Frame}
 use Rattle.model.specs.declared.sizes.Sizes.{Sizes}
 use Rattle.model.specs.State.{frameAt}
 use Rattle.model.specs.Rules.{fit}
-use Rattle.passes.specs.Passes.{distinct, inverse, counted, frameRow, frameRows, recordRow, recordRows, usedPages, usedTable, PagesFit}
-use Rattle.checks.specs.Parts.{heldRow, heldRows, FilesLong}
+use Rattle.passes.specs.Passes.{distinct, marked, counted, frameRow, frameRows, recordRow, recordRows, usedPages, usedTable, PagesFit}
+use Rattle.passes.proofs.Marked.{off}
+use Rattle.checks.specs.Parts.{heldRow, heldRows, framePasses, FilesLong}
 use Rattle.checks.proofs.Shapes.{each-same}
 
 -- ── tests that came out true, or false ──
@@ -34,12 +33,6 @@ three-true a b c e = let x = both-true (a && b) c e in let y = both-true a b (x 
 pub four-true : (a b c d : Bool) → ((a && b) && c) && d ≡ true → a ≡ true
 four-true a b c d e = three-true a b c (both-true ((a && b) && c) d e .0) .0
 
-pub first-no : (f g : Rule) → false ≡ test f → false ≡ test (f and g)
-first-no f g e = not-so (f and g) (λ h. unlearn f e (h .0))
-
-pub second-told : (f g : Rule) (b : Bool) → Holds f → b ≡ test g → b ≡ test (f and g)
-second-told f g b h e = e ∙ alike g (f and g) (λ k. (h, k)) (λ k. k .1)
-
 pub same-told : (a b x : ℕ) → x ≡ b → eqb a x ≡ test (same a b)
 unfolding test
 same-told a b x e = rw e
@@ -48,23 +41,29 @@ pub below-told : (a b : ℕ) → ltb a b ≡ test (below a b)
 unfolding test
 below-told a b = refl
 
--- ── a record by its holder, or by a table of holders ──
--- the table's place is 0 just where no entry names the record
-module _ (size n : ℕ) (entry : ℕ → ℕ) (t : List ℕ) (v : Holds (inverse size n entry t)) (r : ℕ) (less : r < size) where
-  pub table-some : ¬ (at t r ≡ 0) → (i : ℕ) × (i < n) × (entry i ≡ suc r)
-  table-some d = let q = v .1 r less (at t r - 1) (omega arith) in (at t r - 1, q .0, q .1)
+-- ── what is named, by the entries or by the marks ──
+module _ (m n : ℕ) (entry : ℕ → ℕ) (marks : List ℕ) (v : Holds (marked m n entry marks)) (r : ℕ) where
+  pub marked-some : r < m → bitOf marks r ≡ 1 → (i : ℕ) × (i < n) × (entry i ≡ suc r)
+  marked-some less on = v .1 r less on
 
-  pub some-table : (i : ℕ) × (i < n) × (entry i ≡ suc r) → ¬ (at t r ≡ 0)
-  some-table x z = omega (arith, z, v .0 (x .0) (x .1) r (x .2))
+  pub some-marked : (i : ℕ) × (i < n) × (entry i ≡ suc r) → bitOf marks r ≡ 1
+  some-marked x = v .0 (x .0) (x .1) r (x .2)
 
-module _ (records slots : ℕ) (holders listers maps addresses states owners updating : List ℕ) (small : records ≤ 4096)
-    (h : Holds (inverse 4096 (length maps) (at addresses) holders)) (l : Holds (inverse 4096 (length maps) (at maps) listers)) where
-  pub rows-held : test (recordRows records slots holders listers states owners updating) ≡ test (heldRows records slots maps addresses states owners updating)
-  rows-held = each-same records _ _ (λ r k. let s : r < 4096 = omega arith in alike
-      (recordRow slots (at holders r) (at listers r) (at states r) (at owners r) (at updating))
+module _ (records slots : ℕ) (held listed maps addresses states owners updating : List ℕ)
+    (h : Holds (marked records (length maps) (at addresses) held)) (l : Holds (marked records (length maps) (at maps) listed)) where
+  pub rows-held : test (recordRows records slots (bitOf held) (bitOf listed) states owners updating) ≡ test (heldRows records slots maps addresses states owners updating)
+  rows-held = each-same records _ _ (λ r k. alike
+      (recordRow slots (bitOf held r) (bitOf listed r) (at states r) (at owners r) (at updating))
       (heldRow slots (length maps) (at addresses) (at maps) (at states r) (at owners r) (at updating) r)
-      (λ x. (x .0, (x .1 .0, (λ e. table-some 4096 (length maps) (at addresses) holders h r s (x .1 .1 .0 e), (λ e. table-some 4096 (length maps) (at maps) listers l r s (x .1 .1 .1 .0 e), x .1 .1 .1 .1)))))
-      (λ x. (x .0, (x .1 .0, (λ e. some-table 4096 (length maps) (at addresses) holders h r s (x .1 .1 .0 e), (λ e. some-table 4096 (length maps) (at maps) listers l r s (x .1 .1 .1 .0 e), x .1 .1 .1 .1))))))
+      (λ x. (x .0, (x .1 .0, (λ e. marked-some records (length maps) (at addresses) held h r k (x .1 .1 .0 e), (λ e. marked-some records (length maps) (at maps) listed l r k (x .1 .1 .1 .0 e), x .1 .1 .1 .1)))))
+      (λ x. (x .0, (x .1 .0, (λ e. some-marked records (length maps) (at addresses) held h r (x .1 .1 .0 e), (λ e. some-marked records (length maps) (at maps) listed l r (x .1 .1 .1 .0 e), x .1 .1 .1 .1))))))
+
+-- a page with no address is in no frame, where each page in a frame has one
+pub framed-held : (count words pages total : ℕ) (frame : ℕ → Frame) (records word free-queue removal-list addresses states active marks : List ℕ)
+    → Holds (framePasses count words pages total frame records word free-queue removal-list addresses states active) → Holds (marked total count (λ f. frame f .page) marks)
+    → (i : ℕ) → i < total → at addresses i ≡ 0 → bitOf marks i ≡ 0
+framed-held count words pages total frame records word free-queue removal-list addresses states active marks p v i l none =
+    off marks i (λ on. let x = v .1 i l on in p .1 .0 (x .0) (x .1) .1 .1 .1 .1 .1 .1 i (x .2) .0 none)
 
 -- ── the tables of pages, once they are known to fit ──
 pub pages-fit : (z : Sizes) (numbers maps addresses states owners active updating images : List ℕ) → FilesLong z numbers maps addresses states owners active updating images

@@ -1,8 +1,8 @@
 -- All passes together are all rules.
-use mathlib.Core.Path.{_≡_, refl, ap, sym, _∙_}
-use mathlib.Core.Bool.{Bool, true, false}
+use mathlib.Core.Path.{_≡_, sym, _∙_}
+use mathlib.Core.Bool.{Bool, false}
 use mathlib.Core.List.{List, [], _∷_}
-use Prim.Native.Nat.{ℕ, zero, suc, _+_, _*_, _/_, _<_, _≤_}
+use Prim.Native.Nat.{ℕ, zero, suc, _*_, _<_, _≤_}
 use native.Mathlib.Omega.{arith}
 use lib.ListN.{length, take}
 use lib.Seq.{getD-take}
@@ -14,13 +14,15 @@ use Rattle.model.specs.declared.sizes.Sizes.{Sizes}
 use Rattle.model.specs.State.{State, files, frames, frameAt, noFrame}
 use Rattle.model.specs.Fit.{Fit}
 use Rattle.model.specs.Rules.{allRules}
-use Rattle.model.specs.Ruled.{Ruled, OfFrames, OfQueues, ruled, rules}
-use Rattle.passes.specs.Passes.{inverse}
+use Rattle.model.specs.Ruled.{OfFrames, OfQueues, ruled, rules}
+use Rattle.passes.specs.Passes.{marked, FramedFit}
 use Rattle.checks.specs.Parts.{diskPasses, filePasses, framePasses, countPasses, DiskLong, FilesLong, FramesLong, CountsLong}
 use Rattle.checks.proofs.DiskLaw.{on-disk, disk-on}
 use Rattle.checks.proofs.FileLaw.{of-files, files-of}
-use Rattle.checks.proofs.FrameLaw.{passes-same, inverse-same, of-frames, frames-of}
+use Rattle.checks.proofs.FrameLaw.{passes-same, marked-same, of-frames, frames-of}
 use Rattle.checks.proofs.CountLaw.{of-counts, counts-of}
+use Rattle.checks.proofs.PartLaws.{framed-held}
+use Rattle.model.specs.Bounds.{pages-most}
 
 -- question 1 gives each subject its lengths
 module _ (z : Sizes) (st : State) (fit : Fit z st) where
@@ -89,8 +91,24 @@ module _ (z : Sizes) (st : State) (fit : Fit z st) where
     no-frames e = not-so (allRules z st) (λ h. unlearn frame-passes e
         (passes-same (z .frames) (z .words) (z .pages) (z .slots * z .pages) (frames st .frame) frame (λ f l. sym (same f l)) (st .disk .records) (st .memory .core .words) (st .memory .core .free-queue) (st .memory .core .removal-list) (st .memory .held .addresses) (st .memory .held .states) (st .memory .slots .active) (frames-of z st (ruled z st h .frames) (ruled z st h .queues))))
 
+    -- what the counts need of the marks of pages in frames
+    pub framed-fit : (marks : List ℕ) → z .slots * z .pages ≤ 32 * length marks
+        → Holds (filePasses (z .slots) (z .pages) (z .records) (st .disk .numbers) (st .disk .maps) (st .memory .held .addresses) (st .memory .held .states) (st .memory .held .owners) (st .memory .slots .active)
+        (st .memory .slots .updating) (st .memory .slots .images))
+        → Holds (framePasses (z .frames) (z .words) (z .pages) (z .slots * z .pages) frame (st .disk .records) (st .memory .core .words) (st .memory .core .free-queue) (st .memory .core .removal-list)
+        (st .memory .held .addresses) (st .memory .held .states) (st .memory .slots .active))
+        → Holds (marked (z .slots * z .pages) (z .frames) (λ f. frame f .page) marks) → FramedFit (st .disk .maps) (st .memory .held .addresses) marks (st .memory .held .states)
+    framed-fit marks room f c v = record {
+      addresses-long = fit .memory .addresses ∙ sym (fit .disk .maps);
+      few = omega (arith, pages-most z (fit .sizes), fit .disk .maps);
+      marks-long = omega (arith, room, fit .disk .maps);
+      addresses-fit = rw (fit .memory .states) (f .0 .0 .0);
+      framed-held = λ i l. framed-held (z .frames) (z .words) (z .pages) (z .slots * z .pages) frame (st .disk .records) (st .memory .core .words) (st .memory .core .free-queue) (st .memory .core .removal-list)
+          (st .memory .held .addresses) (st .memory .held .states) (st .memory .slots .active) marks c v i (omega (arith, l, fit .disk .maps));
+    }
+
     -- all others hold: the counts decide
-    pub counts-decide : (t : List ℕ) (b : Bool) → Holds (inverse 16384 (z .frames) (λ f. frame f .page) t)
+    pub counts-decide : (t : List ℕ) (b : Bool) → Holds (marked (z .slots * z .pages) (z .frames) (λ f. frame f .page) t)
         → Holds (diskPasses (z .slots) (z .pages) (z .records) (z .accounts) (st .disk .numbers) (st .disk .accounts) (st .disk .maps))
         → Holds (filePasses (z .slots) (z .pages) (z .records) (st .disk .numbers) (st .disk .maps) (st .memory .held .addresses) (st .memory .held .states) (st .memory .held .owners) (st .memory .slots .active)
         (st .memory .slots .updating) (st .memory .slots .images))
@@ -100,11 +118,11 @@ module _ (z : Sizes) (st : State) (fit : Fit z st) where
         (st .memory .held .states) (st .memory .held .free-map) (st .memory .slots .active) (st .memory .used) t)
         → b ≡ test (allRules z st)
     counts-decide t b v d f c e = e ∙ alike count-passes (allRules z st)
-        (λ h. rules z st (record { disk = on-disk z st disk-long d; records = of-files z st files-long f; queues = fq .1; frames = fq .0; counts = of-counts z st (fit .sizes) t w h }))
-        (λ h. counts-of z st (fit .sizes) t w (ruled z st h .counts))
+        (λ h. rules z st (record { disk = on-disk z st disk-long d; records = of-files z st files-long f; queues = fq .1; frames = fq .0; counts = of-counts z st t w h }))
+        (λ h. counts-of z st t w (ruled z st h .counts))
       where
-        w : Holds (inverse 16384 (z .frames) (λ f. frames st .frame f .page) t)
-        w = inverse-same (z .frames) (z .words) (z .pages) (z .slots * z .pages) frame (frames st .frame) same 16384 t v
+        w : Holds (marked (z .slots * z .pages) (z .frames) (λ f. frames st .frame f .page) t)
+        w = marked-same (z .frames) (z .words) (z .pages) (z .slots * z .pages) frame (frames st .frame) same t v
 
         fq : OfFrames z (files st) (frames st) (at (st .disk .records)) × OfQueues z st
         fq = of-frames z st (passes-same (z .frames) (z .words) (z .pages) (z .slots * z .pages) frame (frames st .frame) same (st .disk .records) (st .memory .core .words) (st .memory .core .free-queue) (st .memory .core .removal-list) (st .memory .held .addresses) (st .memory .held .states) (st .memory .slots .active) c)

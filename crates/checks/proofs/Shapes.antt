@@ -1,20 +1,12 @@
--- Numbers that follow from the sizes' limits, tables by rows, and rules that are alike number by number.
-use mathlib.Core.Path.{_≡_, refl, ap, sym, _∙_, subst}
-use mathlib.Core.Bool.{Bool, true}
-use mathlib.Core.List.{List}
+-- Tables by rows, and rules that are alike number by number.
+use mathlib.Core.Path.{_≡_, _∙_, subst}
 use Prim.Native.Nat.{ℕ, suc, _+_, _-_, _*_, _/_, _%_, _<_, _≤_}
-use native.Mathlib.Nat.{mul-le-mul, mod-lt, div-add-mod', div-lt-iff-lt-mul, mul-add-div-right, div-eq-of-lt, mul-le-mul-right, suc-mul}
+use native.Mathlib.Nat.{mod-lt, div-add-mod', div-lt-iff-lt-mul, mul-add-div-right, div-eq-of-lt, mul-le-mul-right, suc-mul}
 use native.Mathlib.Omega.{arith}
-use lib.ListN.{length, replicate, length-replicate}
+use lib.ListN.{replicate}
 use Rattle.tables.specs.Base.{at}
 use Rattle.tables.specs.Rule.{Rule, same, each, Holds, test, alike, sound, complete}
-use Rattle.model.specs.declared.sizes.Sizes.{Sizes}
-use Rattle.model.specs.Fit.{Within}
-use Rattle.passes.proofs.Inverse.{zeros}
-
--- there are at most 64 * 256 pages
-pub few-pages : (z : Sizes) → Within z → z .slots * z .pages ≤ 16384
-few-pages z h = let a : z .slots ≤ 64 = omega (arith, h .slots-most) in let b : z .pages ≤ 256 = omega (arith, h .pages-most) in let c : z .slots * z .pages ≤ 64 * 256 = mul-le-mul a b in c
+use Rattle.passes.proofs.Marked.{zeros}
 
 -- a table of zeros
 pub all-zero : (n : ℕ) → Holds (each n (λ r. same (at (replicate n 0) r) 0))
@@ -39,10 +31,3 @@ module _ (slots pages : ℕ) (pos : 0 < pages) (P : ℕ → ℕ → Type 0) wher
 -- ── equal rules, number by number ──
 pub each-same : (n : ℕ) (f g : ℕ → Rule) → ((i : ℕ) → i < n → test (f i) ≡ test (g i)) → test (each n f) ≡ test (each n g)
 each-same n f g e = alike (each n f) (each n g) (λ h i l. sound (g i) (rw (← e i l) (complete (f i) (h i l)))) (λ h i l. sound (f i) (rw (e i l) (complete (g i) (h i l))))
-
--- words of all records, of all frames
-pub few-record-words : (z : Sizes) → Within z → z .records * z .words ≤ 4194304
-few-record-words z h = let a : z .records ≤ 4096 = omega (arith, h .records-most) in let b : z .words ≤ 1024 = omega (arith, h .words-most) in let c : z .records * z .words ≤ 4096 * 1024 = mul-le-mul a b in c
-
-pub few-frame-words : (z : Sizes) → Within z → z .frames * z .words ≤ 65536
-few-frame-words z h = let a : z .frames ≤ 64 = omega (arith, h .frames-most) in let b : z .words ≤ 1024 = omega (arith, h .words-most) in let c : z .frames * z .words ≤ 64 * 1024 = mul-le-mul a b in c

@@ -23,8 +23,8 @@ pub fn disk_rules(
     requires { ⌜ Holds (sizesFit z and diskLengths z (diskOf (now records) (now numbers) (now accounts) (now maps) (now limits))) ⌝ }
     ensures { λ r. ⌜ ((m : Memory) → r ≡ test (diskRules z (record { disk = diskOf (now (records .entry)) (now (numbers .entry)) (now (accounts .entry)) (now (maps .entry)) (now (limits .entry)); memory = m }))) ⌝ }
 {
-    let found = crate::parts::disk(z, numbers, accounts, maps);
-    found.ok
+    let mut listed: [u32; 128] = [0; 128];
+    crate::parts::disk(z, numbers, accounts, maps, &mut listed)
 }
 
 // Both sets of rules.
@@ -53,14 +53,13 @@ pub fn all_rules(
     requires { ⌜ Holds (allFit z (stateOf (take count frames) pool (now records) (now numbers) (now accounts) (now maps) (now limits) (now words) (now «free_queue») (now «removal_list») (now addresses) (now states) (now owners) (now «free_map») (now active) (now updating) (now images) (now used))) ⌝ }
     ensures { λ r. ⌜ r ≡ test (allRules z (stateOf (take count frames) pool (now (records .entry)) (now (numbers .entry)) (now (accounts .entry)) (now (maps .entry)) (now (limits .entry)) (now (words .entry)) (now («free_queue» .entry)) (now («removal_list» .entry)) (now (addresses .entry)) (now (states .entry)) (now (owners .entry)) (now («free_map» .entry)) (now (active .entry)) (now (updating .entry)) (now (images .entry)) (now (used .entry)))) ⌝ }
 {
-    let listed = crate::parts::disk(z, numbers, accounts, maps);
-    if listed.ok {} else {
+    let mut listed: [u32; 128] = [0; 128];
+    if crate::parts::disk(z, numbers, accounts, maps, &mut listed) {} else {
         return false;
     }
-    let listers = listed.holders;
     if crate::parts::files(
         z,
-        listers,
+        &listed,
         numbers,
         maps,
         addresses,
@@ -72,9 +71,11 @@ pub fn all_rules(
     ) {} else {
         return false;
     }
-    let found = crate::parts::frames(
+    let mut in_frames: [u32; 512] = [0; 512];
+    if crate::parts::frames(
         z,
         frames,
+        &mut in_frames,
         records,
         words,
         free_queue,
@@ -82,15 +83,13 @@ pub fn all_rules(
         addresses,
         states,
         active,
-    );
-    if found.ok {} else {
+    ) {} else {
         return false;
     }
-    let in_frames = found.table;
     crate::parts::counts(
         z,
         pool,
-        in_frames,
+        &in_frames,
         accounts,
         maps,
         addresses,

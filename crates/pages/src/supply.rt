@@ -25,7 +25,7 @@ use parts::cells::put16;
 use parts::frames::frame_at;
 use parts::frames::frame_of;
 use parts::frames::with_frame;
-use parts::pool::clear_free;
+use parts::marks::clear_mark;
 use parts::pool::pick;
 use parts::queue::push_front;
 use parts::states::move_record;
@@ -132,7 +132,7 @@ pub fn hold(
     put16(addresses, page, (record + 1) as u16);
     move_record(states, record, 2);
     put8(owners, record, slot as u8);
-    clear_free(free_map, record);
+    clear_mark(free_map, record);
     Pool {
         hand: ((record + 1) % sizes.records) as u32,
         free: pool.free - 1,

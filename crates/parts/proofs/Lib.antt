@@ -1,4 +1,3 @@
 pub mod Along
-pub mod Bits
 pub mod Freeing
 pub mod Queues

@@ -12,14 +12,11 @@ use Rattle.tables.specs.Base.{if, at, tab}
 use Rattle.tables.specs.Laws.{at-tab0, and-right, eq→T, if-true, if-false}
 use Rattle.tables.specs.TabLaws.{tab-entries, tab-same, set-tab}
 use Rattle.tables.specs.Bits.{bit}
+use Rattle.tables.specs.Marks.{bitOf}
 use Rattle.tables.specs.BitLaws.{bit-bits, bits-same, bits-set, bits-clear}
 use Rattle.model.specs.declared.sizes.Sizes.{Sizes}
 use Rattle.model.specs.Lines.{FREE}
 use Rattle.model.specs.State.{mapWords, freeWord}
-
--- a record's bit
-abbrev pub bitOf : List ℕ → ℕ → ℕ
-bitOf map r = bit (r % 32) (at map (r / 32))
 
 -- the states as the map tells them: FREE where the bit is on
 abbrev pub toldBy : List ℕ → ℕ → ℕ

@@ -11,7 +11,8 @@ use Rattle.tables.specs.Store.{store}
 use Rattle.model.specs.declared.sizes.Sizes.{Sizes}
 use Rattle.model.specs.Lines.{FREE, LEAVING}
 use Rattle.model.specs.State.{freeCount}
-use Rattle.parts.specs.FreeMap.{bitOf, freeMap, word-inside, bit-on, bit-off, free-map-set, free-map-clear}
+use Rattle.tables.specs.Marks.{bitOf}
+use Rattle.parts.specs.FreeMap.{freeMap, word-inside, bit-on, bit-off, free-map-set, free-map-clear}
 use Rattle.parts.specs.Counts.{free-more, free-less}
 
 -- one state a record, and the map of these states

@@ -1,11 +1,12 @@
-// The free records: the map of one bit a record, and the choice of one.
+// The choice of a free record, by the map of one mark a record.
 ghost use mathlib.Core.Path.{_≡_};
-ghost use Prim.Native.Nat.{_+_, _-_, _*_, _/_, _%_, _^_, _<_, _≤_};
+ghost use Prim.Native.Nat.{_-_, _*_, _<_, _≤_};
 ghost use lib.Dec.{eqb};
-ghost use lib.ListN.{length, set};
-ghost use Rattle.tables.specs.Base.{at, find};
+ghost use lib.ListN.{length};
+ghost use Rattle.tables.specs.Base.{find};
 ghost use Rattle.model.specs.Parts.{pick};
-ghost use Rattle.parts.specs.FreeMap.{bitOf, toldBy};
+ghost use Rattle.tables.specs.Marks.{bitOf};
+ghost use Rattle.parts.specs.FreeMap.{toldBy};
 use model::sizes::Sizes;
 
 // The first record from `from` up to `to` whose bit is on, or `to` where there is none.
@@ -39,20 +40,4 @@ pub fn pick(sizes: Sizes, map: &[u32], hand: usize) -> usize
         return high;
     }
     find_free(map, 0, hand)
-}
-
-// The record's bit goes on.
-pub fn set_free(map: &mut [u32], r: usize)
-    requires { ⌜ (r / 32 < length (now map)) × (bitOf (now map) r ≡ 0) ⌝ }
-    ensures { λ _. ⌜ now (map .exit) ≡ set (now (map .entry)) (r / 32) (at (now (map .entry)) (r / 32) + 2 ^ (r % 32)) ⌝ }
-{
-    map[r / 32] = map[r / 32] + (1 << (r % 32));
-}
-
-// The record's bit goes off.
-pub fn clear_free(map: &mut [u32], r: usize)
-    requires { ⌜ (r / 32 < length (now map)) × (bitOf (now map) r ≡ 1) ⌝ }
-    ensures { λ _. ⌜ now (map .exit) ≡ set (now (map .entry)) (r / 32) (at (now (map .entry)) (r / 32) - 2 ^ (r % 32)) ⌝ }
-{
-    map[r / 32] = map[r / 32] - (1 << (r % 32));
 }

@@ -8,8 +8,8 @@ ghost use Rattle.model.specs.State.{freeCount};
 ghost use Rattle.parts.specs.FreeMap.{freeMap};
 ghost use Rattle.parts.specs.Freed.{MapFits, Freed};
 use crate::cells::put8;
-use crate::pool::clear_free;
-use crate::pool::set_free;
+use crate::marks::clear_mark;
+use crate::marks::set_mark;
 use crate::states::move_record;
 use model::sizes::Sizes;
 
@@ -25,7 +25,7 @@ pub fn take_record(
     requires { ⌜ (r < sizes .records) × (at (now states) r ≡ FREE) × MapFits sizes (now states) (now map) ⌝ }
     ensures { λ _. ⌜ (now (states .exit) ≡ set (now (states .entry)) r NULLED) × (now (owners .exit) ≡ set (now (owners .entry)) r slot) × (now (map .exit) ≡ freeMap sizes (at (now (states .exit)))) ⌝ }
 {
-    clear_free(map, r);
+    clear_mark(map, r);
     move_record(states, r, 2);
     put8(owners, r, slot);
 }
@@ -35,7 +35,7 @@ pub fn free_record(sizes: Sizes, states: &mut [u8], owners: &mut [u8], map: &mut
     requires { ⌜ (r < sizes .records) × (at (now states) r ≡ LEAVING) × MapFits sizes (now states) (now map) ⌝ }
     ensures { λ _. ⌜ (now (states .exit) ≡ set (now (states .entry)) r FREE) × (now (owners .exit) ≡ set (now (owners .entry)) r 0) × (now (map .exit) ≡ freeMap sizes (at (now (states .exit)))) ⌝ }
 {
-    set_free(map, r);
+    set_mark(map, r);
     move_record(states, r, 0);
     put8(owners, r, 0);
 }

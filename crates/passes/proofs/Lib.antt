@@ -1,4 +1,4 @@
-pub mod Inverse
+pub mod Marked
 pub mod Entries
 pub mod FrameTests
 pub mod Words

@@ -1,22 +1,19 @@
 -- How often each number is in a queue: what stands in the table of counts after the first k entries.
-use mathlib.Core.Path.{_≡_, refl, ap, sym, _∙_}
-use mathlib.Core.Bool.{Bool, true, false}
-use mathlib.Core.List.{List, [], _∷_}
-use Prim.Native.Nat.{ℕ, zero, suc, _+_, _-_, _<_, _≤_}
-use native.Mathlib.Nat.{suc-inj}
+use mathlib.Core.Path.{_≡_, ap, _∙_}
+use mathlib.Core.Bool.{Bool}
+use mathlib.Core.List.{List, _∷_}
+use Prim.Native.Nat.{ℕ, _+_, _-_, _<_, _≤_}
 use native.Mathlib.Numerals.{add-one}
 use native.Mathlib.Omega.{arith}
 use native.Mathlib.Decide.{ℕ-discrete}
-use lib.Dec.{eqb}
 use lib.ListN.{length, drop, set, length-set, length-drop}
 use lib.Seq.{getD-set-same, getD-set-other, drop-cons}
-use borrow.Author.Tests.{eq-eqb, ne-eqb}
-use Rattle.tables.specs.Base.{at, if}
+use Rattle.tables.specs.Base.{at}
 use Rattle.tables.specs.Queue.{members, times, size, queue}
 use Rattle.tables.specs.QueueLaws.{at-members, size-members, size-le}
 use Rattle.tables.specs.QueueEntries.{size-more, size-found}
 use Rattle.tables.specs.Rule.{same, each, Holds, test}
-use Rattle.tables.specs.TimesLaws.{times-nil, times-cons, times-here, times-other, times-le}
+use Rattle.tables.specs.TimesLaws.{times-here, times-other, times-le}
 use Rattle.passes.specs.Passes.{counted, queueEntry}
 
 -- the members from k on are still to be counted

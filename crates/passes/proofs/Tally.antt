@@ -3,21 +3,22 @@ use mathlib.Core.Path.{_≡_, refl, ap, sym, _∙_}
 use mathlib.Core.Bool.{Bool, true, false, _&&_}
 use mathlib.Core.Logic.{inl, inr}
 use mathlib.Core.List.{List}
-use Prim.Native.Nat.{ℕ, zero, suc, _+_, _-_, _*_, _/_, _^_, _<_, _≤_}
-use native.Mathlib.Nat.{mul-add-div-right, div-eq-of-lt, pow-le-pow-right, suc-mul, mul-le-mul-right, add-zero}
+use Prim.Native.Nat.{ℕ, suc, _+_, _-_, _*_, _/_, _^_, _<_, _≤_}
+use native.Mathlib.Nat.{mul-add-div-right, div-eq-of-lt, pow-le-pow-right, add-zero}
 use native.Mathlib.Numerals.{add-one}
 use native.Mathlib.Omega.{arith}
 use native.Mathlib.Decide.{ℕ-discrete}
-use lib.Dec.{T, eqb}
+use lib.Dec.{eqb}
 use lib.ListN.{length, set, length-set}
 use lib.Seq.{getD-set-same, getD-set-other}
 use borrow.Author.Tests.{eq-eqb, ne-eqb}
 use Rattle.tables.specs.Base.{at, if, count}
 use Rattle.tables.specs.Bits.{bits}
+use Rattle.tables.specs.Marks.{bitOf}
 use Rattle.tables.specs.BitLaws.{bits-none, bits-suc, bits-lt}
 use Rattle.tables.specs.Laws.{count-same, count-bound}
 use Rattle.tables.specs.CountLaws.{count-none, count-row}
-use Rattle.tables.specs.Rule.{Rule, same, each, names, Holds, test, alike}
+use Rattle.tables.specs.Rule.{same, each, Holds, test, alike}
 use Rattle.tables.specs.Turn.{yes-so, not-so}
 use Rattle.passes.specs.Passes.{chargedPage, usedPage, usedPages, usedTable}
 
@@ -59,19 +60,23 @@ module _ (p : ℕ → Bool) (from : ℕ) where
   word-end n word h l e = let q : n ≡ 32 = omega arith in rw (q, add-zero from) at e
 
 -- ── a charged page ──
-module _ (a f : ℕ) (state : ℕ → ℕ) (none : f ≡ 0) where
-  pub no-address : a ≡ 0 → false ≡ test (chargedPage a f state)
-  no-address z = not-so (chargedPage a f state) (λ h. elim h [ inl x ↦ omega (arith, z, x .1) | inr x ↦ x none ])
+module _ (a f : ℕ) (state : ℕ → ℕ) where
+  pub no-address : a ≡ 0 → f ≡ 0 → false ≡ test (chargedPage a f state)
+  no-address z none = not-so (chargedPage a f state) (λ h. elim h [ inl x ↦ omega (arith, z, x .1) | inr x ↦ x none ])
 
-  pub by-state : ¬ (a ≡ 0) → eqb (state (a - 1)) 3 ≡ test (chargedPage a f state)
-  unfolding test
-  by-state d = told ∙ alike (same (state (a - 1)) 3) (chargedPage a f state) (λ h. inl (a - 1, omega arith, h)) (λ h. elim h [
-    | inl x ↦ (let e : a ≡ suc (x .0) = x .1 in let q : a - 1 ≡ x .0 = omega arith in rw q (x .2))
-    | inr x ↦ absurd (x none)
-  ])
-    where
-      told : eqb (state (a - 1)) 3 ≡ test (same (state (a - 1)) 3)
-      told = refl
+  module _ (some : ¬ (a ≡ 0)) where
+    pub is-live : state (a - 1) ≡ 3 → true ≡ test (chargedPage a f state)
+    is-live h = yes-so (chargedPage a f state) (inl (a - 1, omega arith, h))
+
+    pub by-frame : f ≤ 1 → ¬ (state (a - 1) ≡ 3) → eqb f 1 ≡ test (chargedPage a f state)
+    unfolding test
+    by-frame le d = told ∙ alike (same f 1) (chargedPage a f state) (λ h. inr (λ z. omega (arith, h, z))) (λ h. elim h [
+      | inl x ↦ absurd (d (let e : a ≡ suc (x .0) = x .1 in let q : a - 1 ≡ x .0 = omega arith in rw q (x .2)))
+      | inr x ↦ omega (arith, x)
+    ])
+      where
+        told : eqb f 1 ≡ test (same f 1)
+        told = refl
 
 -- ── each account's used pages, slot by slot ──
 module _ (pages : ℕ) (account active maps addresses inFrames states : List ℕ) where
@@ -82,7 +87,7 @@ module _ (pages : ℕ) (account active maps addresses inFrames states : List ℕ
     pub counted : (q : ℕ) → q < 16 → at t q ≡ usedPages pages (s * pages) q account active maps addresses inFrames states
 
   abbrev used : ℕ → ℕ → Bool
-  used s i = usedPage (at active s) (at maps i) (at addresses i) (at inFrames i) (at states)
+  used s i = usedPage (at active s) (at maps i) (at addresses i) (bitOf inFrames i) (at states)
 
   abbrev counts : ℕ → ℕ → Bool
   counts q i = eqb (at account (i / pages)) q && used (i / pages) i
@@ -110,7 +115,7 @@ module _ (pages : ℕ) (account active maps addresses inFrames states : List ℕ
     others : (q : ℕ) → ¬ (at account s ≡ q) → count pages (λ i. eqb (at account s) q && used s (s * pages + i)) ≡ 0
     others q e = rw (ne-eqb (at account s) q e) (count-none pages (λ i. false) (λ i h x. x))
 
-    pub totals-next : (x : ℕ) → at account s < 16 → x ≡ count pages (λ i. usedPage (at active s) (at maps (s * pages + i)) (at addresses (s * pages + i)) (at inFrames (s * pages + i)) (at states))
+    pub totals-next : (x : ℕ) → at account s < 16 → x ≡ count pages (λ i. usedPage (at active s) (at maps (s * pages + i)) (at addresses (s * pages + i)) (bitOf inFrames (s * pages + i)) (at states))
         → Totals slots (set t (at account s) (at t (at account s) + x)) (s + 1)
     totals-next x h e = record {
       within = omega arith;

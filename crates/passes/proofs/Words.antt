@@ -1,13 +1,11 @@
 -- The rule of a frame's words, by the tests that the code makes.
-use mathlib.Core.Path.{_≡_, refl, ap, sym, _∙_}
-use mathlib.Core.Bool.{Bool, true, false}
+use mathlib.Core.Path.{_≡_, _∙_}
+use mathlib.Core.Bool.{Bool, true}
 use mathlib.Core.List.{List}
-use Prim.Native.Nat.{ℕ, suc, _+_, _-_, _*_, _<_, _≤_}
-use native.Mathlib.Omega.{arith}
-use lib.Dec.{eqb}
+use Prim.Native.Nat.{ℕ, _+_, _-_, _*_}
 use borrow.Author.Tests.{eq-eqb, ne-eqb}
-use Rattle.tables.specs.Base.{at, if}
-use Rattle.tables.specs.Rule.{Rule, same, named, _then_, each, Holds, test}
+use Rattle.tables.specs.Base.{at}
+use Rattle.tables.specs.Rule.{Rule, same, named, _then_, each, test}
 use Rattle.tables.specs.Turn.{unless, when, named-none, named-one}
 use Rattle.model.specs.declared.frame.Frame.{Frame}
 use Rattle.passes.specs.Passes.{content, cleanFrame}

@@ -1,28 +1,27 @@
--- What one pass of the code decides, where that is not a rule of the model as it stands: an inverse table, a row of entries, a record, a frame.
+-- What one pass of the code decides, where that is not a rule of the model as it stands: the marks of what is named, a row of entries, a record, a frame.
 use mathlib.Core.Path.{_≡_}
 use mathlib.Core.Bool.{Bool, _&&_}
 use mathlib.Core.List.{List}
-use Prim.Native.Nat.{ℕ, suc, _+_, _*_, _/_}
+use Prim.Native.Nat.{ℕ, suc, _+_, _*_, _/_, _≤_, _<_}
 use lib.Dec.{eqb, ltb}
 use lib.ListN.{length}
 use Rattle.tables.specs.Base.{at, if, count}
 use Rattle.tables.specs.Bits.{bits}
+use Rattle.tables.specs.Marks.{bitOf}
 use Rattle.tables.specs.Queue.{members, times, queue}
 use Rattle.tables.specs.Rule.{Rule, same, below, non, _and_, _or_, _then_, each, some, named, names, Holds, test}
 use Rattle.model.specs.declared.frame.Frame.{Frame}
 use Rattle.model.specs.Lines.{FREE, FILED, NULLED, LIVE, RELEASED, LEAVING}
 use Rattle.model.specs.State.{NONE, READING, WRITING, frameAt}
-use Rattle.model.specs.declared.sizes.Sizes.{Sizes}
 use Rattle.model.specs.Rules.{fit, once}
-use Rattle.model.specs.Fit.{Within}
 
 -- each of the first n entries names a number below m or none, and none is named twice
 abbrev pub distinct : ℕ → ℕ → (ℕ → ℕ) → Rule
 distinct n m entry = fit n m entry and once n entry
 
--- table t tells for each number which of the first n entries names it (entry + 1, or 0)
-abbrev pub inverse : ℕ → ℕ → (ℕ → ℕ) → List ℕ → Rule
-inverse size n entry t = (each n λ i. named (entry i) λ r. same (at t r) (suc i)) and each size λ r. named (at t r) λ i. below i n and same (entry i) (suc r)
+-- the marks tell of each number below m whether one of the first n entries names it
+abbrev pub marked : ℕ → ℕ → (ℕ → ℕ) → List ℕ → Rule
+marked m n entry marks = (each n λ i. named (entry i) λ r. same (bitOf marks r) 1) and each m λ r. same (bitOf marks r) 1 then some n λ i. same (entry i) (suc r)
 
 -- ── slots ──
 abbrev pub diskSlot : (accounts number account : ℕ) → Rule
@@ -46,31 +45,26 @@ abbrev pub emptyRows : (slots pages : ℕ) (numbers maps : List ℕ) → Rule
 emptyRows slots pages numbers maps = each slots λ s. emptyRow pages s (at numbers s) maps
 
 -- ── a page's three entries, by its slot's switches and by the states and slots of the records that they name ──
-module _ (s switch address : ℕ) (state owner : ℕ → ℕ) where
-  -- switch: active
-  abbrev pub mapRecord : ℕ → Rule
-  mapRecord r = (non (same switch 1) then same (owner r) s and same (state r) FILED)
-      and (same switch 1 then same address (suc r) or same (owner r) s and (same (state r) RELEASED or same (state r) LEAVING))
+module _ (s : ℕ) (state owner : ℕ → ℕ) where
+  abbrev pub filedRecord : (active r : ℕ) → Rule
+  filedRecord active r = non (same active 1) then same (owner r) s and same (state r) FILED
 
-  -- switch: active
-  abbrev pub addressRecord : ℕ → Rule
-  addressRecord r = (same (owner r) s and (same (state r) NULLED or same (state r) LIVE)) and same switch 1
+  abbrev pub mappedRecord : (active address r : ℕ) → Rule
+  mappedRecord active address r = same active 1 then same address (suc r) or same (owner r) s and (same (state r) RELEASED or same (state r) LEAVING)
 
-  -- switch: updating
-  abbrev pub imageRecord : ℕ → Rule
-  imageRecord r = (same address (suc r) or same (owner r) s and same (state r) RELEASED) and same switch 1
+  abbrev pub heldRecord : ℕ → Rule
+  heldRecord r = same (owner r) s and (same (state r) NULLED or same (state r) LIVE)
 
-abbrev pub mapEntry : (s active map address : ℕ) (state owner : ℕ → ℕ) → Rule
-mapEntry s active map address state owner = named map (mapRecord s active address state owner)
+  abbrev pub imagedRecord : (address r : ℕ) → Rule
+  imagedRecord address r = same address (suc r) or same (owner r) s and same (state r) RELEASED
 
-abbrev pub addressEntry : (s active address : ℕ) (state owner : ℕ → ℕ) → Rule
-addressEntry s active address state owner = named address (addressRecord s active address state owner)
-
-abbrev pub imageEntry : (s updating image address : ℕ) (state owner : ℕ → ℕ) → Rule
-imageEntry s updating image address state owner = named image (imageRecord s updating address state owner)
+-- an entry that names something needs its slot's switch on
+abbrev pub switched : (switch entry : ℕ) → Rule
+switched switch entry = named entry λ r. same switch 1
 
 abbrev pub pageEntries : (s active updating map address image : ℕ) (state owner : ℕ → ℕ) → Rule
-pageEntries s active updating map address image state owner = mapEntry s active map address state owner and addressEntry s active address state owner and imageEntry s updating image address state owner
+pageEntries s active updating map address image state owner = named map (filedRecord s state owner active) and named map (mappedRecord s state owner active address)
+    and named address (heldRecord s state owner) and switched active address and named image (imagedRecord s state owner address) and switched updating image
 
 abbrev pub rowEntries : (pages s active updating : ℕ) (maps addresses images states owners : List ℕ) → Rule
 rowEntries pages s active updating maps addresses images states owners =
@@ -79,13 +73,13 @@ rowEntries pages s active updating maps addresses images states owners =
 abbrev pub allEntries : (slots pages : ℕ) (active updating maps addresses images states owners : List ℕ) → Rule
 allEntries slots pages active updating maps addresses images states owners = each slots λ s. rowEntries pages s (at active s) (at updating s) maps addresses images states owners
 
--- ── a record, by the entries that hold and list it ──
-abbrev pub recordRow : (slots holder lister state owner : ℕ) (updating : ℕ → ℕ) → Rule
-recordRow slots holder lister state owner updating = below owner slots and below state 6 and ((same state NULLED or same state LIVE) then non (same holder 0))
-    and (same state FILED then non (same lister 0)) and (same state LEAVING then same (updating owner) 1)
+-- ── a record, by the marks of what is held and of what is listed ──
+abbrev pub recordRow : (slots held listed state owner : ℕ) (updating : ℕ → ℕ) → Rule
+recordRow slots held listed state owner updating = below owner slots and below state 6 and ((same state NULLED or same state LIVE) then same held 1)
+    and (same state FILED then same listed 1) and (same state LEAVING then same (updating owner) 1)
 
-abbrev pub recordRows : (records slots : ℕ) (holders listers states owners updating : List ℕ) → Rule
-recordRows records slots holders listers states owners updating = each records λ r. recordRow slots (at holders r) (at listers r) (at states r) (at owners r) (at updating)
+abbrev pub recordRows : (records slots : ℕ) (held listed : ℕ → ℕ) (states owners updating : List ℕ) → Rule
+recordRows records slots held listed states owners updating = each records λ r. recordRow slots (held r) (listed r) (at states r) (at owners r) (at updating)
 
 -- ── the tables of pages are of one length, and name records that there are ──
 pub record PagesFit (maps addresses images states owners : List ℕ) : Type 0 where
@@ -111,17 +105,19 @@ switches x = below (x .used) 2 and below (x .modified) 2 and below (x .wired) 2 
 abbrev pub onePlace : (queued removing : ℕ) → Frame → Rule
 onePlace queued removing x = same (queued + removing + x .wired + if (eqb (x .transfer) NONE) 0 1) 1
 
-abbrev pub freeOrBusy : ℕ → Frame → Rule
-freeOrBusy queued x = (same (x .transfer) WRITING then same (x .modified) 1)
-    and (non (same queued 0) then same (x .page) 0 and same (x .used) 0 and same (x .modified) 0 and same (x .wired) 0 and same (x .initial) 0)
-    and (same queued 0 then non (same (x .page) 0))
+-- no page and no switch on
+abbrev pub bare : Frame → Rule
+bare x = same (x .page) 0 and same (x .used) 0 and same (x .modified) 0 and same (x .wired) 0 and same (x .initial) 0
 
-abbrev pub framePage : (pages : ℕ) (active address state : ℕ → ℕ) (transfer i : ℕ) → Rule
-framePage pages active address state transfer i = same (active (i / pages)) 1 and non (same (address i) 0) and (same transfer READING then names (address i) λ r. same (state r) LIVE)
+abbrev pub activePage : (pages : ℕ) (active : ℕ → ℕ) (page : ℕ) → Rule
+activePage pages active page = named page λ i. same (active (i / pages)) 1
+
+abbrev pub heldPage : (address state : ℕ → ℕ) (transfer page : ℕ) → Rule
+heldPage address state transfer page = named page λ i. non (same (address i) 0) and (same transfer READING then names (address i) λ r. same (state r) LIVE)
 
 abbrev pub frameRow : (pages : ℕ) (active addresses states : List ℕ) (queued removing : ℕ) → Frame → Rule
-frameRow pages active addresses states queued removing x = switches x and onePlace queued removing x and freeOrBusy queued x
-    and named (x .page) (framePage pages (at active) (at addresses) (at states) (x .transfer))
+frameRow pages active addresses states queued removing x = switches x and onePlace queued removing x and (same (x .transfer) WRITING then same (x .modified) 1)
+    and (non (same queued 0) then bare x) and (same queued 0 then non (same (x .page) 0)) and activePage pages (at active) (x .page) and heldPage (at addresses) (at states) (x .transfer) (x .page)
 
 abbrev pub frameRows : (count pages : ℕ) (frames : List Frame) (active addresses states queued removing : List ℕ) → Rule
 frameRows count pages frames active addresses states queued removing = each count λ f. frameRow pages active addresses states (at queued f) (at removing f) (frameAt frames f)
@@ -146,10 +142,18 @@ usedPage active map address inFrame state = if (eqb active 1) (test (chargedPage
 
 abbrev pub usedPages : (pages n q : ℕ) (account active maps addresses inFrames states : List ℕ) → ℕ
 usedPages pages n q account active maps addresses inFrames states =
-    count n λ i. eqb (at account (i / pages)) q && usedPage (at active (i / pages)) (at maps i) (at addresses i) (at inFrames i) (at states)
+    count n λ i. eqb (at account (i / pages)) q && usedPage (at active (i / pages)) (at maps i) (at addresses i) (bitOf inFrames i) (at states)
 
 abbrev pub usedTable : (slots pages : ℕ) (account active maps addresses inFrames states t : List ℕ) → Rule
 usedTable slots pages account active maps addresses inFrames states t = each 16 λ q. same (at t q) (usedPages pages (slots * pages) q account active maps addresses inFrames states)
+
+-- the tables of pages are of one length, addresses name records that there are, and a page in a frame has one
+pub record FramedFit (maps addresses inFrames states : List ℕ) : Type 0 where
+  pub addresses-long : length addresses ≡ length maps
+  pub few : length maps ≤ 16384
+  pub marks-long : length maps ≤ 32 * length inFrames
+  pub addresses-fit : Holds (fit (length addresses) (length states) (at addresses))
+  pub framed-held : (i : ℕ) → i < length maps → at addresses i ≡ 0 → bitOf inFrames i ≡ 0
 
 abbrev pub freeRecord : (records : ℕ) (states : List ℕ) → ℕ → Bool
 freeRecord records states r = ltb r records && eqb (at states r) FREE

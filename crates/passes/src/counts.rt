@@ -1,15 +1,15 @@
 // The free count, the free map and the used counts.
 ghost use mathlib.Core.Path.{_≡_};
-ghost use mathlib.Core.Bool.{_&&_};
 ghost use Prim.Native.Nat.{_+_, _*_, _/_, _≤_, _<_};
 ghost use lib.Dec.{eqb};
 ghost use lib.ListN.{length};
 ghost use Rattle.tables.specs.Base.{at, if, count};
 ghost use Rattle.tables.specs.Bits.{bits};
+ghost use Rattle.tables.specs.Marks.{bitOf};
 ghost use Rattle.tables.specs.Rule.{same, below, each, test, Holds};
 ghost use Rattle.model.specs.Lines.{FREE};
-ghost use Rattle.model.specs.Rules.{fit};
-ghost use Rattle.passes.specs.Passes.{chargedPage, usedPage, usedTable, freeRecord, freeWords};
+ghost use Rattle.passes.specs.Passes.{chargedPage, usedPage, usedTable, freeRecord, freeWords, FramedFit};
+use parts::marks::is_marked;
 
 // 1 where the state is free.
 fn free_one(state: u8) -> usize
@@ -78,27 +78,27 @@ pub fn free_map_ok(records: usize, n: usize, map: &[u32], states: &[u8]) -> bool
     true
 }
 
-// A page is charged if its address is live or it is in a frame.
-fn charged(address: u16, in_frame: u8, states: &[u8]) -> bool
-    requires { ⌜ address ≤ length (now states) ⌝ }
-    ensures { λ r. ⌜ r ≡ test (chargedPage address «in_frame» (at (now (states .entry)))) ⌝ }
+// A page is charged if its address is live or it is in a frame; where it is in one, it has an address.
+fn charged(i: usize, address: u16, in_frames: &[u32], states: &[u8]) -> bool
+    requires { ⌜ (address ≤ length (now states)) × (i / 32 < length (now «in_frames»)) × (address ≡ 0 → bitOf (now «in_frames») i ≡ 0) ⌝ }
+    ensures { λ r. ⌜ r ≡ test (chargedPage address (bitOf (now («in_frames» .entry)) i) (at (now (states .entry)))) ⌝ }
 {
-    if in_frame != 0 {
-        return true;
-    }
     if address == 0 {
         return false;
     }
-    states[address as usize - 1] == 3
+    if states[address as usize - 1] == 3 {
+        return true;
+    }
+    is_marked(in_frames, i)
 }
 
 // 1 where a page counts as used: charged in an active design, listed in an inactive one.
-fn used_one(active: u8, map: u16, address: u16, in_frame: u8, states: &[u8]) -> usize
-    requires { ⌜ address ≤ length (now states) ⌝ }
-    ensures { λ r. ⌜ r ≡ if (usedPage active map address «in_frame» (at (now (states .entry)))) 1 0 ⌝ }
+fn used_one(i: usize, active: u8, map: u16, address: u16, in_frames: &[u32], states: &[u8]) -> usize
+    requires { ⌜ (address ≤ length (now states)) × (i / 32 < length (now «in_frames»)) × (address ≡ 0 → bitOf (now «in_frames») i ≡ 0) ⌝ }
+    ensures { λ r. ⌜ r ≡ if (usedPage active map address (bitOf (now («in_frames» .entry)) i) (at (now (states .entry)))) 1 0 ⌝ }
 {
     if active == 1 {
-        if charged(address, in_frame, states) {
+        if charged(i, address, in_frames, states) {
             return 1;
         }
         return 0;
@@ -116,18 +116,18 @@ fn row_used(
     active: u8,
     maps: &[u16],
     addresses: &[u16],
-    in_frames: &[u8; 16384],
+    in_frames: &[u32],
     states: &[u8],
 ) -> usize
-    requires { ⌜ (s * pages + pages ≤ length (now maps)) × (length (now addresses) ≡ length (now maps)) × (length (now maps) ≤ 16384) × Holds (fit (length (now addresses)) (length (now states)) (at (now addresses))) ⌝ }
-    ensures { λ r. ⌜ r ≡ count pages (λ p. usedPage active (at (now (maps .entry)) (s * pages + p)) (at (now (addresses .entry)) (s * pages + p)) (at (now («in_frames» .entry)) (s * pages + p)) (at (now (states .entry)))) ⌝ }
+    requires { ⌜ (s * pages + pages ≤ length (now maps)) × FramedFit (now maps) (now addresses) (now «in_frames») (now states) ⌝ }
+    ensures { λ r. ⌜ r ≡ count pages (λ p. usedPage active (at (now (maps .entry)) (s * pages + p)) (at (now (addresses .entry)) (s * pages + p)) (bitOf (now («in_frames» .entry)) (s * pages + p)) (at (now (states .entry)))) ⌝ }
 {
     let base = s * pages;
     let mut n = 0;
     let mut p = 0;
     while p < pages {
         let i = base + p;
-        n += used_one(active, maps[i], addresses[i], in_frames[i], states);
+        n += used_one(i, active, maps[i], addresses[i], in_frames, states);
         p += 1;
     }
     n
@@ -142,10 +142,10 @@ pub fn totals(
     active: &[u8],
     maps: &[u16],
     addresses: &[u16],
-    in_frames: &[u8; 16384],
+    in_frames: &[u32],
     states: &[u8],
 ) -> [usize; 16]
-    requires { ⌜ (0 < pages) × (slots ≤ length (now accounts)) × (slots ≤ length (now active)) × (slots * pages ≤ length (now maps)) × (length (now addresses) ≡ length (now maps)) × (length (now maps) ≤ 16384) × Holds (fit (length (now addresses)) (length (now states)) (at (now addresses))) × Holds (each slots (λ s. below (at (now accounts) s) 16)) × (length none ≡ 16) × Holds (each 16 (λ q. same (at none q) 0)) ⌝ }
+    requires { ⌜ (0 < pages) × (slots ≤ length (now accounts)) × (slots ≤ length (now active)) × (slots * pages ≤ length (now maps)) × FramedFit (now maps) (now addresses) (now «in_frames») (now states) × Holds (each slots (λ s. below (at (now accounts) s) 16)) × (length none ≡ 16) × Holds (each 16 (λ q. same (at none q) 0)) ⌝ }
     ensures { λ r. ⌜ Holds (usedTable slots pages (now (accounts .entry)) (now (active .entry)) (now (maps .entry)) (now (addresses .entry)) (now («in_frames» .entry)) (now (states .entry)) r) ⌝ }
 {
     let mut t = none;

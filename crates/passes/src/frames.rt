@@ -1,28 +1,24 @@
-// The memory rules of frames.
+// The rules of frames, one function a rule.
 ghost use mathlib.Core.Path.{_≡_};
 ghost use mathlib.Core.Bool.{true};
 ghost use Prim.Native.Nat.{_+_, _*_, _≤_, _<_};
 ghost use lib.ListN.{length};
 ghost use Rattle.tables.specs.Base.{at, if};
-ghost use Rattle.tables.specs.Rule.{same, each, named, test, Holds};
+ghost use Rattle.tables.specs.Rule.{same, non, _then_, each, test, Holds};
 ghost use lib.Dec.{eqb};
-ghost use Rattle.model.specs.State.{NONE, frameAt};
+ghost use Rattle.model.specs.State.{NONE, WRITING, frameAt};
 ghost use Rattle.model.specs.Rules.{fit};
-ghost use Rattle.passes.specs.Passes.{distinct, inverse, switches, onePlace, freeOrBusy, framePage, frameRow, frameRows};
+ghost use Rattle.passes.specs.Passes.{distinct, marked, switches, onePlace, bare, activePage, heldPage, frameRow, frameRows};
 use model::frame::Frame;
+use parts::marks::is_marked;
+use parts::marks::set_mark;
 
-pub struct ByPage {
-    pub ok: bool,
-    pub table: [u8; 16384],
-}
-
-// Which frame each page is in (frame + 1), from a table of zeros: a frame's page is at most S · N, and no page is in two
-// frames.
-pub fn by_page(count: usize, pages: usize, frames: [Frame; 64], none: [u8; 16384]) -> ByPage
-    requires { ⌜ (count ≤ 64) × (pages ≤ 16384) × (length none ≡ 16384) × Holds (each 16384 (λ r. same (at none r) 0)) ⌝ }
-    ensures { λ r. ⌜ (r .ok ≡ test (distinct count pages (λ f. frameAt frames f .page))) × (r .ok ≡ true → Holds (inverse 16384 count (λ f. frameAt frames f .page) (r .table))) ⌝ }
+// A frame's page is at most S · N, and no page is in two frames; each page that is in one is marked, from marks that are
+// off.
+pub fn framed_once(count: usize, pages: usize, frames: [Frame; 64], marks: &mut [u32]) -> bool
+    requires { ⌜ (count ≤ 64) × (pages ≤ 32 * length (now marks)) × Holds (each (length (now marks)) (λ k. same (at (now marks) k) 0)) ⌝ }
+    ensures { λ x. ⌜ (x ≡ test (distinct count pages (λ f. frameAt frames f .page))) × (x ≡ true → Holds (marked pages count (λ f. frameAt frames f .page) (now (marks .exit)))) ⌝ }
 {
-    let mut t = none;
     let mut f = 0;
     while f < count {
         let x = frames[f];
@@ -32,24 +28,18 @@ pub fn by_page(count: usize, pages: usize, frames: [Frame; 64], none: [u8; 16384
             continue;
         }
         if pages < e {
-            return ByPage {
-                ok: false,
-                table: t,
-            };
+            return false;
         }
-        if t[e - 1] != 0 {
-            return ByPage {
-                ok: false,
-                table: t,
-            };
+        if is_marked(marks, e - 1) {
+            return false;
         }
-        t[e - 1] = f as u8;
+        set_mark(marks, e - 1);
     }
-    ByPage { ok: true, table: t }
+    true
 }
 
-// A switch is 0 or 1, a transfer is one of three.
-fn switches_ok(x: Frame) -> bool
+// A frame's switches are 0 or 1, its transfer is one of three.
+fn frame_fit(x: Frame) -> bool
     ensures { λ r. ⌜ r ≡ test (switches x) ⌝ }
 {
     (x.used < 2) & (x.modified < 2) & (x.wired < 2) & (x.initial < 2) & (x.transfer < 3)
@@ -71,39 +61,53 @@ fn in_one_place(x: Frame, queued: u8, removing: u8) -> bool
     queued as usize + removing as usize + x.wired as usize + moving(x.transfer) == 1
 }
 
-// A frame being written is modified; a free frame has no page and no switch on, any other has a page.
-fn free_or_busy(x: Frame, queued: u8) -> bool
-    ensures { λ r. ⌜ r ≡ test (freeOrBusy queued x) ⌝ }
+// A frame being written is modified.
+fn writing_modified(x: Frame) -> bool
+    ensures { λ r. ⌜ r ≡ test (same (x .transfer) WRITING then same (x .modified) 1) ⌝ }
+{
+    !(x.transfer == 2) | (x.modified == 1)
+}
+
+// A free frame has no page and no switch on,
+fn free_frame(x: Frame, queued: u8) -> bool
+    ensures { λ r. ⌜ r ≡ test (non (same queued 0) then bare x) ⌝ }
 {
     let bare = (x.page == 0)
         & (x.used == 0)
         & (x.modified == 0)
         & (x.wired == 0)
         & (x.initial == 0);
-    (!(x.transfer == 2) | (x.modified == 1))
-        & (!!(queued == 0) | bare)
-        & (!(queued == 0) | !(x.page == 0))
+    !!(queued == 0) | bare
 }
 
-// An inactive slot has no frame; a page in a frame has an address, a reading one a live one.
-fn page_ok(
-    pages: usize,
-    page: u16,
-    transfer: u8,
-    active: &[u8],
-    addresses: &[u16],
-    states: &[u8],
-) -> bool
-    requires { ⌜ (0 < pages) × (page ≤ length (now active) * pages) × (page ≤ length (now addresses)) × Holds (fit (length (now addresses)) (length (now states)) (at (now addresses))) ⌝ }
-    ensures { λ r. ⌜ r ≡ test (named page (framePage pages (at (now (active .entry))) (at (now (addresses .entry))) (at (now (states .entry))) transfer)) ⌝ }
+// any other has a page.
+fn busy_frame(x: Frame, queued: u8) -> bool
+    ensures { λ r. ⌜ r ≡ test (same queued 0 then non (same (x .page) 0)) ⌝ }
+{
+    !(queued == 0) | !(x.page == 0)
+}
+
+// An inactive slot has no frame.
+fn frame_active(pages: usize, page: u16, active: &[u8]) -> bool
+    requires { ⌜ (0 < pages) × (page ≤ length (now active) * pages) ⌝ }
+    ensures { λ r. ⌜ r ≡ test (activePage pages (at (now (active .entry))) page) ⌝ }
 {
     if page == 0 {
         return true;
     }
     let i = page as usize - 1;
-    if active[i / pages] != 1 {
-        return false;
+    active[i / pages] == 1
+}
+
+// A page in a frame has an address (a reading one a live one).
+fn framed_held(page: u16, transfer: u8, addresses: &[u16], states: &[u8]) -> bool
+    requires { ⌜ (page ≤ length (now addresses)) × Holds (fit (length (now addresses)) (length (now states)) (at (now addresses))) ⌝ }
+    ensures { λ r. ⌜ r ≡ test (heldPage (at (now (addresses .entry))) (at (now (states .entry))) transfer page) ⌝ }
+{
+    if page == 0 {
+        return true;
     }
+    let i = page as usize - 1;
     let a = addresses[i] as usize;
     if a == 0 {
         return false;
@@ -123,10 +127,13 @@ fn frame_ok(
     requires { ⌜ (0 < pages) × (x .page ≤ length (now active) * pages) × (x .page ≤ length (now addresses)) × Holds (fit (length (now addresses)) (length (now states)) (at (now addresses))) ⌝ }
     ensures { λ r. ⌜ r ≡ test (frameRow pages (now (active .entry)) (now (addresses .entry)) (now (states .entry)) queued removing x) ⌝ }
 {
-    switches_ok(x)
+    frame_fit(x)
         & in_one_place(x, queued, removing)
-        & free_or_busy(x, queued)
-        & page_ok(pages, x.page, x.transfer, active, addresses, states)
+        & writing_modified(x)
+        & free_frame(x, queued)
+        & busy_frame(x, queued)
+        & frame_active(pages, x.page, active)
+        & framed_held(x.page, x.transfer, addresses, states)
 }
 
 pub fn frames_ok(

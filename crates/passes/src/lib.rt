@@ -1,7 +1,8 @@
-// The passes that question 2 is made of: each decides one rule, or a few that one look at a table decides together.
-pub mod invert; // no record twice, and who names it
-pub mod disk; // slots, numbers and maps on the disk
-pub mod records; // slots, pages and records in memory
+// The rules of question 2, one function a rule, and the passes over the tables that ask them.
+pub mod marks; // no record twice, and whether it is named
+pub mod slots; // slots on the disk and in memory
+pub mod pages; // a page's entries in the stored map, held, and in the image
+pub mod records; // states and slots of records
 pub mod queues; // the free queue and the removal list
 pub mod frames; // frames: switches, places, pages
 pub mod clean; // the words of clean frames

@@ -10,7 +10,7 @@ ghost use Rattle.restarts.specs.Counts.{listedUsed};
 use crate::zero::zero16;
 use crate::zero::zero32;
 use model::sizes::Sizes;
-use parts::pool::set_free;
+use parts::marks::set_mark;
 
 // One pass over the maps: each entry above 0 counts for its slot's account.
 pub fn count_used(pages: usize, accounts: &[u16], maps: &[u16], used: &mut [u16])
@@ -39,7 +39,7 @@ pub fn build_free_map(sizes: Sizes, states: &[u8], map: &mut [u32]) -> usize
     let mut r = 0;
     while r < sizes.records {
         if states[r] == 0 {
-            set_free(map, r);
+            set_mark(map, r);
             free += 1;
         }
         r += 1;

@@ -15,6 +15,7 @@ pub mod QueueEntries
 pub mod QueuePacked
 pub mod Bits
 pub mod BitLaws
+pub mod Marks
 pub mod Questions
 pub mod Also
 pub mod Turn

@@ -1,13 +1,14 @@
 -- Loops that test a rule, one number at a time: what a function that returns a rule's test cites at each of its returns.
 use mathlib.Core.Path.{_≡_, refl, sym, ap, _∙_}
 use mathlib.Core.Bool.{Bool, true, false, not, _&&_, _||_, and-assoc}
+use mathlib.Core.Logic.{inl, inr}
 use Prim.Native.Nat.{ℕ, _+_, _-_, _<_, _≤_}
 use native.Mathlib.Omega.{arith}
 use native.Mathlib.Nat.{not-suc-le-zero}
 use native.Mathlib.Decide.{ℕ-discrete}
 use lib.Dec.{eqb}
 use Rattle.tables.specs.Base.{_⇒_}
-use Rattle.tables.specs.Rule.{Rule, same, _and_, _then_, each, named, Holds, test, sound, complete, told, untold, alike}
+use Rattle.tables.specs.Rule.{Rule, same, _and_, _or_, _then_, each, named, Holds, test, sound, complete, told, untold, alike}
 
 -- ── from a rule's statement to the value that a function returns, and back ──
 pub yes-so : (f : Rule) → Holds f → true ≡ test f
@@ -75,10 +76,21 @@ unless f g d = yes-so (f then g) (λ h. absurd (d h))
 pub when : (f g : Rule) (b : Bool) → Holds f → b ≡ test g → b ≡ test (f then g)
 when f g b h e = e ∙ alike g (f then g) (λ k _. k) (λ k. k h)
 
+-- where the first of two rules does not hold, the second decides
+pub otherwise : (f g : Rule) (b : Bool) → ¬ (Holds f) → b ≡ test g → b ≡ test (f or g)
+otherwise f g b d e = e ∙ alike g (f or g) (λ k. inr k) (λ k. elim k [ inl h ↦ absurd (d h) | inr h ↦ h ])
+
 -- ── tests made side by side ──
 pub both : (f g : Rule) (a b : Bool) → a ≡ test f → b ≡ test g → a && b ≡ test (f and g)
 unfolding test
 both f g a b p q = rw (p, q)
+
+-- a first no decides; after a first yes the rest does
+pub first-no : (f g : Rule) → false ≡ test f → false ≡ test (f and g)
+first-no f g e = not-so (f and g) (λ h. unlearn f e (h .0))
+
+pub second-told : (f g : Rule) (b : Bool) → Holds f → b ≡ test g → b ≡ test (f and g)
+second-told f g b h e = e ∙ alike g (f and g) (λ k. (h, k)) (λ k. k .1)
 
 pub three : (f g h : Rule) (a b c : Bool) → a ≡ test f → b ≡ test g → c ≡ test h → (a && b) && c ≡ test (f and g and h)
 unfolding test
@@ -86,6 +98,16 @@ three f g h a b c p q r = rw (p, q, r) (and-assoc (test f) (test g) (test h))
 
 pub four : (f g h k : Rule) (a b c d : Bool) → a ≡ test f → b ≡ test g → c ≡ test h → d ≡ test k → ((a && b) && c) && d ≡ test (f and g and h and k)
 four f g h k a b c d p q r s = ap (λ (x : Bool). x && d) (and-assoc a b c) ∙ and-assoc a (b && c) d ∙ both f (g and h and k) a ((b && c) && d) p (three g h k b c d q r s)
+
+pub six : (f g h k l m : Rule) (a b c d e x : Bool) → a ≡ test f → b ≡ test g → c ≡ test h → d ≡ test k → e ≡ test l → x ≡ test m
+    → ((((a && b) && c) && d) && e) && x ≡ test (f and g and h and k and l and m)
+six f g h k l m a b c d e x p q r s u v = ap (λ (y : Bool). (y && e) && x) (and-assoc (a && b) c d) ∙ ap (λ (y : Bool). y && x) (and-assoc (a && b) (c && d) e) ∙ and-assoc (a && b) ((c && d) && e) x
+    ∙ three f g (h and k and l and m) a b _ p q (four h k l m c d e x r s u v)
+
+pub seven : (f g h k l m n : Rule) (a b c d e x y : Bool) → a ≡ test f → b ≡ test g → c ≡ test h → d ≡ test k → e ≡ test l → x ≡ test m → y ≡ test n
+    → (((((a && b) && c) && d) && e) && x) && y ≡ test (f and g and h and k and l and m and n)
+seven f g h k l m n a b c d e x y p q r s u v w = and-assoc ((((a && b) && c) && d) && e) x y ∙ ap (λ (z : Bool). z && (x && y)) (and-assoc ((a && b) && c) d e) ∙ and-assoc ((a && b) && c) (d && e) (x && y)
+    ∙ four f g h (k and l and m and n) a b c _ p q r (ap (λ (z : Bool). z) (sym (and-assoc (d && e) x y)) ∙ four k l m n d e x y s u v w)
 
 -- ── a loop that tests each of n numbers with no way out before the end ──
 pub each-none : (f : ℕ → Rule) → true ≡ test (each 0 f)

@@ -1,96 +1,79 @@
 -- Subject by subject; the counts decide at the end.
-use mathlib.Core.Path.{sym, _∙_}
+use borrow.Author.Needs.{needs}
+use mathlib.Core.Path.{_≡_, sym, _∙_}
+use Prim.Native.Nat.{ℕ, _<_}
+use native.Mathlib.Omega.{arith}
+use lib.ListN.{take, length-replicate}
 use Rattle.tables.specs.Turn.{learn}
 use Rattle.model.specs.State.{State, frameAt}
 use Rattle.model.specs.Fit.{Fit, fit}
+use Rattle.model.specs.Bounds.{pages-most}
 use Rattle.model.specs.Lent.{stateOf}
-use lib.ListN.{take}
-use Rattle.checks.proofs.RulesLaw.{disk-long, files-long, frames-long, counts-long, no-disk, no-files, no-frames, counts-decide, frames-taken}
+use Rattle.passes.proofs.Marked.{zeros}
+use Rattle.checks.proofs.RulesLaw.{disk-long, files-long, frames-long, counts-long, no-disk, no-files, no-frames, framed-fit, counts-decide, frames-taken}
 use Rattle.checks.proofs.rules.all_rules.Statement.{statement}
 use Rattle.checks.proofs.rules.all_rules.Tie as tie
 
+-- what is lent, and that it passes question 1
+abbrev lent : tie.Start → State
+lent s = stateOf (take (s .args .count) (s .args .frames)) (s .args .pool) (s .args .records .now) (s .args .numbers .now) (s .args .accounts .now) (s .args .maps .now) (s .args .limits .now) (s .args .words .now) (s .args .free-queue .now) (s .args .removal-list .now) (s .args .addresses .now) (s .args .states .now) (s .args .owners .now) (s .args .free-map .now) (s .args .active .now) (s .args .updating .now) (s .args .images .now) (s .args .used .now)
+
+fits : (s : tie.Start) → Fit (s .args .z) (lent s)
+fits s = fit (s .args .z) (lent s) (s .pre)
+
+same : (s : tie.Start) (f : ℕ) → f < s .args .z .frames → frameAt (s .args .frames) f ≡ frameAt (lent s .memory .core .frames) f
+same s = frames-taken (s .args .z .frames) (s .args .count) (s .args .frames) (fits s .memory .frames)
+
 disk-requires : tie.Need-disk-requires
 disk-requires c κs =
-    let args = c .before .before .before .before .before .before .before .before .before .before .before .before .before .before .before .before .args in
-    let pre = c .before .before .before .before .before .before .before .before .before .before .before .before .before .before .before .before .pre in
-    let st : State = stateOf (take (args .count) (args .frames)) (args .pool) (args .records .now) (args .numbers .now) (args .accounts .now) (args .maps .now) (args .limits .now) (args .words .now) (args .free-queue .now) (args .removal-list .now) (args .addresses .now) (args .states .now) (args .owners .now) (args .free-map .now) (args .active .now) (args .updating .now) (args .images .now) (args .used .now) in
-    let q : Fit (args .z) st = fit (args .z) st pre in
-    disk-long (args .z) st q
+    let s = c .before .before .before .before .before .before .before .before .before .before .before .before .before .before .before .before .before in
+    (disk-long (s .args .z) (lent s) (fits s), omega (arith, length-replicate {A = ℕ} 128 0, fits s .sizes .records-most), λ k h. zeros 128 k)
 
 returns : tie.Need-returns
 returns c =
-    let args = c .before .before .before .before .before .before .before .before .before .before .before .before .before .before .before .before .before .before .args in
-    let pre = c .before .before .before .before .before .before .before .before .before .before .before .before .before .before .before .before .before .before .pre in
-    let st : State = stateOf (take (args .count) (args .frames)) (args .pool) (args .records .now) (args .numbers .now) (args .accounts .now) (args .maps .now) (args .limits .now) (args .words .now) (args .free-queue .now) (args .removal-list .now) (args .addresses .now) (args .states .now) (args .owners .now) (args .free-map .now) (args .active .now) (args .updating .now) (args .images .now) (args .used .now) in
-    let q : Fit (args .z) st = fit (args .z) st pre in
-    no-disk (args .z) st q (sym (c .if1 .left) ∙ c .before .disk .ensures .0)
+    let s = c .before .before .before .before .before .before .before .before .before .before .before .before .before .before .before .before .before .before .before .before in
+    no-disk (s .args .z) (lent s) (fits s) (sym (c .if1 .left) ∙ c .before .before .disk .ensures .0)
 
 files-requires : tie.Need-files-requires
 files-requires c κs =
-    let args = c .before .before .before .before .before .before .before .before .before .before .before .before .before .before .before .before .before .before .before .args in
-    let pre = c .before .before .before .before .before .before .before .before .before .before .before .before .before .before .before .before .before .before .before .pre in
-    let st : State = stateOf (take (args .count) (args .frames)) (args .pool) (args .records .now) (args .numbers .now) (args .accounts .now) (args .maps .now) (args .limits .now) (args .words .now) (args .free-queue .now) (args .removal-list .now) (args .addresses .now) (args .states .now) (args .owners .now) (args .free-map .now) (args .active .now) (args .updating .now) (args .images .now) (args .used .now) in
-    let q : Fit (args .z) st = fit (args .z) st pre in
-    (files-long (args .z) st q, (learn _ (sym (c .before .if1 .taken) ∙ c .before .before .disk .ensures .0)) .0 .0, c .before .before .disk .ensures .1 (c .before .if1 .taken))
+    let disk = c .before .before .before .disk in
+    let s = c .before .before .before .before .before .before .before .before .before .before .before .before .before .before .before .before .before .before .before .before .before in
+    (files-long (s .args .z) (lent s) (fits s), (learn _ (sym (c .before .if1 .taken) ∙ disk .ensures .0)) .0 .0, omega (arith, fits s .sizes .records-most), disk .ensures .1 (c .before .if1 .taken))
 
 returns-2 : tie.Need-returns-2
 returns-2 c =
-    let args = c .before .before .before .before .before .before .before .before .before .before .before .before .before .before .before .before .before .before .before .before .before .args in
-    let pre = c .before .before .before .before .before .before .before .before .before .before .before .before .before .before .before .before .before .before .before .before .before .pre in
-    let st : State = stateOf (take (args .count) (args .frames)) (args .pool) (args .records .now) (args .numbers .now) (args .accounts .now) (args .maps .now) (args .limits .now) (args .words .now) (args .free-queue .now) (args .removal-list .now) (args .addresses .now) (args .states .now) (args .owners .now) (args .free-map .now) (args .active .now) (args .updating .now) (args .images .now) (args .used .now) in
-    let q : Fit (args .z) st = fit (args .z) st pre in
-    no-files (args .z) st q (sym (c .if2 .left) ∙ c .before .files .ensures)
+    let s = c .before .before .before .before .before .before .before .before .before .before .before .before .before .before .before .before .before .before .before .before .before .before .before in
+    no-files (s .args .z) (lent s) (fits s) (sym (c .if2 .left) ∙ c .before .files .ensures)
 
 frames-requires : tie.Need-frames-requires
 frames-requires c κs =
-    let args = c .before .before .before .before .before .before .before .before .before .before .before .before .before .before .before .before .before .before .before .before .before .args in
-    let pre = c .before .before .before .before .before .before .before .before .before .before .before .before .before .before .before .before .before .before .before .before .before .pre in
-    let st : State = stateOf (take (args .count) (args .frames)) (args .pool) (args .records .now) (args .numbers .now) (args .accounts .now) (args .maps .now) (args .limits .now) (args .words .now) (args .free-queue .now) (args .removal-list .now) (args .addresses .now) (args .states .now) (args .owners .now) (args .free-map .now) (args .active .now) (args .updating .now) (args .images .now) (args .used .now) in
-    let q : Fit (args .z) st = fit (args .z) st pre in
-    (frames-long (args .z) st q, (learn _ (sym (c .if2 .taken) ∙ c .before .files .ensures)) .0 .0 .0)
+    let s = c .before .before .before .before .before .before .before .before .before .before .before .before .before .before .before .before .before .before .before .before .before .before .before .before in
+    (frames-long (s .args .z) (lent s) (fits s), (learn _ (sym (c .before .if2 .taken) ∙ c .before .before .files .ensures)) .0 .0 .0, omega (arith, length-replicate {A = ℕ} 512 0, pages-most (s .args .z) (fits s .sizes)), λ k h. zeros 512 k)
 
 returns-3 : tie.Need-returns-3
 returns-3 c =
-    let args = c .before .before .before .before .before .before .before .before .before .before .before .before .before .before .before .before .before .before .before .before .before .before .before .args in
-    let pre = c .before .before .before .before .before .before .before .before .before .before .before .before .before .before .before .before .before .before .before .before .before .before .before .pre in
-    let st : State = stateOf (take (args .count) (args .frames)) (args .pool) (args .records .now) (args .numbers .now) (args .accounts .now) (args .maps .now) (args .limits .now) (args .words .now) (args .free-queue .now) (args .removal-list .now) (args .addresses .now) (args .states .now) (args .owners .now) (args .free-map .now) (args .active .now) (args .updating .now) (args .images .now) (args .used .now) in
-    let q : Fit (args .z) st = fit (args .z) st pre in
-    no-frames (args .z) st q (frameAt (args .frames)) (frames-taken (args .z .frames) (args .count) (args .frames) (q .memory .frames)) (sym (c .if3 .left) ∙ c .before .frames .ensures .0)
+    let s = c .before .before .before .before .before .before .before .before .before .before .before .before .before .before .before .before .before .before .before .before .before .before .before .before .before .before .before in
+    no-frames (s .args .z) (lent s) (fits s) (frameAt (s .args .frames)) (same s) (sym (c .if3 .left) ∙ c .before .before .frames .ensures .0)
 
 counts-requires : tie.Need-counts-requires
 counts-requires c κs =
-    let if2 = c .before .before .before .if2 in
-    let files = c .before .before .before .before .files in
-    let if1 = c .before .before .before .before .before .before .if1 in
-    let disk = c .before .before .before .before .before .before .before .disk in
-    let args = c .before .before .before .before .before .before .before .before .before .before .before .before .before .before .before .before .before .before .before .before .before .before .before .before .args in
-    let pre = c .before .before .before .before .before .before .before .before .before .before .before .before .before .before .before .before .before .before .before .before .before .before .before .before .pre in
-    let st : State = stateOf (take (args .count) (args .frames)) (args .pool) (args .records .now) (args .numbers .now) (args .accounts .now) (args .maps .now) (args .limits .now) (args .words .now) (args .free-queue .now) (args .removal-list .now) (args .addresses .now) (args .states .now) (args .owners .now) (args .free-map .now) (args .active .now) (args .updating .now) (args .images .now) (args .used .now) in
-    let q : Fit (args .z) st = fit (args .z) st pre in
-    (counts-long (args .z) st q, (learn _ (sym (if2 .taken) ∙ files .ensures)) .0 .0 .0, λ s h. (learn _ (sym (if1 .taken) ∙ disk .ensures .0)) .1 .0 s h .1)
+    let frames = c .before .before .before .frames in
+    let if2 = c .before .before .before .before .before .if2 in
+    let files = c .before .before .before .before .before .before .files in
+    let if1 = c .before .before .before .before .before .before .before .before .if1 in
+    let disk = c .before .before .before .before .before .before .before .before .before .before .disk in
+    let s = c .before .before .before .before .before .before .before .before .before .before .before .before .before .before .before .before .before .before .before .before .before .before .before .before .before .before .before .before in
+    (counts-long (s .args .z) (lent s) (fits s), framed-fit (s .args .z) (lent s) (fits s) (frameAt (s .args .frames)) (same s) _ (omega (arith, pages-most (s .args .z) (fits s .sizes))) (learn _ (sym (if2 .taken) ∙ files .ensures)) (learn _ (sym (c .before .if3 .taken) ∙ frames .ensures .0)) (frames .ensures .1 (c .before .if3 .taken)), λ x h. (learn _ (sym (if1 .taken) ∙ disk .ensures .0)) .1 .0 x h .1)
 
 returns-4 : tie.Need-returns-4
 returns-4 c =
-    let frames = c .before .before .before .frames in
-    let if2 = c .before .before .before .before .if2 in
-    let files = c .before .before .before .before .before .files in
-    let if1 = c .before .before .before .before .before .before .before .if1 in
-    let disk = c .before .before .before .before .before .before .before .before .disk in
-    let args = c .before .before .before .before .before .before .before .before .before .before .before .before .before .before .before .before .before .before .before .before .before .before .before .before .before .args in
-    let pre = c .before .before .before .before .before .before .before .before .before .before .before .before .before .before .before .before .before .before .before .before .before .before .before .before .before .pre in
-    let st : State = stateOf (take (args .count) (args .frames)) (args .pool) (args .records .now) (args .numbers .now) (args .accounts .now) (args .maps .now) (args .limits .now) (args .words .now) (args .free-queue .now) (args .removal-list .now) (args .addresses .now) (args .states .now) (args .owners .now) (args .free-map .now) (args .active .now) (args .updating .now) (args .images .now) (args .used .now) in
-    let q : Fit (args .z) st = fit (args .z) st pre in
-    counts-decide (args .z) st q (frameAt (args .frames)) (frames-taken (args .z .frames) (args .count) (args .frames) (q .memory .frames)) (frames .result .table) _ (frames .ensures .1 (c .before .before .if3 .taken)) (learn _ (sym (if1 .taken) ∙ disk .ensures .0)) (learn _ (sym (if2 .taken) ∙ files .ensures)) (learn _ (sym (c .before .before .if3 .taken) ∙ frames .ensures .0)) (c .counts .ensures)
+    let frames = c .before .before .before .before .frames in
+    let if2 = c .before .before .before .before .before .before .if2 in
+    let files = c .before .before .before .before .before .before .before .files in
+    let if1 = c .before .before .before .before .before .before .before .before .before .if1 in
+    let disk = c .before .before .before .before .before .before .before .before .before .before .before .disk in
+    let s = c .before .before .before .before .before .before .before .before .before .before .before .before .before .before .before .before .before .before .before .before .before .before .before .before .before .before .before .before .before in
+    counts-decide (s .args .z) (lent s) (fits s) (frameAt (s .args .frames)) (same s) (frames .last .1 .1 .0) _ (frames .ensures .1 (c .before .before .if3 .taken)) (learn _ (sym (if1 .taken) ∙ disk .ensures .0)) (learn _ (sym (if2 .taken) ∙ files .ensures)) (learn _ (sym (c .before .before .if3 .taken) ∙ frames .ensures .0)) (c .counts .ensures)
 
 pub all-rules-spec : {M : Type 1} → statement M
-all-rules-spec =
-    tie.close
-    (tie.spec
-    disk-requires
-    returns
-    files-requires
-    returns-2
-    frames-requires
-    returns-3
-    counts-requires
-    returns-4)
+all-rules-spec = tie.close (tie.spec (λ c. search needs) disk-requires returns (λ c. search needs) files-requires returns-2 (λ c. search needs) frames-requires returns-3 (λ c. search needs) counts-requires returns-4)

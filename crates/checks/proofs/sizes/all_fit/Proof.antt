@@ -3,8 +3,7 @@ use borrow.Author.Needs.{needs}
 use mathlib.Core.Path.{sym, _∙_}
 use Rattle.model.specs.Sizes.{sizesFit}
 use Rattle.model.specs.Step.{allFit}
-use Rattle.tables.specs.Turn.{learn, both}
-use Rattle.checks.proofs.PartLaws.{first-no, second-told}
+use Rattle.tables.specs.Turn.{learn, both, first-no, second-told}
 use Rattle.checks.proofs.sizes.all_fit.Statement.{statement}
 use Rattle.checks.proofs.sizes.all_fit.Tie as tie
 

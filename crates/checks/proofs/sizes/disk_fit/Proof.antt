@@ -2,8 +2,7 @@
 use borrow.Author.Needs.{needs}
 use mathlib.Core.Path.{sym, _∙_}
 use Rattle.model.specs.Sizes.{sizesFit}
-use Rattle.tables.specs.Turn.{learn}
-use Rattle.checks.proofs.PartLaws.{first-no, second-told}
+use Rattle.tables.specs.Turn.{learn, first-no, second-told}
 use Rattle.checks.proofs.sizes.disk_fit.Statement.{statement}
 use Rattle.checks.proofs.sizes.disk_fit.Tie as tie
 

@@ -44,8 +44,8 @@ move-record-requires c κs =
     let q = k .pick .ensures ∙ chosen-told (a .sizes) (a .pool) (a .states .now) (a .free-map .now) (s .pre .0) (s .pre .2) in
     rw q (chosen-may (a .sizes) (a .pool) (a .states .now) (a .free-map .now) (s .pre .0) (s .pre .2) (s .pre .3 (e .if1 .left)))
 
-clear-free-requires : tie.Need-clear-free-requires
-clear-free-requires c κs =
+clear-mark-requires : tie.Need-clear-mark-requires
+clear-mark-requires c κs =
     let k = c .before .before .before .before .before .before .before .before .before .before .before .before .before in
     let e = k .before .before .before in
     let s = e .before .before .before .before .before in
@@ -89,11 +89,11 @@ returns-2 c =
           m .move-record .ensures ∙ ap (λ (n : ℕ). set (a .states .now) n NULLED) q ∙ sym (if-yes (a .way) 0 _ (a .states .now) w),
           (
             o .put8 .ensures ∙ ap (λ (n : ℕ). set (a .owners .now) n (a .slot)) q ∙ sym (if-yes (a .way) 0 _ (a .owners .now) w),
-            x .clear-free .ensures ∙ ap (cleared (a .free-map .now)) q ∙ sym (if-yes (a .way) 0 _ (a .free-map .now) w),
+            x .clear-mark .ensures ∙ ap (cleared (a .free-map .now)) q ∙ sym (if-yes (a .way) 0 _ (a .free-map .now) w),
           ),
         ),
       ),
     )
 
 pub hold-spec : {M : Type 1} → statement M
-hold-spec = tie.close (tie.spec returns (λ c. search needs) (λ c κs. search needs) add-put16 cast-put16 (λ c κs. search needs) move-record-requires (λ c. search needs) (λ c κs. search needs) clear-free-requires add-t14 (λ c. search needs) cast-t27 sub-t28 (λ c. search needs) (λ c. search needs) (λ c. search needs) (λ c. search needs) returns-2)
+hold-spec = tie.close (tie.spec returns (λ c. search needs) (λ c κs. search needs) add-put16 cast-put16 (λ c κs. search needs) move-record-requires (λ c. search needs) (λ c κs. search needs) clear-mark-requires add-t14 (λ c. search needs) cast-t27 sub-t28 (λ c. search needs) (λ c. search needs) (λ c. search needs) (λ c. search needs) returns-2)

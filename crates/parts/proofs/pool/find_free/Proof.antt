@@ -10,8 +10,7 @@ use lib.Dec.{eqb, eqb→eq}
 use Rattle.tables.specs.Laws.{eq→T}
 use Rattle.tables.specs.Bits.{bit}
 use Rattle.tables.specs.FindLaws.{find-at, find-none}
-use Rattle.parts.specs.FreeMap.{bitOf}
-use Rattle.parts.proofs.Bits.{rest-off}
+use Rattle.tables.specs.Marks.{bitOf, rest-off}
 use Rattle.parts.proofs.pool.find_free.Statement.{statement}
 use Rattle.parts.proofs.pool.find_free.Tie as tie
 

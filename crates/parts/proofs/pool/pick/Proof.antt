@@ -9,7 +9,8 @@ use Rattle.tables.specs.Base.{at, find}
 use Rattle.tables.specs.BitLaws.{bit-le}
 use Rattle.tables.specs.FindLaws.{find-same}
 use Rattle.model.specs.Lines.{FREE}
-use Rattle.parts.specs.FreeMap.{bitOf, toldBy}
+use Rattle.tables.specs.Marks.{bitOf}
+use Rattle.parts.specs.FreeMap.{toldBy}
 use Rattle.parts.specs.Picks.{pick-high, pick-low}
 use Rattle.parts.proofs.pool.pick.Statement.{statement}
 use Rattle.parts.proofs.pool.pick.Tie as tie

@@ -11,8 +11,8 @@ use Rattle.parts.proofs.Along.{along, freeing}
 use Rattle.parts.proofs.records.free_record.Statement.{statement}
 use Rattle.parts.proofs.records.free_record.Tie as tie
 
-set-free-requires : tie.Need-set-free-requires
-set-free-requires c κs = let s = c .before .before .before .before in let a = s .args in
+set-mark-requires : tie.Need-set-mark-requires
+set-mark-requires c κs = let s = c .before .before .before .before in let a = s .args in
     (word-fits (a .sizes) (a .states .now) (a .map .now) (s .pre .2) (a .r) (s .pre .0), off-now (a .sizes) (a .states .now) (a .map .now) (s .pre .2) (a .r) (s .pre .0) (λ e. omega (arith, s .pre .1, e)))
 
 move-record-requires : tie.Need-move-record-requires
@@ -27,8 +27,8 @@ returns c =
     let a = s .args in (
       m .move-record .ensures,
       b .put8 .ensures,
-      f .set-free .ensures ∙ map-freed (a .sizes) (a .states .now) (a .map .now) (s .pre .2) (a .r) (s .pre .0) (λ e. omega (arith, s .pre .1, e)) ∙ ap (λ (l : List ℕ). freeMap (a .sizes) (at l)) (sym (m .move-record .ensures)),
+      f .set-mark .ensures ∙ map-freed (a .sizes) (a .states .now) (a .map .now) (s .pre .2) (a .r) (s .pre .0) (λ e. omega (arith, s .pre .1, e)) ∙ ap (λ (l : List ℕ). freeMap (a .sizes) (at l)) (sym (m .move-record .ensures)),
     )
 
 pub free-record-spec : {M : Type 1} → statement M
-free-record-spec = tie.close (tie.spec set-free-requires move-record-requires (λ c κs. search needs) (λ c. search needs) (λ c. search needs) (λ c. search needs) returns)
+free-record-spec = tie.close (tie.spec set-mark-requires move-record-requires (λ c κs. search needs) (λ c. search needs) (λ c. search needs) (λ c. search needs) returns)

@@ -11,8 +11,8 @@ use Rattle.parts.proofs.Along.{along, taking}
 use Rattle.parts.proofs.records.take_record.Statement.{statement}
 use Rattle.parts.proofs.records.take_record.Tie as tie
 
-clear-free-requires : tie.Need-clear-free-requires
-clear-free-requires c κs = let s = c .before .before .before .before in let a = s .args in
+clear-mark-requires : tie.Need-clear-mark-requires
+clear-mark-requires c κs = let s = c .before .before .before .before in let a = s .args in
     (word-fits (a .sizes) (a .states .now) (a .map .now) (s .pre .2) (a .r) (s .pre .0), on-now (a .sizes) (a .states .now) (a .map .now) (s .pre .2) (a .r) (s .pre .0) (s .pre .1))
 
 move-record-requires : tie.Need-move-record-requires
@@ -27,8 +27,8 @@ returns c =
     let a = s .args in (
       m .move-record .ensures,
       b .put8 .ensures,
-      f .clear-free .ensures ∙ map-taken (a .sizes) (a .states .now) (a .map .now) (s .pre .2) (a .r) (s .pre .0) 2 (s .pre .1) (λ e. omega (arith, e)) ∙ ap (λ (l : List ℕ). freeMap (a .sizes) (at l)) (sym (m .move-record .ensures)),
+      f .clear-mark .ensures ∙ map-taken (a .sizes) (a .states .now) (a .map .now) (s .pre .2) (a .r) (s .pre .0) 2 (s .pre .1) (λ e. omega (arith, e)) ∙ ap (λ (l : List ℕ). freeMap (a .sizes) (at l)) (sym (m .move-record .ensures)),
     )
 
 pub take-record-spec : {M : Type 1} → statement M
-take-record-spec = tie.close (tie.spec clear-free-requires move-record-requires (λ c κs. search needs) (λ c. search needs) (λ c. search needs) (λ c. search needs) returns)
+take-record-spec = tie.close (tie.spec clear-mark-requires move-record-requires (λ c κs. search needs) (λ c. search needs) (λ c. search needs) (λ c. search needs) returns)

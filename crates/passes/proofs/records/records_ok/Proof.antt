@@ -1,18 +1,28 @@
--- The invariant: each record before r keeps the rule.
+-- The invariant: each record before r keeps the rules.
 use borrow.Author.Needs.{needs}
 use mathlib.Core.Path.{sym, _∙_}
 use Prim.Native.Nat.{_-_}
+use native.Mathlib.Omega.{arith}
 use Rattle.tables.specs.Base.{at}
+use Rattle.tables.specs.Marks.{bitOf}
 use Rattle.tables.specs.Turn.{Passed, none, again, fails, done}
 use Rattle.passes.specs.Passes.{recordRow}
 use Rattle.passes.proofs.records.records_ok.Statement.{statement}
 use Rattle.passes.proofs.records.records_ok.Tie as tie
 
 abbrev Inv-loop : tie.InvT-loop
-Inv-loop records slots states owners updating holders listers r₀ r = Passed r (λ k. recordRow slots (at holders k) (at listers k) (at states k) (at owners k) (at updating))
+Inv-loop records slots held listed states owners updating r₀ r = Passed r (λ k. recordRow slots (bitOf held k) (bitOf listed k) (at states k) (at owners k) (at updating))
 
 abbrev μ-loop : tie.MeasureT-loop
-μ-loop records slots states owners updating holders listers r₀ r = records - r
+μ-loop records slots held listed states owners updating r₀ r = records - r
+
+loop-holds : tie.Need-loop-holds Inv-loop μ-loop
+loop-holds c = none _
+
+record-ok-requires : tie.Need-record-ok-requires Inv-loop μ-loop
+record-ok-requires c κs =
+    let pre = c .before .before .before .before .before .before .before .before .before .pre in
+    (pre .4, omega (arith, pre .0, c .before .before .loop-test .taken), omega (arith, pre .1, c .before .before .loop-test .taken))
 
 returns : tie.Need-returns Inv-loop μ-loop
 returns c =
@@ -29,21 +39,4 @@ returns-2 : tie.Need-returns-2 Inv-loop μ-loop
 returns-2 c = done _ _ _ (c .before .loop .inv) (c .loop-test .left)
 
 pub records-ok-spec : {M : Type 1} → statement M
-records-ok-spec =
-    tie.close
-    (tie.spec
-    Inv-loop
-    μ-loop
-    (λ c. none _)
-    (λ c. search needs)
-    (λ c. search needs)
-    (λ c. search needs)
-    (λ c. search needs)
-    (λ c. search needs)
-    (λ c. search needs)
-    (λ c κs. search needs)
-    returns
-    (λ c. search needs)
-    (λ c. search needs)
-    loop-again
-    returns-2)
+records-ok-spec = tie.close (tie.spec Inv-loop μ-loop loop-holds (λ c. search needs) (λ c. search needs) record-ok-requires returns (λ c. search needs) (λ c. search needs) loop-again returns-2)

@@ -11,7 +11,8 @@ use Rattle.tables.specs.Base.{at, count}
 use Rattle.tables.specs.Laws.{count-bound, length-tab}
 use Rattle.model.specs.Lines.{FREE}
 use Rattle.model.specs.State.{freeCount, freeWord, mapWords}
-use Rattle.parts.specs.FreeMap.{bitOf, freeMap}
+use Rattle.tables.specs.Marks.{bitOf}
+use Rattle.parts.specs.FreeMap.{freeMap}
 use Rattle.restarts.specs.Counts.{passed, free-none, free-more, free-less, free-start, free-end, bit-ahead, free-on, free-off}
 use Rattle.restarts.proofs.counts.build_free_map.Statement.{statement}
 use Rattle.restarts.proofs.counts.build_free_map.Tie as tie
@@ -29,8 +30,8 @@ loop-holds c =
     let state = at (s .args .states .now) in
     (omega arith, free-none state, h .zero32 .ensures ∙ ap (λ (n : ℕ). replicate {A = ℕ} n 0) (s .pre .1) ∙ free-start (s .args .sizes) state)
 
-set-free-requires : tie.Need-set-free-requires Inv-loop μ-loop
-set-free-requires c κs =
+set-mark-requires : tie.Need-set-mark-requires Inv-loop μ-loop
+set-mark-requires c κs =
     let l = c .before .before .before .before .before .loop in
     let s = c .before .before .before .before .before .before .before .before .before .before .before .before in
     let z = s .args .sizes in
@@ -80,4 +81,4 @@ returns c =
 
 pub build-free-map-spec : {M : Type 1} → statement M
 build-free-map-spec =
-    tie.close (tie.spec Inv-loop μ-loop (λ c κs. search needs) loop-holds (λ c. search needs) set-free-requires add-free (λ c. search needs) (λ c. search needs) loop-again same-length returns)
+    tie.close (tie.spec Inv-loop μ-loop (λ c κs. search needs) loop-holds (λ c. search needs) set-mark-requires add-free (λ c. search needs) (λ c. search needs) loop-again same-length returns)
