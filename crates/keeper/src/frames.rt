@@ -48,7 +48,7 @@ pub fn load(frames: &[Frame]) -> [Frame; 64]
 }
 
 // The front of the array goes to the slice, 64 frames at most; what the slice has past them stays.
-// Shut out: the first frame stored in every place; one frame past the 64 cleared.
+// Shut out: one frame too few; one frame past the 64 cleared.
 pub fn save(frames: &mut [Frame], values: [Frame; 64])
     ensures { λ _. ⌜ now (frames .exit) ≡ saved (now (frames .entry)) values ⌝ }
 {

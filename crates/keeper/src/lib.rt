@@ -22,7 +22,7 @@ pub mod frames; // the lent frames as an array, and back
 pub mod pool; // the pool as a value, and back
 
 // Every event, asked for by a request: its answer, and everything lent, are the definition's.
-// Shut out: a call that puts the pool back as it was; one that answers 0 and changes nothing.
+// Shut out: a call that puts the pool back as it was; one that leaves the frames as they were.
 #[no_mangle]
 pub extern "C" fn keeper_apply(
     sizes: Sizes,
@@ -80,7 +80,7 @@ pub extern "C" fn keeper_apply(
 }
 
 // Restart, from the disk part alone: memory may hold anything.
-// Shut out: a restart that leaves the frames as it finds them; one that is carried out over a disk that breaks its rules.
+// Shut out: a restart that leaves the frames as it finds them; one that leaves the hand elsewhere than at 0.
 #[no_mangle]
 pub extern "C" fn keeper_restart(
     sizes: Sizes,
@@ -136,7 +136,7 @@ pub extern "C" fn keeper_restart(
 }
 
 // Format zeroes the disk part.
-// Shut out: two tables lent in each other's place; tables of a wrong length zeroed.
+// Shut out: two tables lent in each other's place; the limits left as they were.
 #[no_mangle]
 pub extern "C" fn keeper_format(
     sizes: Sizes,
@@ -209,7 +209,7 @@ pub fn page_look<'a>(
 }
 
 // A page look for C, which cannot be handed a reference: which part of the lent words it is.
-// Shut out: a start in frames and not in words; a count of W for a refused look.
+// Shut out: slot and page in each other's place; a count of W for a refused look.
 #[no_mangle]
 pub extern "C" fn keeper_page_look(
     sizes: Sizes,
