@@ -18,7 +18,7 @@ BUILD = "cargo build --quiet --offline --profile bench-run --manifest-path tests
 # callgrind counts a repeated string instruction once a step: in the counting run the C library is to use none
 NO_REPEATS = {"GLIBC_TUNABLES": "glibc.cpu.hwcaps=-ERMS,-FSRM"}
 SIZES = ["smallest", "middle", "largest"]
-SECONDS = "30"
+SECONDS = "20"
 HEADING = "## Tables"
 # the mean leaves these out: they are not calls of a running keeper
 APART = ["format", "restart"]
