@@ -1,5 +1,5 @@
 #!/usr/bin/env python3
-"""Wrong definitions that a theorem must refuse.
+"""Wrong definitions that a theorem must refuse, and wrong programs that a public call's contract must.
 
 run.py [NAME ..]: applies each edit tests/mutants/NAME.edit (all of them, if none is named) to a copy of the repository
 and checks the crate that the edit names. The edit counts as refused if that crate, or one that it depends on, is not
@@ -33,6 +33,11 @@ def copy_sources(to):
     os.makedirs(to)
     shutil.copy(os.path.join(ROOT, "crates.txt"), to)
     shutil.copytree(os.path.join(ROOT, "crates"), os.path.join(to, "crates"))
+    # what is proved already and does not change is not proved again
+    for part in ("rlib", "stamp", "log"):
+        proved = os.path.join(ROOT, "target", part)
+        if os.path.isdir(proved):
+            shutil.copytree(proved, os.path.join(to, "target", part))
 
 
 def apply_edit(to, edit):
