@@ -19,10 +19,14 @@ def rows(start):
     return [cells[0]] + cells[2:]
 
 
+def enum_text(comment):
+    """What stands between the braces of an enum of the header, by the comment before it."""
+    return re.search(re.escape(comment) + r".*?\*/\nenum \{(.*?)\};", HEADER, re.S).group(1)
+
+
 def enum(comment):
-    """An enum of the header: names without the prefix and numbers, by the comment before it."""
-    found = re.search(re.escape(comment) + r".*?\*/\nenum \{(.*?)\};", HEADER, re.S)
-    return re.findall(r"KEEPER_([A-Z_]+) = (\d+)", found.group(1))
+    """An enum of the header: names without the prefix and numbers."""
+    return re.findall(r"KEEPER_([A-Z_]+) = (\d+)", enum_text(comment))
 
 
 def bytes_of(formula, sizes):
@@ -63,7 +67,7 @@ class Bytes(unittest.TestCase):
 
 class Requests(unittest.TestCase):
     def test_kinds(self):
-        section = re.search(r"/\* The kinds of request\. \*/\nenum \{(.*?)\};", HEADER, re.S).group(1)
+        section = enum_text("/* The kinds of request.")
         kinds = re.findall(r"KEEPER_[A-Z_]+(?= =)", section)
         values = [re.split(r"[;:]", comment)[0].strip() for comment in re.findall(r"/\* (.*?) \*/", section)]
         values = ["" if value == "result" else value for value in values]

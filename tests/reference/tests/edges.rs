@@ -33,12 +33,16 @@ fn refuses(keeper: &mut Keeper, kind: u32, values: &[u32], number: u32) {
 }
 
 /// Account 0 has a limit, slot 0 an active design with number 7.
-fn with_design(limit: u32) -> Keeper {
-    let mut keeper = fresh(SIZES);
+fn with_design_of(sizes: Sizes, limit: u32) -> Keeper {
+    let mut keeper = fresh(sizes);
     does(&mut keeper, 0x0F, &[0, limit]);
     does(&mut keeper, 0x01, &[0, 0, 7]);
     does(&mut keeper, 0x03, &[0]);
     keeper
+}
+
+fn with_design(limit: u32) -> Keeper {
+    with_design_of(SIZES, limit)
 }
 
 /// A page of slot 0 is brought in, written at word 0, and its write done.
@@ -110,10 +114,7 @@ fn edge_4_truncate_to_all() {
 
 #[test]
 fn edge_5_limit_then_record_then_frame() {
-    let mut keeper = fresh(Sizes { records: 2, ..SIZES });
-    does(&mut keeper, 0x0F, &[0, 2]);
-    does(&mut keeper, 0x01, &[0, 0, 7]);
-    does(&mut keeper, 0x03, &[0]);
+    let mut keeper = with_design_of(Sizes { records: 2, ..SIZES }, 2);
     does(&mut keeper, 0x05, &[0, 0]);
     does(&mut keeper, 0x05, &[0, 1]);
     assert_eq!((keeper.memory.pool.free, keeper.memory.free_queue[0]), (0, 0));
@@ -131,10 +132,7 @@ fn edge_6_looks() {
     let mut keeper = with_design(3);
     does(&mut keeper, 0x05, &[0, 0]);
     assert_eq!(does(&mut keeper, 0x08, &[]), 2);
-    let mut keeper = fresh(Sizes { frames: 5, pages: 5, records: 5, ..SIZES });
-    does(&mut keeper, 0x0F, &[0, 5]);
-    does(&mut keeper, 0x01, &[0, 0, 7]);
-    does(&mut keeper, 0x03, &[0]);
+    let mut keeper = with_design_of(Sizes { frames: 5, pages: 5, records: 5, ..SIZES }, 5);
     for page in 0..5 {
         does(&mut keeper, 0x05, &[0, page]);
         does(&mut keeper, 0x09, &[0, page]);

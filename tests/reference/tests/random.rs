@@ -3,14 +3,9 @@
 use reference::drive::{list, REFERENCE};
 use reference::rules;
 
-/// The number of calls and the seed can be set from outside for a longer run.
-fn setting(name: &str, otherwise: u64) -> u64 {
-    std::env::var(name).map_or(otherwise, |value| value.parse().expect("a number"))
-}
-
 #[test]
 fn lists_keep_the_promises() {
-    let counts = list::run([REFERENCE, REFERENCE], setting("SEED", 1), setting("CALLS", 200_000));
+    let counts = list::run_as_set([REFERENCE, REFERENCE]);
     println!("{counts}");
     assert_eq!(counts.kinds_missing(), Vec::<&str>::new(), "never carried out");
     assert_eq!(counts.refusals_missing(), Vec::<u32>::new(), "never given");

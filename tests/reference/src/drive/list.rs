@@ -23,6 +23,14 @@ pub fn run(subjects: [Subject; 2], seed: u64, calls: u64) -> Counts {
     counts
 }
 
+/// A run with the seed and the number of calls that SEED and CALLS set from outside, for another run or a longer one.
+pub fn run_as_set(subjects: [Subject; 2]) -> Counts {
+    let setting = |name: &str, otherwise: u64| {
+        std::env::var(name).map_or(otherwise, |value| value.parse().expect("a number"))
+    };
+    run(subjects, setting("SEED", 1), setting("CALLS", 200_000))
+}
+
 /// Mostly small sizes, where everything runs short; sometimes larger ones, now and then the largest.
 fn mixed(random: &mut Random) -> Sizes {
     let most = match random.below(200) {
