@@ -20,7 +20,7 @@ use Rattle.model.specs.declared.sizes.Sizes.{Sizes}
 use Rattle.model.specs.declared.event.Store.the-variants.{Claim}
 use Rattle.model.specs.declared.event.Event.the-variants as Event
 use Rattle.model.specs.Lines.{NULLED, LIVE}
-use Rattle.model.specs.State.{State, frames, noFrame, frameAt, NONE, WRITING, allPages}
+use Rattle.model.specs.State.{State, noFrame, frameAt, NONE, WRITING, allPages}
 use Rattle.model.specs.Setters.{onCore, onHeld, setFrames, setRemovalList, setStates, setTransfer, counted}
 use Rattle.model.specs.Pages.{onFrame}
 use Rattle.model.specs.Stores as Stores

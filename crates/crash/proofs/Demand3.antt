@@ -16,7 +16,7 @@ use Rattle.model.specs.State.{Disk, Memory, State, files}
 use Rattle.model.specs.Rules.{diskRules}
 use Rattle.model.specs.Ruled as R
 use Rattle.model.specs.Step.{outcome, answer, carried, result, step, restart, allFit, memoryLengths}
-use Rattle.model.specs.Fit.{Fit, fit, memory-fit}
+use Rattle.model.specs.Fit.{Fit, memory-fit}
 use Rattle.model.specs.Restart.{restarted}
 use Rattle.model.specs.Ledger as L
 use Rattle.model.specs.Ledger.{Ledger, note, lose, finishWrite, finishUpdate, finishWrites, finishUpdates}

@@ -20,7 +20,7 @@ use Rattle.model.specs.declared.sizes.Sizes.{Sizes}
 use Rattle.model.specs.declared.event.Page.the-variants.{Fault}
 use Rattle.model.specs.declared.event.Event.the-variants as Event
 use Rattle.model.specs.Lines.{FREE, NULLED, LIVE}
-use Rattle.model.specs.State.{Held, State, files, frames, noFrame, frameAt, NONE, allPages, pageOf, slotOf, live, freeCount}
+use Rattle.model.specs.State.{Held, State, files, noFrame, frameAt, NONE, allPages, pageOf, slotOf, live, freeCount}
 use Rattle.model.specs.Setters.{counted}
 use Rattle.model.specs.Parts.{pick}
 use Rattle.model.specs.Choice.{pick-below, pick-free}

@@ -1,6 +1,6 @@
 -- Update: the image lists the live addresses, and the ledger opens the update with the pages live then.
 use mathlib.Core.Path.{_≡_, refl, ap, sym, _∙_, subst}
-use mathlib.Core.Bool.{Bool, true}
+use mathlib.Core.Bool.{true}
 use mathlib.Core.Logic.{_⊎_, inl, inr}
 use Prim.Native.Nat.{ℕ, suc, _%_, _<_, pred}
 use native.Mathlib.Omega.{arith}
@@ -88,9 +88,6 @@ module _ (z : Sizes) (s : ℕ) (st : State) (l : Ledger) (b : Before z st l (Eve
   -- a page in a frame keeps its address
   framed-stays : (f : ℕ) → f < z .frames → (i : ℕ) → frameAt (st .memory .core .frames) f .page ≡ suc i → address′ i ≡ address i
   framed-stays f h i p = entry-stays (address-split i (b .ruled .frames .fit f h .0 i p)) (λ x. x .1 .1 (f, h, p))
-
-  abbrev flag′ : ℕ → Bool
-  flag′ = put (l .pending .updating) s true
 
   abbrev update′ : ℕ → L.Update
   update′ = put (l .pending .update) s (begun z l s)

@@ -1,4 +1,4 @@
--- The counts once an event is carried out: which pages count for their accounts where one frame changes, and counts that stay.
+-- The counts once an event is carried out: which pages count for their accounts where one frame changes, and what the tables of counts hold.
 use mathlib.Core.Path.{_≡_, ap, sym, _∙_}
 use mathlib.Core.Bool.{_||_}
 use mathlib.Core.Logic.{inl, inr}
@@ -11,12 +11,10 @@ use Rattle.tables.specs.Laws.{if-yes}
 use Rattle.tables.specs.Rule.{Rule, same, some, test, alike}
 use Rattle.model.specs.declared.sizes.Sizes.{Sizes}
 use Rattle.model.specs.declared.frame.Frame.{Frame}
-use Rattle.model.specs.Lines.{FREE}
-use Rattle.model.specs.State.{State, Files, Frames, files, frames, noFrame, frameAt, allPages, slotOf, framed, live, charged, payer, freeCount}
-use Rattle.model.specs.Setters.{onHeld, setFree, setFreeMap, setUsed, counted}
+use Rattle.model.specs.State.{State, Files, Frames, files, frames, noFrame, frameAt, slotOf, framed, live, charged}
 use Rattle.model.specs.Index.{split-entry}
-use Rattle.parts.specs.Counts.{counts, usedCounts, used-counts, counts-same, free-same}
-use Rattle.parts.specs.FreeMap.{freeMap, free-map, free-map-same}
+use Rattle.parts.specs.Counts.{counts, usedCounts, used-counts}
+use Rattle.parts.specs.FreeMap.{freeMap, free-map}
 use Rattle.families.specs.Kept.{Kept}
 
 -- ── one frame changes ──
@@ -49,26 +47,10 @@ counts-alike z v v' c c' i a m l f = λ x. if (eqb (a x) 1) (charged-same z v v'
 pub counts-active : (z : Sizes) (v : Files) (c : Frames) (i : ℕ) → v .active (slotOf z i) ≡ 1 → counts z v c i ≡ test (charged z v c i)
 counts-active z v c i e = if-yes (v .active (slotOf z i)) 1 (test (charged z v c i)) (ltb 0 (v .map i)) e
 
--- ── counts that stay ──
+-- ── the tables of counts ──
 module _ (z : Sizes) (st : State) (k : Kept z st) where
   pub used-table : st .memory .used ≡ usedCounts z (files st) (frames st)
   used-table = used-counts z (files st) (frames st) (st .memory .used) (k .fits .memory .used) (k .rules .counts .used)
 
   pub map-table : st .memory .held .free-map ≡ freeMap z (files st .state)
   map-table = free-map z (files st .state) (st .memory .held .free-map) (k .fits .memory .free-map) (k .rules .counts .free-map)
-
-  -- another state with the same payers, charges and free records
-  pub counts-stay : (t : State) → ((s : ℕ) → payer (files st) s ≡ payer (files t) s) → ((i : ℕ) → i < allPages z → counts z (files st) (frames st) i ≡ counts z (files t) (frames t) i)
-      → ((r : ℕ) → r < z .records → eqb (files st .state r) FREE ≡ eqb (files t .state r) FREE)
-      → setUsed (st .memory .used) (onHeld (λ h. setFree (st .memory .held .pool .free) (setFreeMap (st .memory .held .free-map) h)) t) ≡ counted z t
-  unfolding counted
-  counts-stay t pays charges free = λ x. setUsed (u x) (onHeld (λ h. setFree (n x) (setFreeMap (m x) h)) t)
-    where
-      u : st .memory .used ≡ usedCounts z (files t) (frames t)
-      u = used-table ∙ counts-same z (files st) (files t) (frames st) (frames t) pays charges
-
-      n : st .memory .held .pool .free ≡ freeCount z (files t .state)
-      n = k .rules .counts .free ∙ free-same z (files st .state) (files t .state) free
-
-      m : st .memory .held .free-map ≡ freeMap z (files t .state)
-      m = map-table ∙ free-map-same z (files st .state) (files t .state) free

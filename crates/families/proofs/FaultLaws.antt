@@ -33,7 +33,7 @@ use Rattle.model.specs.Step.{Outcome, carried, result}
 use Rattle.model.specs.Own.{own, refusal}
 use Rattle.model.specs.OwnLaws.{done, own-no, own-yes}
 use Rattle.model.specs.Ruled.{once-free}
-use Rattle.parts.specs.Counts.{counts, usedCounts, counts-more, counts-same, free-less}
+use Rattle.parts.specs.Counts.{usedCounts, counts-more, counts-same, free-less}
 use Rattle.parts.specs.FreeMap.{freeMap, free-map-clear}
 use Rattle.pages.specs.Seen.{seenFault}
 use Rattle.pages.specs.Needs.{Seats, Queued, Pooled}

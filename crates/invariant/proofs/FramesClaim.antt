@@ -18,7 +18,7 @@ use Rattle.model.specs.declared.frame.Frame.{Frame}
 use Rattle.model.specs.declared.event.Store.the-variants.{Claim}
 use Rattle.model.specs.declared.event.Event.the-variants as Event
 use Rattle.model.specs.Lines.{NULLED}
-use Rattle.model.specs.State.{State, files, frames, frameAt, NONE, WRITING}
+use Rattle.model.specs.State.{State, files, frames, frameAt, WRITING}
 use Rattle.model.specs.Setters.{onHeld, onCore, setStates, setFrames, setRemovalList, setTransfer}
 use Rattle.model.specs.Questions.{questions}
 use Rattle.model.specs.Pages.{onFrame}
@@ -34,7 +34,7 @@ use Rattle.invariant.proofs.NewSeats.{Switched, seat-switched}
 use Rattle.invariant.proofs.QueueMoves.{Moved, unmoved}
 use Rattle.invariant.proofs.OneFrame.{one-frame}
 use Rattle.invariant.proofs.Looks.{Took, looking-takes}
-use Rattle.invariant.proofs.Stands.{still, seat-at}
+use Rattle.invariant.proofs.Stands.{seat-at}
 use Rattle.invariant.proofs.Freed.{set-there, set-elsewhere, freed, state-kept}
 
 -- the frames and the list as the looks leave them
@@ -73,9 +73,6 @@ module _ (z : Sizes) (st : State) (f : Fit z st) (r : Ruled z st) (some : 0 < si
 
   removing : frames st .removing k ≡ 1
   removing = omega (arith, taken-once, once-list z st r k taken-below)
-
-  pub taken-still : old .transfer ≡ NONE
-  taken-still = still its (omega (arith, removing))
 
   queued : frames st .queued k ≡ 0
   queued = omega (arith, its .place, removing)

@@ -77,9 +77,6 @@ module _ (z : Sizes) (st : State) (f : Fit z st) (r : Ruled z st) where
     pub own-record : files st .address i₀ ≡ suc r₀
     own-record = not-zero (files st .address i₀) (seat-at z st r k below .held i₀ own-page)
 
-    pub own-below : r₀ < z .records
-    own-below = r .records .address-fit i₀ own-fit r₀ own-record
-
     -- another frame's page holds another record
     pub not-own : (h : ℕ) → h < z .frames → ¬ (h ≡ k) → (i : ℕ) → frames st .frame h .page ≡ suc i → (q : ℕ) → files st .address i ≡ suc q → ¬ (q ≡ r₀)
     not-own h l d i p q a e =

@@ -45,9 +45,6 @@ module _ (z : Sizes) (pos : 0 < z .pages) where
   pub of-pages : (s : ℕ) (P : ℕ → Type 0) → ((p : ℕ) → p < z .pages → P (pageOf z s p)) → (i : ℕ) → slotOf z i ≡ s → P i
   of-pages s P f i e = subst P (page-again s i e) (f (i % z .pages) (place-below i))
 
-  -- and from page k up
-  pub from-pages : (s k : ℕ) (P : ℕ → Type 0) → ((p : ℕ) → p < z .pages → ¬ (p < k) → P (pageOf z s p)) → (i : ℕ) → Holds (fromPage z s k i) → P i
-  from-pages s k P f i h = subst P (page-again s i (h .0)) (f (i % z .pages) (place-below i) (h .1))
-
+  -- a page from k up is among the entries from page k up
   pub from-page : (s k p : ℕ) → p < z .pages → ¬ (p < k) → Holds (fromPage z s k (pageOf z s p))
   from-page s k p h n = (slot-of-page s p h, rw (place-of-page s p h) n)

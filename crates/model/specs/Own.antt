@@ -1,4 +1,4 @@
--- An event by its own questions, once 1 and 2 are asked; and what `step` is in each case of 1 and 2. For code that asks them apart.
+-- An event by its own questions, once 1 and 2 are asked; and what `step` is where both say yes, and where 1 says no. For code that asks them apart.
 use mathlib.Core.Path.{_≡_, ap, _∙_}
 use Prim.Native.Nat.{ℕ}
 use Rattle.tables.specs.Questions.{Questions, ask, firstNo}
@@ -37,7 +37,3 @@ module _ (z : Sizes) (st : State) (e : Event) where
   pub step-unfit : ¬ Holds (allFit z st) → step z st e ≡ refusal 1 st
   unfolding step answer
   step-unfit f = ap by (first-no 1 (allFit z st) (ask 2 (allRules z st) (questions z st e)) f)
-
-  pub step-unruled : Holds (allFit z st) → ¬ Holds (allRules z st) → step z st e ≡ refusal 2 st
-  unfolding step answer
-  step-unruled f r = ap by (first-yes 1 (allFit z st) (ask 2 (allRules z st) (questions z st e)) f ∙ first-no 2 (allRules z st) (questions z st e) r)

@@ -7,7 +7,7 @@ use Rattle.tables.specs.Rule.{Rule, same, below, non, _and_}
 use Rattle.tables.specs.Store.{store}
 use Rattle.model.specs.declared.sizes.Sizes.{Sizes}
 use Rattle.model.specs.Lines.{FREE}
-use Rattle.model.specs.State.{Frames, frames, slotOf}
+use Rattle.model.specs.State.{Frames, slotOf}
 
 -- the page is of the slot
 abbrev pub ofSlot : Sizes → ℕ → ℕ → Rule

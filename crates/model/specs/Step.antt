@@ -7,11 +7,8 @@ use Rattle.tables.specs.Questions.{Questions, none, ask, firstNo, above}
 use Rattle.tables.specs.Rule.{Rule, same, _and_}
 use Rattle.model.specs.declared.sizes.Sizes.{Sizes}
 use Rattle.model.specs.declared.event.Answer.{Answer}
-use Rattle.model.specs.declared.event.Design.{Design}
 use Rattle.model.specs.declared.event.Design.the-variants.{Limit, Create, Delete, Activate, Deactivate}
-use Rattle.model.specs.declared.event.Page.{Page}
 use Rattle.model.specs.declared.event.Page.the-variants.{Fault, Read, Write, Wire, Unwire}
-use Rattle.model.specs.declared.event.Store.{Store}
 use Rattle.model.specs.declared.event.Store.the-variants.{Claim, Truncate, Update, PageDone, MapDone}
 use Rattle.model.specs.declared.event.Event.{Event}
 use Rattle.model.specs.declared.event.Event.the-variants as Event

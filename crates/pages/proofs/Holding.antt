@@ -1,8 +1,7 @@
 -- The record that a fault takes: the free map tells it, and it is free.
 use mathlib.Core.Path.{_≡_, ap, _∙_}
 use mathlib.Core.List.{List}
-use Prim.Native.Nat.{ℕ, _*_, _/_, _<_, _≤_}
-use native.Mathlib.Omega.{arith}
+use Prim.Native.Nat.{ℕ, _/_, _<_}
 use lib.Dec.{T, eqb, eqb→eq}
 use lib.ListN.{length}
 use Rattle.tables.specs.Base.{at, any}
@@ -36,9 +35,6 @@ module _ (z : Sizes) (pool : Pool) (states map : List ℕ) (w : Within z) (po : 
 
   pub chosen-below : chosen < z .records
   chosen-below = pick-below z (at states) (pool .hand) (w .records)
-
-  pub map-enough : z .records ≤ 32 * length map
-  map-enough = rw (po .long) (omega arith)
 
   pub chosen-inside : chosen / 32 < length map
   chosen-inside = rw (po .long) (word-inside z chosen chosen-below)

@@ -10,7 +10,7 @@ use Rattle.tables.specs.Questions.{Questions, ask, firstNo}
 use Rattle.tables.specs.Also.{_also_, ask-same}
 use Rattle.model.specs.declared.sizes.Sizes.{Sizes}
 use Rattle.model.specs.declared.frame.Frame.{Frame}
-use Rattle.model.specs.State.{pageOf, frames}
+use Rattle.model.specs.State.{pageOf}
 use Rattle.model.specs.Questions.{served}
 use Rattle.pages.specs.Seen.{seen}
 use Rattle.pages.specs.Asks.{slotAsked, frameAsked}

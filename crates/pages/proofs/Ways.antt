@@ -31,13 +31,7 @@ module _ (addresses states : List ℕ) (i : ℕ) where
   pub named-dead : (a x : ℕ) → a ≡ at addresses i → ¬ (a ≡ 0) → x ≡ at states (a - 1) → ¬ (x ≡ LIVE) → ¬ Holds (isLive addresses states i)
   named-dead a x ea n ex h (r, e, l) = let k : a - 1 ≡ r = omega (arith, ea, e) in h (ex ∙ ap (at states) k ∙ l)
 
-  -- ── the ways apart ──
-  pub two-live : wayOf addresses states i ≡ 2 → Holds (isLive addresses states i)
-  two-live w = elim (decided (isLive addresses states i)) [
-    | yes l ↦ l
-    | no l ↦ elim (decided (same (at addresses i) 0)) [ yes e ↦ absurd (omega (arith, way-none e, w)) | no e ↦ absurd (omega (arith, way-held e l, w)) ]
-  ]
-
+  -- way 0 is that of no address
   pub zero-none : wayOf addresses states i ≡ 0 → at addresses i ≡ 0
   zero-none w = elim (decided (same (at addresses i) 0)) [
     | yes e ↦ e

@@ -33,10 +33,6 @@ usedCounts z v c = tab (z .accounts) (usedOf z v c) 0
 pub used-counts : (z : Sizes) (v : Files) (c : Frames) (used : List ℕ) → length used ≡ z .accounts → ((q : ℕ) → q < z .accounts → at used q ≡ usedOf z v c q) → used ≡ usedCounts z v c
 used-counts z v c used e f = tab-entries (z .accounts) (usedOf z v c) used e f
 
-pub used-most : (z : Sizes) (v : Files) (c : Frames) (q : ℕ) → usedOf z v c q ≤ allPages z
-unfolding usedOf
-used-most z v c q = count-bound (allPages z) (countsFor z v c q)
-
 -- ── the pages count anew, the payers stay ──
 module _ (z : Sizes) (v v' : Files) (c c' : Frames) (pays : (s : ℕ) → payer v s ≡ payer v' s) where
   alike : (q i : ℕ) → counts z v c i ≡ counts z v' c' i → countsFor z v c q i ≡ countsFor z v' c' q i

@@ -13,7 +13,7 @@ use Rattle.model.specs.Lines.{FREE, LEAVING}
 use Rattle.model.specs.State.{freeCount}
 use Rattle.tables.specs.Marks.{bitOf}
 use Rattle.parts.specs.FreeMap.{freeMap, word-inside, bit-on, bit-off, free-map-set, free-map-clear}
-use Rattle.parts.specs.Counts.{free-more, free-less}
+use Rattle.parts.specs.Counts.{free-more}
 
 -- one state a record, and the map of these states
 pub record MapFits (z : Sizes) (states map : List ℕ) : Type 0 where
@@ -57,6 +57,3 @@ module _ (z : Sizes) (states map : List ℕ) (fits : MapFits z states map) (r : 
   -- the count of free records then
   pub count-freed : ¬ (at states r ≡ FREE) → freeCount z (at (set states r FREE)) ≡ suc (freeCount z (at states))
   count-freed d = free-more z (at states) (at (set states r FREE)) r inside (stays FREE) d (new FREE)
-
-  pub count-taken : (x : ℕ) → at states r ≡ FREE → ¬ (x ≡ FREE) → suc (freeCount z (at (set states r x))) ≡ freeCount z (at states)
-  count-taken x e d = free-less z (at states) (at (set states r x)) r inside (stays x) e (λ q. d (sym (new x) ∙ q))

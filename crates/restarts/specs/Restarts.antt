@@ -14,7 +14,7 @@ use Rattle.tables.specs.Rule.{Holds, each, below}
 use Rattle.model.specs.declared.sizes.Sizes.{Sizes}
 use Rattle.model.specs.declared.frame.Frame.{Frame}
 use Rattle.model.specs.declared.frame.Pool.{Pool}
-use Rattle.model.specs.State.{Disk, State, files, frames, noFrame, allPages, mapWords, freeCount}
+use Rattle.model.specs.State.{Disk, State, files, noFrame, allPages, mapWords, freeCount}
 use Rattle.model.specs.Lines.{FREE}
 use Rattle.model.specs.Lent.{diskOf}
 use Rattle.model.specs.Fit.{Within, Fit}

@@ -21,7 +21,7 @@ use Rattle.model.specs.declared.frame.Frame.{Frame}
 use Rattle.model.specs.State.{frameAt}
 use Rattle.stores.specs.ByPage.{ByPage}
 use Rattle.stores.specs.Truncate.{frameIn, cutList, cutUpTo, Cutting}
-use Rattle.stores.proofs.Cut.{from-up, not-up}
+use Rattle.stores.proofs.Cut.{from-up}
 
 -- lists without numbers that pass alike
 pub without-alike : (p q : ℕ → Bool) (xs : List ℕ) → ((x : ℕ) → 0 < times xs x → p x ≡ q x) → without p xs ≡ without q xs

@@ -21,7 +21,7 @@ use Rattle.model.specs.Pages.{fresh}
 use Rattle.model.specs.Questions.{questions}
 use Rattle.model.specs.Stores
 use Rattle.model.specs.Step.{Outcome, carried, result}
-use Rattle.model.specs.Own.{own, refusal}
+use Rattle.model.specs.Own.{own}
 use Rattle.stores.specs.Answered.{done, own-yes, own-no}
 use Rattle.stores.specs.Done.{pageDone, seen, InTransfer, DoneReady, DoneLeft}
 use Rattle.parts.specs.FrameLaws.{frame-take, take-frame}

@@ -14,7 +14,7 @@ use Rattle.tables.specs.Store.{store, at-store}
 use Rattle.model.specs.declared.sizes.Sizes.{Sizes}
 use Rattle.model.specs.Lines.{FREE, NULLED, LIVE, RELEASED, LEAVING}
 use Rattle.model.specs.State.{State, Files, files, frames, slotOf, allPages, payer, charged, live}
-use Rattle.model.specs.Setters.{onSlots, onHeld, setStates, counted}
+use Rattle.model.specs.Setters.{counted}
 use Rattle.model.specs.Questions.{questions}
 use Rattle.model.specs.Stores
 use Rattle.model.specs.Step.{carried}
@@ -31,10 +31,6 @@ module _ (z : Sizes) (st : State) (fit : Fit z st) (ruled : Ruled z st) where
   module _ (s good : ℕ) (asked : Asked (questions z st (mapDone s good))) where
     abbrev done : State
     done = carried z st (mapDone s good)
-
-    -- where the leaving records end
-    abbrev ended : ℕ → State
-    ended x = onSlots (Stores.updateOver z st s) (onHeld (λ h. setStates (store (h .states) (Stores.leaver z st s) (λ r. x)) h) st)
 
     still-live : (x : ℕ) → ¬ (x ≡ LIVE) → (r : ℕ) → r < z .records → (at (store (st .memory .held .states) (Stores.leaver z st s) (λ k. x)) r ≡ LIVE → files st .state r ≡ LIVE) × (files st .state r ≡ LIVE → at (store (st .memory .held .states) (Stores.leaver z st s) (λ k. x)) r ≡ LIVE)
     still-live x d r h = elim (at-store (st .memory .held .states) (Stores.leaver z st s) (λ k. x) r (rw (fit .memory .states) h)) [
@@ -81,9 +77,6 @@ module _ (z : Sizes) (st : State) (fit : Fit z st) (ruled : Ruled z st) where
 
     abbrev stateThen : ℕ → ℕ
     stateThen = at (store (st .memory .held .states) (Stores.leavingRecord z st s) (λ r. LEAVING))
-
-    abbrev addressThen : ℕ → ℕ
-    addressThen = at (store (st .memory .held .addresses) (Stores.leavingPage z st s) (λ i. 0))
 
     -- a record that leaves was nulled or released
     leaving-was : (r : ℕ) → Holds (Stores.leavingRecord z st s r) → (files st .state r ≡ NULLED) ⊎ (files st .state r ≡ RELEASED)

@@ -19,7 +19,7 @@ use Rattle.model.specs.Setters.{counted}
 use Rattle.model.specs.Questions.{questions}
 use Rattle.model.specs.Stores
 use Rattle.model.specs.Step.{Outcome, carried, result}
-use Rattle.model.specs.Own.{own, refusal}
+use Rattle.model.specs.Own.{own}
 use Rattle.parts.specs.Counts.{free-same}
 use Rattle.parts.specs.FreeMap.{freeMap, free-map-same}
 use Rattle.parts.specs.Freed.{Freed, leaverOf}

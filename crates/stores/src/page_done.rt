@@ -17,7 +17,6 @@ use model::applied::Framed;
 use model::frame::Frame;
 use model::sizes::Sizes;
 use parts::cells::at8;
-use parts::cells::at16;
 use parts::frames::frame_at;
 use parts::frames::with_frame;
 use parts::queue::push_back;

@@ -40,10 +40,6 @@ if-then false b = refl
 unfoldable pub Passed : ℕ → (ℕ → Rule) → Type 0
 Passed i f = Holds (each i f)
 
-pub passed : (i : ℕ) (f : ℕ → Rule) → Passed i f → Holds (each i f)
-unfolding Passed
-passed i f h = h
-
 pub none : (f : ℕ → Rule) → Passed 0 f
 unfolding Passed
 none f k h = absurd (not-suc-le-zero h)

@@ -14,7 +14,7 @@ use Rattle.model.specs.Step.{allFit}
 use Rattle.model.specs.Fit.{fit}
 use Rattle.model.specs.Calls.{framesOf}
 use Rattle.events.specs.Frames.{lent-first}
-use Rattle.events.specs.Common.{common, common-gives, unfit-part}
+use Rattle.events.specs.Common.{common-gives, unfit-part}
 use Rattle.events.specs.Looking.{seats, placed-part}
 use Rattle.events.proofs.looks.place_core.Statement.{statement}
 use Rattle.events.proofs.looks.place_core.Tie as tie

@@ -7,7 +7,6 @@ use native.Mathlib.Nat.{mul-le-mul-right}
 use native.Mathlib.Numerals.{add-one}
 use lib.ListN.{set}
 use Rattle.tables.specs.Laws.{if-yes, if-no}
-use Rattle.tables.specs.Queue.{push-front}
 use Rattle.model.specs.Pages.{awaiting, fresh}
 use Rattle.pages.proofs.supply.serve.Statement.{statement}
 use Rattle.pages.proofs.supply.serve.Tie as tie

@@ -6,7 +6,7 @@ use Prim.Native.Nat.{ℕ, _<_}
 use lib.ListN.{length}
 use mathlib.Core.List.{List}
 use Rattle.tables.specs.Rule.{Holds}
-use Rattle.tables.specs.Queue.{queue, size, first, push-back, pop}
+use Rattle.tables.specs.Queue.{queue, size, push-back, pop}
 use Rattle.tables.specs.QueueLaws.{size-le, size-pop, length-pop, queue-pop}
 use Rattle.parts.proofs.Queues.{first-at}
 use Rattle.parts.proofs.queue.rotate.Statement.{statement}

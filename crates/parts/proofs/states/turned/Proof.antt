@@ -1,6 +1,5 @@
 -- `turned` meets its contract.
 use mathlib.Core.Path.{refl}
-use mathlib.Core.Bool.{true}
 use mathlib.Core.Logic.{inl, inr}
 use lib.Dec.{eqb, eqb→eq}
 use Rattle.tables.specs.Laws.{and-left, and-right, and-intro, eq→T, T→true}

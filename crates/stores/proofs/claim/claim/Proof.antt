@@ -6,7 +6,6 @@ use Prim.Native.Nat.{pred}
 use native.Mathlib.Omega.{arith}
 use lib.ListN.{set}
 use Rattle.tables.specs.Base.{at}
-use Rattle.tables.specs.Queue.{push-back}
 use Rattle.tables.specs.QueueEntries.{size-more}
 use Rattle.model.specs.declared.frame.Frame.{Frame}
 use Rattle.stores.proofs.DoneWork.{answered}
