@@ -1,18 +1,18 @@
 -- The passes over pages, records and slots are the memory rules of pages, records and slots.
 use mathlib.Core.Path.{_≡_, sym, _∙_}
 use mathlib.Core.Logic.{inl, inr}
-use Prim.Native.Nat.{ℕ, suc, _*_, _/_, _<_}
+use Prim.Native.Nat.{ℕ, suc, _+_, _*_, _/_, _<_}
 use native.Mathlib.Omega.{arith}
 use Rattle.tables.specs.Base.{at}
-use Rattle.tables.specs.Rule.{Rule, Holds}
+use Rattle.tables.specs.Rule.{Holds}
 use Rattle.model.specs.declared.sizes.Sizes.{Sizes}
 use Rattle.model.specs.State.{State, files}
 use Rattle.model.specs.Ruled.{OfRecords}
-use Rattle.passes.specs.Passes.{pageEntries}
+use Rattle.passes.specs.Passes.{heldEntries, imagedEntries}
 use Rattle.checks.specs.Parts.{filePasses, FilesLong}
 use Rattle.checks.proofs.Shapes.{by-row, of-row}
 
-module _ (z : Sizes) (st : State) (long : FilesLong z (st .disk .numbers) (st .disk .maps) (st .memory .held .addresses) (st .memory .held .states) (st .memory .held .owners)
+module _ (z : Sizes) (st : State) (long : FilesLong z (st .disk .numbers) (st .disk .accounts) (st .disk .maps) (st .memory .held .addresses) (st .memory .held .states) (st .memory .held .owners)
     (st .memory .slots .active) (st .memory .slots .updating) (st .memory .slots .images)) where
   abbrev map : ℕ → ℕ
   map = at (st .disk .maps)
@@ -31,26 +31,20 @@ module _ (z : Sizes) (st : State) (long : FilesLong z (st .disk .numbers) (st .d
 
   -- what the passes say of page i of slot s
   abbrev Entries : ℕ → ℕ → Type 0
-  Entries s i = Holds (pageEntries s (at (st .memory .slots .active) s) (at (st .memory .slots .updating) s) (map i) (address i) (image i) state owner)
-
-  abbrev passes : Rule
-  passes = filePasses (z .slots) (z .pages) (z .records) (st .disk .numbers) (st .disk .maps) (st .memory .held .addresses) (st .memory .held .states) (st .memory .held .owners)
-      (st .memory .slots .active) (st .memory .slots .updating) (st .memory .slots .images)
+  Entries s i = Holds (heldEntries s (at (st .memory .slots .active) s) (map i) (address i) state owner) × Holds (imagedEntries s (at (st .memory .slots .updating) s) (address i) (image i) state owner)
 
   -- a filed record is no active page's
   not-filed : (s i r : ℕ) → Entries s i → map i ≡ suc r → state r ≡ 1 → ¬ (at (st .memory .slots .active) s ≡ 1)
-  not-filed s i r e m f on = elim (e .1 .0 r m on) [
-    | inl a ↦ elim (e .1 .1 .0 r a .1) [ inl n ↦ omega (arith, f, n) | inr n ↦ omega (arith, f, n) ]
+  not-filed s i r e m f on = elim (e .0 .1 .0 r m on) [
+    | inl a ↦ elim (e .0 .1 .1 .0 r a .1) [ inl n ↦ omega (arith, f, n) | inr n ↦ omega (arith, f, n) ]
     | inr a ↦ elim (a .1) [ inl n ↦ omega (arith, f, n) | inr n ↦ omega (arith, f, n) ]
   ]
 
   pub of-files : Holds (filePasses (z .slots) (z .pages) (z .records) (st .disk .numbers) (st .disk .maps) (st .memory .held .addresses) (st .memory .held .states) (st .memory .held .owners)
       (st .memory .slots .active) (st .memory .slots .updating) (st .memory .slots .images)) → OfRecords z (files st)
-  of-files ((a, g), (s, (e, h))) =
-      let held = rw (long .addresses-long) at a in
-      let begun = rw (long .images-long) at g in
+  of-files ((e, (held, begun)), (s, h)) =
       let rows = rw (long .maps-long) at h in
-      let entries : (i : ℕ) → i < z .slots * z .pages → Entries (i / z .pages) i = by-row (z .slots) (z .pages) (long .within .pages) Entries e in
+      let entries : (i : ℕ) → i < z .slots * z .pages → Entries (i / z .pages) i = by-row (z .slots) (z .pages) (long .within .pages) Entries (λ s l p m. (e s l .0 p m, e s l .1 p m)) in
       record {
         address-fit = held .0;
         image-fit = begun .0;
@@ -59,17 +53,17 @@ module _ (z : Sizes) (st : State) (long : FilesLong z (st .disk .numbers) (st .d
         active-fit = λ x k. s x k .0;
         updating-fit = λ x k. s x k .1 .0;
         held-once = held .1;
-        held = λ i k. entries i k .1 .1 .0;
+        held = λ i k. entries i k .0 .1 .1 .0;
         held-by = λ r k. rows r k .1 .1 .0;
-        filed = λ i k. entries i k .0;
+        filed = λ i k. entries i k .0 .0;
         filed-by = λ r k f. let x = rows r k .1 .1 .1 .0 f in (x .0, x .1, (x .2, not-filed (x .0 / z .pages) (x .0) r (entries (x .0) (x .1)) (x .2) f));
-        mapped = λ i k. entries i k .1 .0;
-        imaged = λ i k. entries i k .1 .1 .1 .1 .0;
+        mapped = λ i k. entries i k .0 .1 .0;
+        imaged = λ i k. entries i k .1 .0;
         image-once = λ i k j l r p q n. begun .1 i k j l r p q;
-        image-zero = λ i k. entries i k .1 .1 .1 .1 .1;
+        image-zero = λ i k. entries i k .1 .1;
         leaving-begun = λ r k. rows r k .1 .1 .1 .1;
         active-filled = λ x k. s x k .1 .1 .0;
-        address-active = λ i k. entries i k .1 .1 .1 .0;
+        address-active = λ i k. entries i k .0 .1 .1 .1;
         update-active = λ x k. s x k .1 .1 .1;
       }
 
@@ -82,14 +76,14 @@ module _ (z : Sizes) (st : State) (long : FilesLong z (st .disk .numbers) (st .d
         (st .memory .slots .active) (st .memory .slots .updating) (st .memory .slots .images))
     files-of = (
       (
-        rw (long .addresses-long) (o .address-fit, o .held-once),
-        rw (long .images-long) (o .image-fit, λ i k j l r p q. o .image-once i k j l r p q (sym (image-owner i k r p) ∙ image-owner j l r q)),
+        λ s l. (λ p m. rows s l p m .0, λ p m. rows s l p m .1),
+        ((o .address-fit, o .held-once), (o .image-fit, λ i k j l r p q. o .image-once i k j l r p q (sym (image-owner i k r p) ∙ image-owner j l r q))),
       ),
       (
         λ s k. (o .active-fit s k, (o .updating-fit s k, (o .active-filled s k, o .update-active s k))),
-        (
-          of-row (z .slots) (z .pages) (long .within .pages) Entries (λ i k. (o .filed i k, (o .mapped i k, (o .held i k, (o .address-active i k, (o .imaged i k, o .image-zero i k)))))),
-          rw (long .maps-long) (λ r k. (o .owner-fit r k, (o .state-fit r k, (o .held-by r k, (λ f. let x = o .filed-by r k f in (x .0, x .1, x .2 .0), o .leaving-begun r k))))),
-        ),
+        rw (long .maps-long) (λ r k. (o .owner-fit r k, (o .state-fit r k, (o .held-by r k, (λ f. let x = o .filed-by r k f in (x .0, x .1, x .2 .0), o .leaving-begun r k))))),
       ),
     )
+      where
+        rows : (s : ℕ) → s < z .slots → (p : ℕ) → p < z .pages → Entries s (s * z .pages + p)
+        rows = of-row (z .slots) (z .pages) (long .within .pages) Entries (λ i k. ((o .filed i k, (o .mapped i k, (o .held i k, o .address-active i k))), (o .imaged i k, o .image-zero i k)))

@@ -2,21 +2,22 @@
 use mathlib.Core.Path.{_≡_, refl, sym, _∙_}
 use mathlib.Core.Bool.{Bool, true, false, _&&_}
 use mathlib.Core.List.{List}
-use Prim.Native.Nat.{ℕ, suc, _-_, _*_, _<_, _≤_}
+use Prim.Native.Nat.{ℕ, suc, _*_, _<_, _≤_}
 use native.Mathlib.Omega.{arith}
 use lib.Dec.{eqb, ltb}
 use lib.ListN.{length}
 use Rattle.tables.specs.Base.{at}
 use Rattle.tables.specs.Queue.{members, times}
 use Rattle.tables.specs.Marks.{bitOf}
-use Rattle.tables.specs.Rule.{same, below, _and_, _or_, each, Holds, test, alike}
+use Rattle.tables.specs.Rule.{same, below, each, Holds, test, alike}
 use Rattle.model.specs.declared.frame.Frame.{Frame}
 use Rattle.model.specs.declared.sizes.Sizes.{Sizes}
 use Rattle.model.specs.State.{frameAt}
 use Rattle.model.specs.Rules.{fit}
-use Rattle.passes.specs.Passes.{distinct, marked, counted, frameRow, frameRows, recordRow, recordRows, usedPages, usedTable, PagesFit}
+use Rattle.model.specs.Bounds.{pages-most}
+use Rattle.passes.specs.Passes.{marked, counted, frameRow, frameRows, recordRow, recordRows, HeldFit, ImagedFit}
 use Rattle.passes.proofs.Marked.{off}
-use Rattle.checks.specs.Parts.{heldRow, heldRows, framePasses, FilesLong}
+use Rattle.checks.specs.Parts.{recordHeld, recordsHeld, framePasses, FilesLong}
 use Rattle.checks.proofs.Shapes.{each-same}
 
 -- ── tests that came out true, or false ──
@@ -51,10 +52,10 @@ module _ (m n : ℕ) (entry : ℕ → ℕ) (marks : List ℕ) (v : Holds (marked
 
 module _ (records slots : ℕ) (held listed maps addresses states owners updating : List ℕ)
     (h : Holds (marked records (length maps) (at addresses) held)) (l : Holds (marked records (length maps) (at maps) listed)) where
-  pub rows-held : test (recordRows records slots (bitOf held) (bitOf listed) states owners updating) ≡ test (heldRows records slots maps addresses states owners updating)
+  pub rows-held : test (recordRows records slots (bitOf held) (bitOf listed) states owners updating) ≡ test (recordsHeld records slots maps addresses states owners updating)
   rows-held = each-same records _ _ (λ r k. alike
       (recordRow slots (bitOf held r) (bitOf listed r) (at states r) (at owners r) (at updating))
-      (heldRow slots (length maps) (at addresses) (at maps) (at states r) (at owners r) (at updating) r)
+      (recordHeld slots (length maps) (at addresses) (at maps) (at states r) (at owners r) (at updating) r)
       (λ x. (x .0, (x .1 .0, (λ e. marked-some records (length maps) (at addresses) held h r k (x .1 .1 .0 e), (λ e. marked-some records (length maps) (at maps) listed l r k (x .1 .1 .1 .0 e), x .1 .1 .1 .1)))))
       (λ x. (x .0, (x .1 .0, (λ e. some-marked records (length maps) (at addresses) held h r (x .1 .1 .0 e), (λ e. some-marked records (length maps) (at maps) listed l r (x .1 .1 .1 .0 e), x .1 .1 .1 .1))))))
 
@@ -65,34 +66,25 @@ pub framed-held : (count words pages total : ℕ) (frame : ℕ → Frame) (recor
 framed-held count words pages total frame records word free-queue removal-list addresses states active marks p v i l none =
     off marks i (λ on. let x = v .1 i l on in p .1 .0 (x .0) (x .1) .1 .1 .1 .1 .1 .1 i (x .2) .0 none)
 
--- ── the tables of pages, once they are known to fit ──
-pub pages-fit : (z : Sizes) (numbers maps addresses states owners active updating images : List ℕ) → FilesLong z numbers maps addresses states owners active updating images
-    → Holds (fit (length maps) (z .records) (at maps)) → Holds (distinct (length addresses) (z .records) (at addresses)) → Holds (distinct (length images) (z .records) (at images))
-    → PagesFit maps addresses images states owners
-pages-fit z numbers maps addresses states owners active updating images long m a g = record {
-  addresses-long = one;
-  images-long = two;
-  owners-long = long .owners-long ∙ sym (long .states-long);
-  maps-fit = rw (long .states-long) m;
-  addresses-fit = rw (long .states-long, ← one) (a .0);
-  images-fit = rw (long .states-long, ← two) (g .0);
-}
-  where
-    one : length addresses ≡ length maps
-    one = long .addresses-long ∙ sym (long .maps-long)
+-- ── what the pass over pages needs of the lengths ──
+module _ (z : Sizes) (numbers account maps addresses states owners active updating images : List ℕ) (long : FilesLong z numbers account maps addresses states owners active updating images) where
+  pub held-fit : (inFrames : List ℕ) → Holds (fit (length maps) (z .records) (at maps)) → z .slots * z .pages ≤ 32 * length inFrames → HeldFit (z .records) maps addresses inFrames states owners
+  held-fit inFrames m room = record {
+    addresses-long = long .addresses-long ∙ sym (long .maps-long);
+    few = omega (arith, pages-most z (long .within), long .maps-long);
+    marks-long = omega (arith, room, long .maps-long);
+    states-long = long .states-long;
+    owners-long = long .owners-long;
+    maps-fit = m;
+  }
 
-    two : length images ≡ length maps
-    two = long .images-long ∙ sym (long .maps-long)
+  pub imaged-fit : ImagedFit (z .records) addresses images states owners
+  imaged-fit = record { images-long = long .images-long ∙ sym (long .addresses-long); states-long = long .states-long; owners-long = long .owners-long }
 
 -- ── frames by the tables of their places ──
 pub rows-placed : (n pages : ℕ) (frames : List Frame) (active addresses states free removal queued removing : List ℕ) → n ≤ 64 → Holds (counted 64 free queued) → Holds (counted 64 removal removing)
     → test (frameRows n pages frames active addresses states queued removing) ≡ test (each n λ f. frameRow pages active addresses states (times (members free) f) (times (members removal) f) (frameAt frames f))
 rows-placed n pages frames active addresses states free removal queued removing h a b = each-same n _ _ (λ f l. rw (a f (omega arith), b f (omega arith)))
-
--- ── used counts by the table of totals ──
-pub used-told : (accounts slots pages : ℕ) (used account active maps addresses inFrames states t : List ℕ) → accounts ≤ 16 → Holds (usedTable slots pages account active maps addresses inFrames states t)
-    → test (each accounts λ q. same (at used q) (at t q)) ≡ test (each accounts λ q. same (at used q) (usedPages pages (slots * pages) q account active maps addresses inFrames states))
-used-told accounts slots pages used account active maps addresses inFrames states t h e = each-same accounts _ _ (λ q l. rw (e q (omega arith)))
 
 -- twelve tests, joined from the left or from the right
 pub twelve : (a b c d e f g h i j k l : Bool) → ((((((((((a && b) && c) && d) && e) && f) && g) && h) && i) && j) && k) && l ≡ a && (b && (c && (d && (e && (f && (g && (h && (i && (j && (k && l))))))))))

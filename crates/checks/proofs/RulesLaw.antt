@@ -7,6 +7,7 @@ use native.Mathlib.Omega.{arith}
 use lib.ListN.{length, take}
 use lib.Seq.{getD-take}
 use Rattle.tables.specs.Base.{at}
+use Rattle.tables.specs.Marks.{bitOf}
 use Rattle.tables.specs.Rule.{Rule, Holds, test, alike}
 use Rattle.tables.specs.Turn.{not-so, unlearn}
 use Rattle.model.specs.declared.frame.Frame.{Frame}
@@ -15,24 +16,24 @@ use Rattle.model.specs.State.{State, files, frames, frameAt, noFrame}
 use Rattle.model.specs.Fit.{Fit}
 use Rattle.model.specs.Rules.{allRules}
 use Rattle.model.specs.Ruled.{OfFrames, OfQueues, ruled, rules}
-use Rattle.passes.specs.Passes.{marked, FramedFit}
+use Rattle.passes.specs.Passes.{distinct, marked, usedTable}
 use Rattle.checks.specs.Parts.{diskPasses, filePasses, framePasses, countPasses, DiskLong, FilesLong, FramesLong, CountsLong}
 use Rattle.checks.proofs.DiskLaw.{on-disk, disk-on}
 use Rattle.checks.proofs.FileLaw.{of-files, files-of}
 use Rattle.checks.proofs.FrameLaw.{passes-same, marked-same, of-frames, frames-of}
 use Rattle.checks.proofs.CountLaw.{of-counts, counts-of}
 use Rattle.checks.proofs.PartLaws.{framed-held}
-use Rattle.model.specs.Bounds.{pages-most}
 
 -- question 1 gives each subject its lengths
 module _ (z : Sizes) (st : State) (fit : Fit z st) where
   pub disk-long : DiskLong z (st .disk .numbers) (st .disk .accounts) (st .disk .maps)
   disk-long = record { within = fit .sizes; numbers-long = fit .disk .numbers; accounts-long = fit .disk .accounts; maps-long = fit .disk .maps }
 
-  pub files-long : FilesLong z (st .disk .numbers) (st .disk .maps) (st .memory .held .addresses) (st .memory .held .states) (st .memory .held .owners) (st .memory .slots .active) (st .memory .slots .updating) (st .memory .slots .images)
+  pub files-long : FilesLong z (st .disk .numbers) (st .disk .accounts) (st .disk .maps) (st .memory .held .addresses) (st .memory .held .states) (st .memory .held .owners) (st .memory .slots .active) (st .memory .slots .updating) (st .memory .slots .images)
   files-long = record {
     within = fit .sizes;
     numbers-long = fit .disk .numbers;
+    accounts-long = fit .disk .accounts;
     maps-long = fit .disk .maps;
     addresses-long = fit .memory .addresses;
     states-long = fit .memory .states;
@@ -54,17 +55,8 @@ module _ (z : Sizes) (st : State) (fit : Fit z st) where
     active-long = fit .memory .active;
   }
 
-  pub counts-long : CountsLong z (st .disk .accounts) (st .disk .maps) (st .memory .held .addresses) (st .memory .held .states) (st .memory .held .free-map) (st .memory .slots .active) (st .memory .used)
-  counts-long = record {
-    within = fit .sizes;
-    accounts-long = fit .disk .accounts;
-    maps-long = fit .disk .maps;
-    addresses-long = fit .memory .addresses;
-    states-long = fit .memory .states;
-    free-map-long = fit .memory .free-map;
-    active-long = fit .memory .active;
-    used-long = fit .memory .used;
-  }
+  pub counts-long : CountsLong z (st .memory .held .states) (st .memory .held .free-map) (st .memory .used)
+  counts-long = record { within = fit .sizes; states-long = fit .memory .states; free-map-long = fit .memory .free-map; used-long = fit .memory .used }
 
   abbrev disk-passes : Rule
   disk-passes = diskPasses (z .slots) (z .pages) (z .records) (z .accounts) (st .disk .numbers) (st .disk .accounts) (st .disk .maps)
@@ -91,35 +83,23 @@ module _ (z : Sizes) (st : State) (fit : Fit z st) where
     no-frames e = not-so (allRules z st) (λ h. unlearn frame-passes e
         (passes-same (z .frames) (z .words) (z .pages) (z .slots * z .pages) (frames st .frame) frame (λ f l. sym (same f l)) (st .disk .records) (st .memory .core .words) (st .memory .core .free-queue) (st .memory .core .removal-list) (st .memory .held .addresses) (st .memory .held .states) (st .memory .slots .active) (frames-of z st (ruled z st h .frames) (ruled z st h .queues))))
 
-    -- what the counts need of the marks of pages in frames
-    pub framed-fit : (marks : List ℕ) → z .slots * z .pages ≤ 32 * length marks
-        → Holds (filePasses (z .slots) (z .pages) (z .records) (st .disk .numbers) (st .disk .maps) (st .memory .held .addresses) (st .memory .held .states) (st .memory .held .owners) (st .memory .slots .active)
-        (st .memory .slots .updating) (st .memory .slots .images))
-        → Holds (framePasses (z .frames) (z .words) (z .pages) (z .slots * z .pages) frame (st .disk .records) (st .memory .core .words) (st .memory .core .free-queue) (st .memory .core .removal-list)
-        (st .memory .held .addresses) (st .memory .held .states) (st .memory .slots .active))
-        → Holds (marked (z .slots * z .pages) (z .frames) (λ f. frame f .page) marks) → FramedFit (st .disk .maps) (st .memory .held .addresses) marks (st .memory .held .states)
-    framed-fit marks room f c v = record {
-      addresses-long = fit .memory .addresses ∙ sym (fit .disk .maps);
-      few = omega (arith, pages-most z (fit .sizes), fit .disk .maps);
-      marks-long = omega (arith, room, fit .disk .maps);
-      addresses-fit = rw (fit .memory .states) (f .0 .0 .0);
-      framed-held = λ i l. framed-held (z .frames) (z .words) (z .pages) (z .slots * z .pages) frame (st .disk .records) (st .memory .core .words) (st .memory .core .free-queue) (st .memory .core .removal-list)
-          (st .memory .held .addresses) (st .memory .held .states) (st .memory .slots .active) marks c v i (omega (arith, l, fit .disk .maps));
-    }
+    -- a page is in two frames
+    pub no-framed : false ≡ test (distinct (z .frames) (z .slots * z .pages) (λ f. frame f .page)) → false ≡ test (allRules z st)
+    no-framed e = no-frames (not-so frame-passes (λ h. unlearn (distinct (z .frames) (z .slots * z .pages) (λ f. frame f .page)) e (h .0 .0)))
 
     -- all others hold: the counts decide
-    pub counts-decide : (t : List ℕ) (b : Bool) → Holds (marked (z .slots * z .pages) (z .frames) (λ f. frame f .page) t)
+    pub counts-decide : (t totals : List ℕ) (b : Bool) → Holds (marked (z .slots * z .pages) (z .frames) (λ f. frame f .page) t)
         → Holds (diskPasses (z .slots) (z .pages) (z .records) (z .accounts) (st .disk .numbers) (st .disk .accounts) (st .disk .maps))
         → Holds (filePasses (z .slots) (z .pages) (z .records) (st .disk .numbers) (st .disk .maps) (st .memory .held .addresses) (st .memory .held .states) (st .memory .held .owners) (st .memory .slots .active)
         (st .memory .slots .updating) (st .memory .slots .images))
         → Holds (framePasses (z .frames) (z .words) (z .pages) (z .slots * z .pages) frame (st .disk .records) (st .memory .core .words) (st .memory .core .free-queue) (st .memory .core .removal-list)
         (st .memory .held .addresses) (st .memory .held .states) (st .memory .slots .active))
-        → b ≡ test (countPasses (z .slots) (z .pages) (z .records) (z .accounts) (st .memory .held .pool .hand) (st .memory .held .pool .free) (st .disk .accounts) (st .disk .maps) (st .memory .held .addresses)
-        (st .memory .held .states) (st .memory .held .free-map) (st .memory .slots .active) (st .memory .used) t)
+        → Holds (usedTable (z .slots) (z .pages) (st .disk .accounts) (st .memory .slots .active) (st .disk .maps) (st .memory .held .addresses) t (st .memory .held .states) totals)
+        → b ≡ test (countPasses (z .records) (z .accounts) (st .memory .held .pool .hand) (st .memory .held .pool .free) (st .memory .held .states) (st .memory .held .free-map) (st .memory .used) totals)
         → b ≡ test (allRules z st)
-    counts-decide t b v d f c e = e ∙ alike count-passes (allRules z st)
-        (λ h. rules z st (record { disk = on-disk z st disk-long d; records = of-files z st files-long f; queues = fq .1; frames = fq .0; counts = of-counts z st t w h }))
-        (λ h. counts-of z st t w (ruled z st h .counts))
+    counts-decide t totals b v d f c sum e = e ∙ alike count-passes (allRules z st)
+        (λ h. rules z st (record { disk = on-disk z st disk-long d; records = of-files z st files-long f; queues = fq .1; frames = fq .0; counts = of-counts z st t w held totals (omega (arith, fit .sizes .accounts-most)) sum h }))
+        (λ h. counts-of z st t w held totals (omega (arith, fit .sizes .accounts-most)) sum (ruled z st h .counts))
       where
         w : Holds (marked (z .slots * z .pages) (z .frames) (λ f. frames st .frame f .page) t)
         w = marked-same (z .frames) (z .words) (z .pages) (z .slots * z .pages) frame (frames st .frame) same t v
@@ -127,9 +107,12 @@ module _ (z : Sizes) (st : State) (fit : Fit z st) where
         fq : OfFrames z (files st) (frames st) (at (st .disk .records)) × OfQueues z st
         fq = of-frames z st (passes-same (z .frames) (z .words) (z .pages) (z .slots * z .pages) frame (frames st .frame) same (st .disk .records) (st .memory .core .words) (st .memory .core .free-queue) (st .memory .core .removal-list) (st .memory .held .addresses) (st .memory .held .states) (st .memory .slots .active) c)
 
+        held : (i : ℕ) → i < z .slots * z .pages → at (st .memory .held .addresses) i ≡ 0 → bitOf t i ≡ 0
+        held = framed-held (z .frames) (z .words) (z .pages) (z .slots * z .pages) frame (st .disk .records) (st .memory .core .words) (st .memory .core .free-queue) (st .memory .core .removal-list)
+            (st .memory .held .addresses) (st .memory .held .states) (st .memory .slots .active) t c v
+
         count-passes : Rule
-        count-passes = countPasses (z .slots) (z .pages) (z .records) (z .accounts) (st .memory .held .pool .hand) (st .memory .held .pool .free) (st .disk .accounts) (st .disk .maps) (st .memory .held .addresses)
-            (st .memory .held .states) (st .memory .held .free-map) (st .memory .slots .active) (st .memory .used) t
+        count-passes = countPasses (z .records) (z .accounts) (st .memory .held .pool .hand) (st .memory .held .pool .free) (st .memory .held .states) (st .memory .held .free-map) (st .memory .used) totals
 
 -- the first frames are the state's
 pub frames-taken : (n count : ℕ) (fs : List Frame) → length (take count fs) ≡ n → (f : ℕ) → f < n → frameAt fs f ≡ frameAt (take count fs) f

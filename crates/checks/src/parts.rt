@@ -7,11 +7,12 @@ ghost use Rattle.tables.specs.Base.{at};
 ghost use Rattle.tables.specs.Rule.{same, below, each, test, Holds};
 ghost use Rattle.model.specs.State.{frameAt};
 ghost use Rattle.model.specs.Rules.{fit};
-ghost use Rattle.passes.specs.Passes.{marked, FramedFit};
+ghost use Rattle.passes.specs.Passes.{distinct, marked, usedTable};
 ghost use Rattle.checks.specs.Parts.{diskPasses, filePasses, framePasses, countPasses, DiskLong, FilesLong, FramesLong, CountsLong};
 use model::frame::Frame;
 use model::frame::Pool;
 use model::sizes::Sizes;
+use passes::rows::Totals;
 
 // The disk rules; the listed records are marked, from marks that are off.
 pub fn disk(z: Sizes, numbers: &[u32], accounts: &[u16], maps: &[u16], listed: &mut [u32]) -> bool
@@ -24,11 +25,14 @@ pub fn disk(z: Sizes, numbers: &[u32], accounts: &[u16], maps: &[u16], listed: &
         & passes::pages::empty_maps_ok(z.slots, z.pages, numbers, maps)
 }
 
-// The memory rules of pages, records and slots; listed: the marks of the listed records.
+// The memory rules of pages, records and slots, and each account's used pages; listed, in_frames: the marks of the listed records
+// and of the pages in frames.
 pub fn files(
     z: Sizes,
     listed: &[u32],
+    in_frames: &[u32],
     numbers: &[u32],
+    accounts: &[u16],
     maps: &[u16],
     addresses: &[u16],
     states: &[u8],
@@ -36,37 +40,42 @@ pub fn files(
     active: &[u8],
     updating: &[u8],
     images: &[u16],
-) -> bool
-    requires { ⌜ FilesLong z (now numbers) (now maps) (now addresses) (now states) (now owners) (now active) (now updating) (now images) × Holds (fit (length (now maps)) (z .records) (at (now maps))) × (z .records ≤ 32 * length (now listed)) × Holds (marked (z .records) (length (now maps)) (at (now maps)) (now listed)) ⌝ }
-    ensures { λ r. ⌜ r ≡ test (filePasses (z .slots) (z .pages) (z .records) (now (numbers .entry)) (now (maps .entry)) (now (addresses .entry)) (now (states .entry)) (now (owners .entry)) (now (active .entry)) (now (updating .entry)) (now (images .entry))) ⌝ }
+) -> Totals
+    requires { ⌜ FilesLong z (now numbers) (now accounts) (now maps) (now addresses) (now states) (now owners) (now active) (now updating) (now images) × Holds (fit (length (now maps)) (z .records) (at (now maps))) × (z .records ≤ 32 * length (now listed)) × Holds (marked (z .records) (length (now maps)) (at (now maps)) (now listed)) × (z .slots * z .pages ≤ 32 * length (now «in_frames»)) × Holds (each (z .slots) (λ s. below (at (now accounts) s) (z .accounts))) ⌝ }
+    ensures { λ r. ⌜ (r .ok ≡ test (filePasses (z .slots) (z .pages) (z .records) (now (numbers .entry)) (now (maps .entry)) (now (addresses .entry)) (now (states .entry)) (now (owners .entry)) (now (active .entry)) (now (updating .entry)) (now (images .entry)))) × (r .ok ≡ true → Holds (usedTable (z .slots) (z .pages) (now (accounts .entry)) (now (active .entry)) (now (maps .entry)) (now (addresses .entry)) (now («in_frames» .entry)) (now (states .entry)) (r .used))) ⌝ }
 {
     let mut held: [u32; 128] = [0; 128];
     let mut imaged: [u32; 128] = [0; 128];
-    if passes::marks::mark_all(addresses, z.records, &mut held)
-        & passes::marks::mark_all(images, z.records, &mut imaged)
-    {} else {
-        return false;
+    let pages = passes::rows::pages_ok(
+        z.slots,
+        z.pages,
+        z.records,
+        [0; 16],
+        &mut held,
+        &mut imaged,
+        in_frames,
+        accounts,
+        active,
+        updating,
+        maps,
+        addresses,
+        images,
+        states,
+        owners,
+    );
+    let used = pages.used;
+    if pages.ok {} else {
+        return Totals { ok: false, used };
     }
-    passes::slots::memory_slots_ok(z.slots, numbers, active, updating)
-        & passes::pages::pages_ok(
-            z.slots,
-            z.pages,
-            active,
-            updating,
-            maps,
-            addresses,
-            images,
-            states,
-            owners,
-        )
-        & passes::records::records_ok(z.records, z.slots, &held, listed, states, owners, updating)
+    let ok = passes::slots::memory_slots_ok(z.slots, numbers, active, updating)
+        & passes::records::records_ok(z.records, z.slots, &held, listed, states, owners, updating);
+    Totals { ok, used }
 }
 
-// The memory rules of frames and of their queues; the pages in frames are marked, from marks that are off.
+// The memory rules of frames and of their queues, but for that no page is in two.
 pub fn frames(
     z: Sizes,
     frames: [Frame; 64],
-    in_frames: &mut [u32],
     records: &[u32],
     words: &[u32],
     free_queue: &[u16],
@@ -75,12 +84,11 @@ pub fn frames(
     states: &[u8],
     active: &[u8],
 ) -> bool
-    requires { ⌜ FramesLong z (now records) (now words) (now «free_queue») (now «removal_list») (now addresses) (now states) (now active) × Holds (fit (length (now addresses)) (z .records) (at (now addresses))) × (z .slots * z .pages ≤ 32 * length (now «in_frames»)) × Holds (each (length (now «in_frames»)) (λ k. same (at (now «in_frames») k) 0)) ⌝ }
-    ensures { λ r. ⌜ (r ≡ test (framePasses (z .frames) (z .words) (z .pages) (z .slots * z .pages) (frameAt frames) (now (records .entry)) (now (words .entry)) (now («free_queue» .entry)) (now («removal_list» .entry)) (now (addresses .entry)) (now (states .entry)) (now (active .entry)))) × (r ≡ true → Holds (marked (z .slots * z .pages) (z .frames) (λ f. frameAt frames f .page) (now («in_frames» .exit)))) ⌝ }
+    requires { ⌜ FramesLong z (now records) (now words) (now «free_queue») (now «removal_list») (now addresses) (now states) (now active) × Holds (fit (length (now addresses)) (z .records) (at (now addresses))) × Holds (distinct (z .frames) (z .slots * z .pages) (λ f. frameAt frames f .page)) ⌝ }
+    ensures { λ r. ⌜ r ≡ test (framePasses (z .frames) (z .words) (z .pages) (z .slots * z .pages) (frameAt frames) (now (records .entry)) (now (words .entry)) (now («free_queue» .entry)) (now («removal_list» .entry)) (now (addresses .entry)) (now (states .entry)) (now (active .entry))) ⌝ }
 {
-    if passes::frames::framed_once(z.frames, z.slots * z.pages, frames, in_frames)
-        & passes::queues::queue_ok(z.frames, free_queue)
-        & passes::queues::queue_ok(z.frames, removal_list)
+    if passes::queues::queue(z.frames, free_queue)
+        & passes::queues::queue(z.frames, removal_list)
     {} else {
         return false;
     }
@@ -96,38 +104,23 @@ pub fn frames(
         addresses,
         states,
     )
-        & passes::clean::frames_ok(z.words, z.frames, frames, words, records, addresses, states)
+        & passes::clean::all_clean(z.words, z.frames, frames, words, records, addresses, states)
 }
 
-// The hand is below R; the free map and count agree with the states; used counts equal their definition.
+// The hand is below R; the free map and count agree with the states; used counts are the totals.
 pub fn counts(
     z: Sizes,
     pool: Pool,
-    in_frames: &[u32],
-    accounts: &[u16],
-    maps: &[u16],
-    addresses: &[u16],
+    totals: [usize; 16],
     states: &[u8],
     free_map: &[u32],
-    active: &[u8],
     used: &[u16],
 ) -> bool
-    requires { ⌜ CountsLong z (now accounts) (now maps) (now addresses) (now states) (now «free_map») (now active) (now used) × FramedFit (now maps) (now addresses) (now «in_frames») (now states) × Holds (each (z .slots) (λ s. below (at (now accounts) s) (z .accounts))) ⌝ }
-    ensures { λ r. ⌜ r ≡ test (countPasses (z .slots) (z .pages) (z .records) (z .accounts) (pool .hand) (pool .free) (now (accounts .entry)) (now (maps .entry)) (now (addresses .entry)) (now (states .entry)) (now («free_map» .entry)) (now (active .entry)) (now (used .entry)) (now («in_frames» .entry))) ⌝ }
+    requires { ⌜ CountsLong z (now states) (now «free_map») (now used) ⌝ }
+    ensures { λ r. ⌜ r ≡ test (countPasses (z .records) (z .accounts) (pool .hand) (pool .free) (now (states .entry)) (now («free_map» .entry)) (now (used .entry)) totals) ⌝ }
 {
-    let totals = passes::counts::totals(
-        z.slots,
-        z.pages,
-        [0; 16],
-        accounts,
-        active,
-        maps,
-        addresses,
-        in_frames,
-        states,
-    );
-    ((pool.hand as usize) < z.records)
-        & (pool.free as usize == passes::counts::free_count(z.records, states))
+    passes::counts::hand_fit(z.records, pool.hand)
+        & (pool.free == passes::counts::free_count(z.records, states))
         & passes::counts::free_map_ok(z.records, (z.records + 31) / 32, free_map, states)
         & passes::counts::used_ok(z.accounts, totals, used)
 }

@@ -57,10 +57,16 @@ pub fn all_rules(
     if crate::parts::disk(z, numbers, accounts, maps, &mut listed) {} else {
         return false;
     }
-    if crate::parts::files(
+    let mut in_frames: [u32; 512] = [0; 512];
+    if passes::frames::framed_once(z.frames, z.slots * z.pages, frames, &mut in_frames) {} else {
+        return false;
+    }
+    let files = crate::parts::files(
         z,
         &listed,
+        &in_frames,
         numbers,
+        accounts,
         maps,
         addresses,
         states,
@@ -68,14 +74,13 @@ pub fn all_rules(
         active,
         updating,
         images,
-    ) {} else {
+    );
+    if files.ok {} else {
         return false;
     }
-    let mut in_frames: [u32; 512] = [0; 512];
     if crate::parts::frames(
         z,
         frames,
-        &mut in_frames,
         records,
         words,
         free_queue,
@@ -86,16 +91,6 @@ pub fn all_rules(
     ) {} else {
         return false;
     }
-    crate::parts::counts(
-        z,
-        pool,
-        &in_frames,
-        accounts,
-        maps,
-        addresses,
-        states,
-        free_map,
-        active,
-        used,
-    )
+    let totals = files.used;
+    crate::parts::counts(z, pool, totals, states, free_map, used)
 }

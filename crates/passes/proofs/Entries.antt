@@ -6,11 +6,10 @@ use native.Mathlib.Nat.{mul-le-mul-right, suc-mul}
 use native.Mathlib.Omega.{arith}
 use native.Mathlib.Decide.{ℕ-discrete}
 use lib.Dec.{eqb}
-use Rattle.tables.specs.Rule.{Rule, same, non, _and_, _or_, _then_, named, Holds, test}
-use borrow.Author.Tests.{eq-eqb, ne-eqb}
-use Rattle.tables.specs.Turn.{yes-so, learn, unlearn, named-none, named-one, when, unless, otherwise, test-same}
+use Rattle.tables.specs.Rule.{Rule, same, non, _and_, _or_, _then_, named, Holds, test, alike}
+use Rattle.tables.specs.Turn.{learn, unlearn, named-one, when, unless, otherwise, both}
 use Rattle.model.specs.Rules.{fit}
-use Rattle.passes.specs.Passes.{filedRecord, mappedRecord, heldRecord, imagedRecord, switched, pageEntries}
+use Rattle.passes.specs.Passes.{filedRecord, mappedRecord, heldRecord, imagedRecord, heldEntries, imagedEntries}
 
 -- an entry that names something, by the record that it names
 module _ (s m : ℕ) (state owner : ℕ → ℕ) (some : ¬ (m ≡ 0)) where
@@ -43,20 +42,40 @@ module _ (s m : ℕ) (state owner : ℕ → ℕ) (some : ¬ (m ≡ 0)) where
   unfolding test
   imaged-told a d = otherwise (same a (suc (m - 1))) (same (owner (m - 1)) s and same (state (m - 1)) 4) (own 4) (not-back a d) refl ∙ named-one m (imagedRecord s state owner a) some
 
-pub switched-told : (switch m : ℕ) → eqb m 0 || eqb switch 1 ≡ test (switched switch m)
-switched-told switch m = elim (ℕ-discrete m 0) [
-  | yes e ↦ rw (eq-eqb m 0 e) (named-none m (λ r. same switch 1) e)
-  | no e ↦ rw (ne-eqb m 0 e) (test-same switch 1 ∙ named-one m (λ r. same switch 1) e)
-]
-
--- a page whose three entries name nothing
-pub all-zero-page : (s active updating m a g : ℕ) (state owner : ℕ → ℕ) → (eqb m 0 && eqb a 0) && eqb g 0 ≡ true → true ≡ test (pageEntries s active updating m a g state owner)
-unfolding test
-all-zero-page s active updating m a g state owner e = let h = learn ((same m 0 and same a 0) and same g 0) (sym e) in yes-so (pageEntries s active updating m a g state owner)
-    (λ r q. absurd (nothing r m (h .0 .0) q), (λ r q. absurd (nothing r m (h .0 .0) q), (λ r q. absurd (nothing r a (h .0 .1) q), (λ r q. absurd (nothing r a (h .0 .1) q), (λ r q. absurd (nothing r g (h .1) q), λ r q. absurd (nothing r g (h .1) q))))))
+-- ── a page's entries, by its slot's switches ──
+nothing : (x : ℕ) (f : ℕ → Rule) → x ≡ 0 → Holds (named x f)
+nothing x f z r q = absurd (empty x r z q)
   where
-    nothing : (r x : ℕ) → x ≡ 0 → x ≡ suc r → ⊥
-    nothing r x z q = omega arith
+    empty : (x r : ℕ) → x ≡ 0 → x ≡ suc r → ⊥
+    empty x r z q = omega arith
+
+module _ (s active m a : ℕ) (state owner : ℕ → ℕ) where
+  -- a page of an active slot
+  pub active-told : active ≡ 1 → (h t : Bool) → h ≡ test (named a (heldRecord s state owner)) → t ≡ test (named m (mappedRecord s state owner active a)) → h && t ≡ test (heldEntries s active m a state owner)
+  active-told on h t e f = both (named a (heldRecord s state owner)) (named m (mappedRecord s state owner active a)) h t e f ∙ alike
+      (named a (heldRecord s state owner) and named m (mappedRecord s state owner active a))
+      (heldEntries s active m a state owner)
+      (λ x. (λ r q off. absurd (off on), (x .1, (x .0, λ r q. on))))
+      (λ x. (x .1 .1 .0, x .1 .0))
+
+  -- a page of an inactive slot
+  pub inactive-told : ¬ (active ≡ 1) → a ≡ 0 → (t : Bool) → t ≡ test (named m (filedRecord s state owner active)) → t ≡ test (heldEntries s active m a state owner)
+  inactive-told off z t e = e ∙ alike (named m (filedRecord s state owner active)) (heldEntries s active m a state owner)
+      (λ x. (x, (λ r q on. absurd (off on), (nothing a (heldRecord s state owner) z, nothing a (λ r. same active 1) z))))
+      (λ x. x .0)
+
+  -- .. has no address
+  pub inactive-zero : ¬ (active ≡ 1) → Holds (heldEntries s active m a state owner) → a ≡ 0
+  inactive-zero off x = elim (ℕ-discrete a 0) [ yes e ↦ e | no e ↦ absurd (off (x .1 .1 .1 (a - 1) (omega arith))) ]
+
+module _ (s updating a g : ℕ) (state owner : ℕ → ℕ) where
+  pub updating-told : updating ≡ 1 → (t : Bool) → t ≡ test (named g (imagedRecord s state owner a)) → t ≡ test (imagedEntries s updating a g state owner)
+  updating-told on t e = e ∙ alike (named g (imagedRecord s state owner a)) (imagedEntries s updating a g state owner) (λ x. (x, λ r q. on)) (λ x. x .0)
+
+  pub not-updating : ¬ (updating ≡ 1) → test (same g 0) ≡ test (imagedEntries s updating a g state owner)
+  not-updating off = alike (same g 0) (imagedEntries s updating a g state owner)
+      (λ z. (nothing g (imagedRecord s state owner a) z, nothing g (λ r. same updating 1) z))
+      (λ x. elim (ℕ-discrete g 0) [ yes e ↦ e | no e ↦ absurd (off (x .1 (g - 1) (omega arith))) ])
 
 -- a rule that asks for a mark in one of two states
 module _ (state a b mark : ℕ) where

@@ -1,5 +1,6 @@
 pub mod Marked
 pub mod Entries
+pub mod ByRow
 pub mod FrameTests
 pub mod Words
 pub mod Places

@@ -61,17 +61,17 @@ module _ (p : ℕ → Bool) (from : ℕ) where
 
 -- ── a charged page ──
 module _ (a f : ℕ) (state : ℕ → ℕ) where
-  pub no-address : a ≡ 0 → f ≡ 0 → false ≡ test (chargedPage a f state)
-  no-address z none = not-so (chargedPage a f state) (λ h. elim h [ inl x ↦ omega (arith, z, x .1) | inr x ↦ x none ])
+  pub no-address : a ≡ 0 → false ≡ test (chargedPage a f state)
+  no-address z = not-so (chargedPage a f state) (λ h. omega (arith, z, h .1))
 
   module _ (some : ¬ (a ≡ 0)) where
     pub is-live : state (a - 1) ≡ 3 → true ≡ test (chargedPage a f state)
-    is-live h = yes-so (chargedPage a f state) (inl (a - 1, omega arith, h))
+    is-live h = yes-so (chargedPage a f state) (a - 1, omega arith, inl h)
 
     pub by-frame : f ≤ 1 → ¬ (state (a - 1) ≡ 3) → eqb f 1 ≡ test (chargedPage a f state)
     unfolding test
-    by-frame le d = told ∙ alike (same f 1) (chargedPage a f state) (λ h. inr (λ z. omega (arith, h, z))) (λ h. elim h [
-      | inl x ↦ absurd (d (let e : a ≡ suc (x .0) = x .1 in let q : a - 1 ≡ x .0 = omega arith in rw q (x .2)))
+    by-frame le d = told ∙ alike (same f 1) (chargedPage a f state) (λ h. (a - 1, omega arith, inr (λ z. omega (arith, h, z)))) (λ h. elim (h .2) [
+      | inl x ↦ absurd (d (let e : a ≡ suc (h .0) = h .1 in let q : a - 1 ≡ h .0 = omega arith in rw q x))
       | inr x ↦ omega (arith, x)
     ])
       where

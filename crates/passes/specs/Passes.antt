@@ -2,12 +2,12 @@
 use mathlib.Core.Path.{_≡_}
 use mathlib.Core.Bool.{Bool, _&&_}
 use mathlib.Core.List.{List}
-use Prim.Native.Nat.{ℕ, suc, _+_, _*_, _/_, _≤_, _<_}
+use Prim.Native.Nat.{ℕ, suc, _+_, _-_, _*_, _/_, _≤_, _<_}
 use lib.Dec.{eqb, ltb}
 use lib.ListN.{length}
 use Rattle.tables.specs.Base.{at, if, count}
 use Rattle.tables.specs.Bits.{bits}
-use Rattle.tables.specs.Marks.{bitOf}
+use Rattle.tables.specs.Marks.{bitOf, mark}
 use Rattle.tables.specs.Queue.{members, times, queue}
 use Rattle.tables.specs.Rule.{Rule, same, below, non, _and_, _or_, _then_, each, some, named, names, Holds, test}
 use Rattle.model.specs.declared.frame.Frame.{Frame}
@@ -22,6 +22,23 @@ distinct n m entry = fit n m entry and once n entry
 -- the marks tell of each number below m whether one of the first n entries names it
 abbrev pub marked : ℕ → ℕ → (ℕ → ℕ) → List ℕ → Rule
 marked m n entry marks = (each n λ i. named (entry i) λ r. same (bitOf marks r) 1) and each m λ r. same (bitOf marks r) 1 then some n λ i. same (entry i) (suc r)
+
+-- an entry names nothing, or a number below m that is not marked
+abbrev pub unmarked : ℕ → List ℕ → ℕ → Rule
+unmarked m marks entry = named entry λ r. below r m and same (bitOf marks r) 0
+
+-- what the entry names is marked too
+abbrev pub noted : List ℕ → ℕ → List ℕ
+noted marks entry = if (eqb entry 0) marks (mark marks (entry - 1))
+
+-- of n entries the first i are marked, each once, and nothing else is, in `size` words
+pub record Prefix (m n : ℕ) (entry : ℕ → ℕ) (size : ℕ) (marks : List ℕ) (i : ℕ) : Type 0 where
+  pub named : (k : ℕ) → k < i → (r : ℕ) → entry k ≡ suc r → (r < m) × (bitOf marks r ≡ 1)
+  pub naming : (r : ℕ) → ¬ (bitOf marks r ≡ 0) → (k : ℕ) × (k < i) × (entry k ≡ suc r)
+  pub apart : Holds (once i entry)
+  pub sized : length marks ≡ size
+  pub enough : m ≤ 32 * size
+  pub room : i ≤ n
 
 -- ── slots ──
 abbrev pub diskSlot : (accounts number account : ℕ) → Rule
@@ -62,16 +79,23 @@ module _ (s : ℕ) (state owner : ℕ → ℕ) where
 abbrev pub switched : (switch entry : ℕ) → Rule
 switched switch entry = named entry λ r. same switch 1
 
-abbrev pub pageEntries : (s active updating map address image : ℕ) (state owner : ℕ → ℕ) → Rule
-pageEntries s active updating map address image state owner = named map (filedRecord s state owner active) and named map (mappedRecord s state owner active address)
-    and named address (heldRecord s state owner) and switched active address and named image (imagedRecord s state owner address) and switched updating image
+-- the entries of a page that is stored and held: in the map, and its address
+abbrev pub heldEntries : (s active map address : ℕ) (state owner : ℕ → ℕ) → Rule
+heldEntries s active map address state owner = named map (filedRecord s state owner active) and named map (mappedRecord s state owner active address)
+    and named address (heldRecord s state owner) and switched active address
 
-abbrev pub rowEntries : (pages s active updating : ℕ) (maps addresses images states owners : List ℕ) → Rule
-rowEntries pages s active updating maps addresses images states owners =
-    each pages λ p. pageEntries s active updating (at maps (s * pages + p)) (at addresses (s * pages + p)) (at images (s * pages + p)) (at states) (at owners)
+-- .. and in the image
+abbrev pub imagedEntries : (s updating address image : ℕ) (state owner : ℕ → ℕ) → Rule
+imagedEntries s updating address image state owner = named image (imagedRecord s state owner address) and switched updating image
+
+abbrev pub heldRow : (pages s active : ℕ) (maps addresses states owners : List ℕ) → Rule
+heldRow pages s active maps addresses states owners = each pages λ p. heldEntries s active (at maps (s * pages + p)) (at addresses (s * pages + p)) (at states) (at owners)
+
+abbrev pub imagedRow : (pages s updating : ℕ) (addresses images states owners : List ℕ) → Rule
+imagedRow pages s updating addresses images states owners = each pages λ p. imagedEntries s updating (at addresses (s * pages + p)) (at images (s * pages + p)) (at states) (at owners)
 
 abbrev pub allEntries : (slots pages : ℕ) (active updating maps addresses images states owners : List ℕ) → Rule
-allEntries slots pages active updating maps addresses images states owners = each slots λ s. rowEntries pages s (at active s) (at updating s) maps addresses images states owners
+allEntries slots pages active updating maps addresses images states owners = each slots λ s. heldRow pages s (at active s) maps addresses states owners and imagedRow pages s (at updating s) addresses images states owners
 
 -- ── a record, by the marks of what is held and of what is listed ──
 abbrev pub recordRow : (slots held listed state owner : ℕ) (updating : ℕ → ℕ) → Rule
@@ -81,14 +105,19 @@ recordRow slots held listed state owner updating = below owner slots and below s
 abbrev pub recordRows : (records slots : ℕ) (held listed : ℕ → ℕ) (states owners updating : List ℕ) → Rule
 recordRows records slots held listed states owners updating = each records λ r. recordRow slots (held r) (listed r) (at states r) (at owners r) (at updating)
 
--- ── the tables of pages are of one length, and name records that there are ──
-pub record PagesFit (maps addresses images states owners : List ℕ) : Type 0 where
+-- ── the tables of pages are of one length, the map names records that there are, and there are marks for all pages in frames ──
+pub record HeldFit (records : ℕ) (maps addresses inFrames states owners : List ℕ) : Type 0 where
   pub addresses-long : length addresses ≡ length maps
-  pub images-long : length images ≡ length maps
-  pub owners-long : length owners ≡ length states
-  pub maps-fit : Holds (fit (length maps) (length states) (at maps))
-  pub addresses-fit : Holds (fit (length maps) (length states) (at addresses))
-  pub images-fit : Holds (fit (length maps) (length states) (at images))
+  pub few : length maps ≤ 16384
+  pub marks-long : length maps ≤ 32 * length inFrames
+  pub states-long : length states ≡ records
+  pub owners-long : length owners ≡ records
+  pub maps-fit : Holds (fit (length maps) records (at maps))
+
+pub record ImagedFit (records : ℕ) (addresses images states owners : List ℕ) : Type 0 where
+  pub images-long : length images ≡ length addresses
+  pub states-long : length states ≡ records
+  pub owners-long : length owners ≡ records
 
 -- ── queues and frames ──
 -- one entry of a queue of n numbers, with the entry after it
@@ -133,9 +162,9 @@ abbrev pub cleanFrames : (w count : ℕ) (frames : List Frame) (words records ad
 cleanFrames w count frames words records addresses states = each count λ f. cleanFrame w (frameAt frames f) f words records addresses states
 
 -- ── counts ──
--- what is said of a page that counts as used
+-- what is said of a page that counts as used: its address is live, or it has one and is in a frame
 abbrev pub chargedPage : (address inFrame : ℕ) (state : ℕ → ℕ) → Rule
-chargedPage address inFrame state = (names address λ r. same (state r) LIVE) or non (same inFrame 0)
+chargedPage address inFrame state = names address λ r. same (state r) LIVE or non (same inFrame 0)
 
 abbrev pub usedPage : (active map address inFrame : ℕ) (state : ℕ → ℕ) → Bool
 usedPage active map address inFrame state = if (eqb active 1) (test (chargedPage address inFrame state)) (ltb 0 map)
@@ -146,14 +175,6 @@ usedPages pages n q account active maps addresses inFrames states =
 
 abbrev pub usedTable : (slots pages : ℕ) (account active maps addresses inFrames states t : List ℕ) → Rule
 usedTable slots pages account active maps addresses inFrames states t = each 16 λ q. same (at t q) (usedPages pages (slots * pages) q account active maps addresses inFrames states)
-
--- the tables of pages are of one length, addresses name records that there are, and a page in a frame has one
-pub record FramedFit (maps addresses inFrames states : List ℕ) : Type 0 where
-  pub addresses-long : length addresses ≡ length maps
-  pub few : length maps ≤ 16384
-  pub marks-long : length maps ≤ 32 * length inFrames
-  pub addresses-fit : Holds (fit (length addresses) (length states) (at addresses))
-  pub framed-held : (i : ℕ) → i < length maps → at addresses i ≡ 0 → bitOf inFrames i ≡ 0
 
 abbrev pub freeRecord : (records : ℕ) (states : List ℕ) → ℕ → Bool
 freeRecord records states r = ltb r records && eqb (at states r) FREE

@@ -1,4 +1,4 @@
-// An unmodified frame in service equals its live record, or is zeros if its address is nulled.
+// The words of clean frames.
 ghost use mathlib.Core.Path.{_≡_};
 ghost use Prim.Native.Nat.{_+_, _*_, _≤_, _<_};
 ghost use lib.ListN.{length};
@@ -46,7 +46,8 @@ fn content_ok(w: usize, f: usize, r: usize, state: u8, words: &[u32], records: &
     zeros(words, f * w, w)
 }
 
-fn frame_ok(
+// An unmodified frame in service equals its live record, or is zeros if its address is nulled.
+fn clean(
     w: usize,
     x: Frame,
     f: usize,
@@ -76,7 +77,7 @@ fn frame_ok(
     content_ok(w, f, r, states[r], words, records)
 }
 
-pub fn frames_ok(
+pub fn all_clean(
     w: usize,
     count: usize,
     frames: [Frame; 64],
@@ -91,7 +92,7 @@ pub fn frames_ok(
     let mut f = 0;
     while f < count {
         let x = frames[f];
-        if frame_ok(w, x, f, words, records, addresses, states) {} else {
+        if clean(w, x, f, words, records, addresses, states) {} else {
             return false;
         }
         f += 1;

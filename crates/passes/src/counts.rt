@@ -1,18 +1,25 @@
-// The free count, the free map and the used counts.
+// The hand, the free count, the free map and the used counts.
 ghost use mathlib.Core.Path.{_≡_};
 ghost use Prim.Native.Nat.{_+_, _*_, _/_, _≤_, _<_};
-ghost use lib.Dec.{eqb};
+ghost use lib.Dec.{eqb, ltb};
 ghost use lib.ListN.{length};
 ghost use Rattle.tables.specs.Base.{at, if, count};
 ghost use Rattle.tables.specs.Bits.{bits};
 ghost use Rattle.tables.specs.Marks.{bitOf};
-ghost use Rattle.tables.specs.Rule.{same, below, each, test, Holds};
+ghost use Rattle.tables.specs.Rule.{same, below, each, test};
 ghost use Rattle.model.specs.Lines.{FREE};
-ghost use Rattle.passes.specs.Passes.{chargedPage, usedPage, usedTable, freeRecord, freeWords, FramedFit};
+ghost use Rattle.passes.specs.Passes.{chargedPage, freeRecord, freeWords};
 use parts::marks::is_marked;
 
+// The hand is below R.
+pub fn hand_fit(records: usize, hand: u32) -> bool
+    ensures { λ r. ⌜ r ≡ test (below hand records) ⌝ }
+{
+    (hand as usize) < records
+}
+
 // 1 where the state is free.
-fn free_one(state: u8) -> usize
+fn free_one(state: u8) -> u32
     ensures { λ r. ⌜ r ≡ if (eqb state FREE) 1 0 ⌝ }
 {
     if state == 0 {
@@ -22,11 +29,11 @@ fn free_one(state: u8) -> usize
 }
 
 // The count of free records.
-pub fn free_count(records: usize, states: &[u8]) -> usize
-    requires { ⌜ records ≤ length (now states) ⌝ }
+pub fn free_count(records: usize, states: &[u8]) -> u32
+    requires { ⌜ (records ≤ length (now states)) × (records ≤ 65536) ⌝ }
     ensures { λ r. ⌜ r ≡ count records (λ k. eqb (at (now (states .entry)) k) FREE) ⌝ }
 {
-    let mut n = 0;
+    let mut n: u32 = 0;
     let mut r = 0;
     while r < records {
         n += free_one(states[r]);
@@ -78,9 +85,9 @@ pub fn free_map_ok(records: usize, n: usize, map: &[u32], states: &[u8]) -> bool
     true
 }
 
-// A page is charged if its address is live or it is in a frame; where it is in one, it has an address.
+// A page is charged if its address is live, or it has an address and is in a frame.
 fn charged(i: usize, address: u16, in_frames: &[u32], states: &[u8]) -> bool
-    requires { ⌜ (address ≤ length (now states)) × (i / 32 < length (now «in_frames»)) × (address ≡ 0 → bitOf (now «in_frames») i ≡ 0) ⌝ }
+    requires { ⌜ (address ≤ length (now states)) × (i / 32 < length (now «in_frames»)) ⌝ }
     ensures { λ r. ⌜ r ≡ test (chargedPage address (bitOf (now («in_frames» .entry)) i) (at (now (states .entry)))) ⌝ }
 {
     if address == 0 {
@@ -92,70 +99,25 @@ fn charged(i: usize, address: u16, in_frames: &[u32], states: &[u8]) -> bool
     is_marked(in_frames, i)
 }
 
-// 1 where a page counts as used: charged in an active design, listed in an inactive one.
-fn used_one(i: usize, active: u8, map: u16, address: u16, in_frames: &[u32], states: &[u8]) -> usize
-    requires { ⌜ (address ≤ length (now states)) × (i / 32 < length (now «in_frames»)) × (address ≡ 0 → bitOf (now «in_frames») i ≡ 0) ⌝ }
-    ensures { λ r. ⌜ r ≡ if (usedPage active map address (bitOf (now («in_frames» .entry)) i) (at (now (states .entry)))) 1 0 ⌝ }
+// 1 where a page of an active design counts as used: it is charged.
+pub fn charged_one(i: usize, address: u16, in_frames: &[u32], states: &[u8]) -> usize
+    requires { ⌜ (address ≤ length (now states)) × (i / 32 < length (now «in_frames»)) ⌝ }
+    ensures { λ r. ⌜ r ≡ if (test (chargedPage address (bitOf (now («in_frames» .entry)) i) (at (now (states .entry))))) 1 0 ⌝ }
 {
-    if active == 1 {
-        if charged(i, address, in_frames, states) {
-            return 1;
-        }
-        return 0;
-    }
-    if 0 < map {
+    if charged(i, address, in_frames, states) {
         return 1;
     }
     0
 }
 
-// The used pages of a slot.
-fn row_used(
-    pages: usize,
-    s: usize,
-    active: u8,
-    maps: &[u16],
-    addresses: &[u16],
-    in_frames: &[u32],
-    states: &[u8],
-) -> usize
-    requires { ⌜ (s * pages + pages ≤ length (now maps)) × FramedFit (now maps) (now addresses) (now «in_frames») (now states) ⌝ }
-    ensures { λ r. ⌜ r ≡ count pages (λ p. usedPage active (at (now (maps .entry)) (s * pages + p)) (at (now (addresses .entry)) (s * pages + p)) (bitOf (now («in_frames» .entry)) (s * pages + p)) (at (now (states .entry)))) ⌝ }
+// 1 where a page of an inactive design counts as used: it is listed.
+pub fn listed_one(map: u16) -> usize
+    ensures { λ r. ⌜ r ≡ if (ltb 0 map) 1 0 ⌝ }
 {
-    let base = s * pages;
-    let mut n = 0;
-    let mut p = 0;
-    while p < pages {
-        let i = base + p;
-        n += used_one(i, active, maps[i], addresses[i], in_frames, states);
-        p += 1;
+    if 0 < map {
+        return 1;
     }
-    n
-}
-
-// Each account's used pages, from a table of zeros.
-pub fn totals(
-    slots: usize,
-    pages: usize,
-    none: [usize; 16],
-    accounts: &[u16],
-    active: &[u8],
-    maps: &[u16],
-    addresses: &[u16],
-    in_frames: &[u32],
-    states: &[u8],
-) -> [usize; 16]
-    requires { ⌜ (0 < pages) × (slots ≤ length (now accounts)) × (slots ≤ length (now active)) × (slots * pages ≤ length (now maps)) × FramedFit (now maps) (now addresses) (now «in_frames») (now states) × Holds (each slots (λ s. below (at (now accounts) s) 16)) × (length none ≡ 16) × Holds (each 16 (λ q. same (at none q) 0)) ⌝ }
-    ensures { λ r. ⌜ Holds (usedTable slots pages (now (accounts .entry)) (now (active .entry)) (now (maps .entry)) (now (addresses .entry)) (now («in_frames» .entry)) (now (states .entry)) r) ⌝ }
-{
-    let mut t = none;
-    let mut s = 0;
-    while s < slots {
-        let q = accounts[s] as usize;
-        t[q] += row_used(pages, s, active[s], maps, addresses, in_frames, states);
-        s += 1;
-    }
-    t
+    0
 }
 
 // Used counts equal their definition.

@@ -9,9 +9,8 @@ ghost use lib.Dec.{eqb};
 ghost use Rattle.model.specs.State.{NONE, WRITING, frameAt};
 ghost use Rattle.model.specs.Rules.{fit};
 ghost use Rattle.passes.specs.Passes.{distinct, marked, switches, onePlace, bare, activePage, heldPage, frameRow, frameRows};
+use crate::marks::mark_entry;
 use model::frame::Frame;
-use parts::marks::is_marked;
-use parts::marks::set_mark;
 
 // A frame's page is at most S · N, and no page is in two frames; each page that is in one is marked, from marks that are
 // off.
@@ -22,18 +21,10 @@ pub fn framed_once(count: usize, pages: usize, frames: [Frame; 64], marks: &mut 
     let mut f = 0;
     while f < count {
         let x = frames[f];
-        let e = x.page as usize;
+        if mark_entry(x.page, pages, marks) {} else {
+            return false;
+        }
         f += 1;
-        if e == 0 {
-            continue;
-        }
-        if pages < e {
-            return false;
-        }
-        if is_marked(marks, e - 1) {
-            return false;
-        }
-        set_mark(marks, e - 1);
     }
     true
 }

@@ -1,23 +1,52 @@
-// Marks, one bit a record or a page: the one pass that serves every "no record twice" and "is this record named".
+// Marks, one bit a record: every "no record twice", "is at most R" and "is this record named".
 ghost use mathlib.Core.Path.{_≡_};
 ghost use mathlib.Core.Bool.{true};
 ghost use Prim.Native.Nat.{_+_, _*_, _≤_, _<_};
 ghost use lib.ListN.{length};
 ghost use Rattle.tables.specs.Base.{at};
-ghost use Rattle.tables.specs.Rule.{same, below, _and_, each, test, Holds};
-ghost use Rattle.passes.specs.Passes.{distinct, marked};
+ghost use Rattle.tables.specs.Rule.{same, each, test, Holds};
+ghost use Rattle.passes.specs.Passes.{distinct, marked, unmarked, noted};
 use parts::marks::is_marked;
 use parts::marks::set_mark;
 
-// Whether four entries from i up name nothing: most entries do, so that they are passed over four at a time.
-fn four_zeros(entries: &[u16], i: usize, n: usize) -> bool
-    requires { ⌜ (n ≡ length (now entries)) × (i < n) ⌝ }
-    ensures { λ x. ⌜ x ≡ test (below (i + 3) n and each 4 (λ k. same (at (now (entries .entry)) (i + k)) 0)) ⌝ }
+// Marks what an entry names: false where that is no record, or one that is marked.
+pub fn mark_entry(entry: u16, records: usize, marks: &mut [u32]) -> bool
+    requires { ⌜ records ≤ 32 * length (now marks) ⌝ }
+    ensures { λ x. ⌜ (x ≡ test (unmarked records (now (marks .entry)) entry)) × (x ≡ true → now (marks .exit) ≡ noted (now (marks .entry)) entry) ⌝ }
 {
-    if n - i < 4 {
+    if entry == 0 {
+        return true;
+    }
+    let e = entry as usize;
+    if records < e {
         return false;
     }
-    (entries[i] == 0) & (entries[i + 1] == 0) & (entries[i + 2] == 0) & (entries[i + 3] == 0)
+    if is_marked(marks, e - 1) {
+        return false;
+    }
+    set_mark(marks, e - 1);
+    true
+}
+
+// A run of entries from i up that name nothing, to be passed over: eight, or the one at i.
+fn zeros_from(entries: &[u16], i: usize, n: usize) -> usize
+    requires { ⌜ (n ≡ length (now entries)) × (i < n) × (at (now entries) i ≡ 0) ⌝ }
+    ensures { λ r. ⌜ (0 < r) × (i + r ≤ n) × Holds (each r (λ k. same (at (now (entries .entry)) (i + k)) 0)) ⌝ }
+{
+    if n - i < 8 {
+        return 1;
+    }
+    if (entries[i + 1] == 0)
+        & (entries[i + 2] == 0)
+        & (entries[i + 3] == 0)
+        & (entries[i + 4] == 0)
+        & (entries[i + 5] == 0)
+        & (entries[i + 6] == 0)
+        & (entries[i + 7] == 0)
+    {
+        return 8;
+    }
+    1
 }
 
 // Marks what the entries name, from marks that are off: false where an entry names no record, or one that is marked.
@@ -28,22 +57,15 @@ pub fn mark_all(entries: &[u16], records: usize, marks: &mut [u32]) -> bool
     let n = entries.len();
     let mut i = 0;
     while i < n {
-        if four_zeros(entries, i, n) {
-            i += 4;
-            continue;
-        }
-        let e = entries[i] as usize;
-        i += 1;
+        let e = entries[i];
         if e == 0 {
+            i += zeros_from(entries, i, n);
             continue;
         }
-        if records < e {
+        if mark_entry(e, records, marks) {} else {
             return false;
         }
-        if is_marked(marks, e - 1) {
-            return false;
-        }
-        set_mark(marks, e - 1);
+        i += 1;
     }
     true
 }

@@ -24,7 +24,7 @@ fn entry_ok(frames: usize, entry: u16, next: u16) -> bool
 }
 
 // The entries name frames, and after a 0 there are only zeros.
-pub fn queue_ok(frames: usize, entries: &[u16]) -> bool
+pub fn queue(frames: usize, entries: &[u16]) -> bool
     requires { ⌜ frames ≤ length (now entries) ⌝ }
     ensures { λ r. ⌜ r ≡ test (queue frames (now (entries .entry))) ⌝ }
 {

@@ -1,7 +1,7 @@
 -- Subject by subject; the counts decide at the end.
 use borrow.Author.Needs.{needs}
 use mathlib.Core.Path.{_≡_, sym, _∙_}
-use Prim.Native.Nat.{ℕ, _<_}
+use Prim.Native.Nat.{ℕ, _*_, _<_}
 use native.Mathlib.Omega.{arith}
 use lib.ListN.{take, length-replicate}
 use Rattle.tables.specs.Turn.{learn}
@@ -9,8 +9,9 @@ use Rattle.model.specs.State.{State, frameAt}
 use Rattle.model.specs.Fit.{Fit, fit}
 use Rattle.model.specs.Bounds.{pages-most}
 use Rattle.model.specs.Lent.{stateOf}
+use Rattle.passes.specs.Passes.{distinct}
 use Rattle.passes.proofs.Marked.{zeros}
-use Rattle.checks.proofs.RulesLaw.{disk-long, files-long, frames-long, counts-long, no-disk, no-files, no-frames, framed-fit, counts-decide, frames-taken}
+use Rattle.checks.proofs.RulesLaw.{disk-long, files-long, frames-long, counts-long, no-disk, no-files, no-frames, no-framed, counts-decide, frames-taken}
 use Rattle.checks.proofs.rules.all_rules.Statement.{statement}
 use Rattle.checks.proofs.rules.all_rules.Tie as tie
 
@@ -26,54 +27,81 @@ same s = frames-taken (s .args .z .frames) (s .args .count) (s .args .frames) (f
 
 disk-requires : tie.Need-disk-requires
 disk-requires c κs =
-    let s = c .before .before .before .before .before .before .before .before .before .before .before .before .before .before .before .before .before in
-    (disk-long (s .args .z) (lent s) (fits s), omega (arith, length-replicate {A = ℕ} 128 0, fits s .sizes .records-most), λ k h. zeros 128 k)
+    let start = c .before .before .before .before .before .before .before .before .before .before .before .before .before .before .before .before .before in
+    (disk-long (start .args .z) (lent start) (fits start), omega (arith, length-replicate {A = ℕ} 128 0, fits start .sizes .records-most), λ k h. zeros 128 k)
 
 returns : tie.Need-returns
 returns c =
-    let s = c .before .before .before .before .before .before .before .before .before .before .before .before .before .before .before .before .before .before .before .before in
-    no-disk (s .args .z) (lent s) (fits s) (sym (c .if1 .left) ∙ c .before .before .disk .ensures .0)
+    let start = c .before .before .before .before .before .before .before .before .before .before .before .before .before .before .before .before .before .before .before .before in
+    let if1 = c .if1 in
+    let disk = c .before .before .disk in
+    no-disk (start .args .z) (lent start) (fits start) (sym (if1 .left) ∙ disk .ensures .0)
 
-files-requires : tie.Need-files-requires
-files-requires c κs =
-    let disk = c .before .before .before .disk in
-    let s = c .before .before .before .before .before .before .before .before .before .before .before .before .before .before .before .before .before .before .before .before .before in
-    (files-long (s .args .z) (lent s) (fits s), (learn _ (sym (c .before .if1 .taken) ∙ disk .ensures .0)) .0 .0, omega (arith, fits s .sizes .records-most), disk .ensures .1 (c .before .if1 .taken))
+mul-framed-once : tie.Need-mul-framed-once
+mul-framed-once c =
+    let start = c .before .before .before .before .before .before .before .before .before .before .before .before .before .before .before .before .before .before .before .before .before in
+    omega (arith, pages-most (start .args .z) (fits start .sizes))
+
+framed-once-requires : tie.Need-framed-once-requires
+framed-once-requires c κs =
+    let start = c .before .before .before .before .before .before .before .before .before .before .before .before .before .before .before .before .before .before .before .before .before .before in
+    (omega (arith, fits start .sizes .frames-most), omega (arith, length-replicate {A = ℕ} 512 0, pages-most (start .args .z) (fits start .sizes)), λ k h. zeros 512 k)
 
 returns-2 : tie.Need-returns-2
 returns-2 c =
-    let s = c .before .before .before .before .before .before .before .before .before .before .before .before .before .before .before .before .before .before .before .before .before .before .before in
-    no-files (s .args .z) (lent s) (fits s) (sym (c .if2 .left) ∙ c .before .files .ensures)
+    let start = c .before .before .before .before .before .before .before .before .before .before .before .before .before .before .before .before .before .before .before .before .before .before .before .before .before in
+    let if2 = c .if2 in
+    let framed-once = c .before .before .framed-once in
+    no-framed (start .args .z) (lent start) (fits start) (frameAt (start .args .frames)) (same start) (sym (if2 .left) ∙ framed-once .ensures .0)
 
-frames-requires : tie.Need-frames-requires
-frames-requires c κs =
-    let s = c .before .before .before .before .before .before .before .before .before .before .before .before .before .before .before .before .before .before .before .before .before .before .before .before in
-    (frames-long (s .args .z) (lent s) (fits s), (learn _ (sym (c .before .if2 .taken) ∙ c .before .before .files .ensures)) .0 .0 .0, omega (arith, length-replicate {A = ℕ} 512 0, pages-most (s .args .z) (fits s .sizes)), λ k h. zeros 512 k)
+files-requires : tie.Need-files-requires
+files-requires c κs =
+    let start = c .before .before .before .before .before .before .before .before .before .before .before .before .before .before .before .before .before .before .before .before .before .before .before .before .before .before .before in
+    let if1 = c .before .before .before .before .before .before .before .if1 in
+    let disk = c .before .before .before .before .before .before .before .before .before .disk in
+    (files-long (start .args .z) (lent start) (fits start), (learn _ (sym (if1 .taken) ∙ disk .ensures .0)) .0 .0, omega (arith, fits start .sizes .records-most), disk .ensures .1 (if1 .taken), omega (arith, pages-most (start .args .z) (fits start .sizes)), λ x h. (learn _ (sym (if1 .taken) ∙ disk .ensures .0)) .1 .0 x h .1)
 
 returns-3 : tie.Need-returns-3
 returns-3 c =
-    let s = c .before .before .before .before .before .before .before .before .before .before .before .before .before .before .before .before .before .before .before .before .before .before .before .before .before .before .before in
-    no-frames (s .args .z) (lent s) (fits s) (frameAt (s .args .frames)) (same s) (sym (c .if3 .left) ∙ c .before .before .frames .ensures .0)
+    let start = c .before .before .before .before .before .before .before .before .before .before .before .before .before .before .before .before .before .before .before .before .before .before .before .before .before .before .before .before .before in
+    let if3 = c .if3 in
+    let files = c .before .files in
+    no-files (start .args .z) (lent start) (fits start) (sym (if3 .left) ∙ files .ensures .0)
 
-counts-requires : tie.Need-counts-requires
-counts-requires c κs =
-    let frames = c .before .before .before .frames in
-    let if2 = c .before .before .before .before .before .if2 in
-    let files = c .before .before .before .before .before .before .files in
-    let if1 = c .before .before .before .before .before .before .before .before .if1 in
-    let disk = c .before .before .before .before .before .before .before .before .before .before .disk in
-    let s = c .before .before .before .before .before .before .before .before .before .before .before .before .before .before .before .before .before .before .before .before .before .before .before .before .before .before .before .before in
-    (counts-long (s .args .z) (lent s) (fits s), framed-fit (s .args .z) (lent s) (fits s) (frameAt (s .args .frames)) (same s) _ (omega (arith, pages-most (s .args .z) (fits s .sizes))) (learn _ (sym (if2 .taken) ∙ files .ensures)) (learn _ (sym (c .before .if3 .taken) ∙ frames .ensures .0)) (frames .ensures .1 (c .before .if3 .taken)), λ x h. (learn _ (sym (if1 .taken) ∙ disk .ensures .0)) .1 .0 x h .1)
+frames-requires : tie.Need-frames-requires
+frames-requires c κs =
+    let start = c .before .before .before .before .before .before .before .before .before .before .before .before .before .before .before .before .before .before .before .before .before .before .before .before .before .before .before .before .before in
+    let if3 = c .if3 in
+    let files = c .before .files in
+    let if2 = c .before .before .before .before .if2 in
+    let framed-once = c .before .before .before .before .before .before .framed-once in
+    (frames-long (start .args .z) (lent start) (fits start), rw (fits start .memory .addresses) ((learn _ (sym (if3 .taken) ∙ files .ensures .0)) .0 .1 .0 .0), learn (distinct (start .args .z .frames) (start .args .z .slots * start .args .z .pages) (λ f. frameAt (start .args .frames) f .page)) (sym (if2 .taken) ∙ framed-once .ensures .0))
 
 returns-4 : tie.Need-returns-4
 returns-4 c =
-    let frames = c .before .before .before .before .frames in
-    let if2 = c .before .before .before .before .before .before .if2 in
-    let files = c .before .before .before .before .before .before .before .files in
-    let if1 = c .before .before .before .before .before .before .before .before .before .if1 in
-    let disk = c .before .before .before .before .before .before .before .before .before .before .before .disk in
-    let s = c .before .before .before .before .before .before .before .before .before .before .before .before .before .before .before .before .before .before .before .before .before .before .before .before .before .before .before .before .before in
-    counts-decide (s .args .z) (lent s) (fits s) (frameAt (s .args .frames)) (same s) (frames .last .1 .1 .0) _ (frames .ensures .1 (c .before .before .if3 .taken)) (learn _ (sym (if1 .taken) ∙ disk .ensures .0)) (learn _ (sym (if2 .taken) ∙ files .ensures)) (learn _ (sym (c .before .before .if3 .taken) ∙ frames .ensures .0)) (c .counts .ensures)
+    let start = c .before .before .before .before .before .before .before .before .before .before .before .before .before .before .before .before .before .before .before .before .before .before .before .before .before .before .before .before .before .before .before in
+    let if4 = c .if4 in
+    let frames = c .before .frames in
+    no-frames (start .args .z) (lent start) (fits start) (frameAt (start .args .frames)) (same start) (sym (if4 .left) ∙ frames .ensures)
+
+counts-requires : tie.Need-counts-requires
+counts-requires c κs =
+    let start = c .before .before .before .before .before .before .before .before .before .before .before .before .before .before .before .before .before .before .before .before .before .before .before .before .before .before .before .before .before .before .before .before in
+    counts-long (start .args .z) (lent start) (fits start)
+
+returns-5 : tie.Need-returns-5
+returns-5 c =
+    let start = c .before .before .before .before .before .before .before .before .before .before .before .before .before .before .before .before .before .before .before .before .before .before .before .before .before .before .before .before .before .before .before .before .before in
+    let framed-once = c .before .before .before .before .before .before .before .before .before .before .framed-once in
+    let files = c .before .before .before .before .before .files in
+    let if2 = c .before .before .before .before .before .before .before .before .if2 in
+    let if1 = c .before .before .before .before .before .before .before .before .before .before .before .before .before .if1 in
+    let disk = c .before .before .before .before .before .before .before .before .before .before .before .before .before .before .before .disk in
+    let if3 = c .before .before .before .before .if3 in
+    let if4 = c .before .before .if4 in
+    let frames = c .before .before .before .frames in
+    let counts = c .counts in
+    counts-decide (start .args .z) (lent start) (fits start) (frameAt (start .args .frames)) (same start) (framed-once .last .1 .1 .1 .0) (files .result .used) _ (framed-once .ensures .1 (if2 .taken)) (learn _ (sym (if1 .taken) ∙ disk .ensures .0)) (learn _ (sym (if3 .taken) ∙ files .ensures .0)) (learn _ (sym (if4 .taken) ∙ frames .ensures)) (files .ensures .1 (if3 .taken)) (counts .ensures)
 
 pub all-rules-spec : {M : Type 1} → statement M
-all-rules-spec = tie.close (tie.spec (λ c. search needs) disk-requires returns (λ c. search needs) files-requires returns-2 (λ c. search needs) frames-requires returns-3 (λ c. search needs) counts-requires returns-4)
+all-rules-spec = tie.close (tie.spec (λ c. search needs) disk-requires returns mul-framed-once (λ c. search needs) framed-once-requires returns-2 (λ c. search needs) (λ c. search needs) files-requires returns-3 frames-requires returns-4 counts-requires returns-5)

@@ -11,9 +11,8 @@ use Rattle.passes.proofs.counts.charged.Tie as tie
 
 returns : tie.Need-returns
 returns c =
-    let pre = c .before .before .before .pre in
     let args = c .before .before .before .args in
-    no-address (args .address) (bitOf (args .in-frames .now) (args .i)) (at (args .states .now)) (c .if1 .taken) (pre .2 (c .if1 .taken))
+    no-address (args .address) (bitOf (args .in-frames .now) (args .i)) (at (args .states .now)) (c .if1 .taken)
 
 returns-2 : tie.Need-returns-2
 returns-2 c =

@@ -7,8 +7,8 @@ use lib.ListN.{length}
 use Rattle.tables.specs.Turn.{named-none}
 use Rattle.passes.proofs.Entries.{fit-le, part}
 use Rattle.passes.proofs.Words.{in-transfer, modified, no-record, has-record}
-use Rattle.passes.proofs.clean.frame_ok.Statement.{statement}
-use Rattle.passes.proofs.clean.frame_ok.Tie as tie
+use Rattle.passes.proofs.clean.clean.Statement.{statement}
+use Rattle.passes.proofs.clean.clean.Tie as tie
 
 returns : tie.Need-returns
 returns c = named-none _ _ (c .if1 .taken)
@@ -59,8 +59,8 @@ returns-5 c =
     let args = c .before .before .before .before .before .before .before .before .before .before .before .before .before .before .before .args in
     has-record (args .w) (args .x) (args .f) (args .words .now) (args .records .now) (args .addresses .now) (args .states .now) (if1 .left) (if2 .left) (if3 .left) _ (c .before .before .if4 .left) (c .content-ok .ensures)
 
-pub frame-ok-spec : {M : Type 1} → statement M
-frame-ok-spec =
+pub clean-spec : {M : Type 1} → statement M
+clean-spec =
     tie.close
     (tie.spec
     returns

@@ -8,8 +8,8 @@ use Rattle.tables.specs.Base.{at}
 use Rattle.tables.specs.Turn.{Passed, none, again, fails, done}
 use Rattle.passes.specs.Passes.{queueEntry}
 use Rattle.passes.proofs.Places.{next-entry}
-use Rattle.passes.proofs.queues.queue_ok.Statement.{statement}
-use Rattle.passes.proofs.queues.queue_ok.Tie as tie
+use Rattle.passes.proofs.queues.queue.Statement.{statement}
+use Rattle.passes.proofs.queues.queue.Tie as tie
 
 abbrev Inv-loop : tie.InvT-loop
 Inv-loop frames entries k₀ k = Passed k (λ i. queueEntry frames (at entries i) (at entries (suc i)))
@@ -33,8 +33,8 @@ loop-again c =
 returns-2 : tie.Need-returns-2 Inv-loop μ-loop
 returns-2 c = done _ _ _ (c .before .loop .inv) (c .loop-test .left)
 
-pub queue-ok-spec : {M : Type 1} → statement M
-queue-ok-spec =
+pub queue-spec : {M : Type 1} → statement M
+queue-spec =
     tie.close
     (tie.spec
     Inv-loop

@@ -7,8 +7,8 @@ use lib.ListN.{length}
 use Rattle.model.specs.State.{frameAt}
 use Rattle.passes.specs.Passes.{cleanFrame}
 use Rattle.passes.proofs.Entries.{fit-le, part}
-use Rattle.passes.proofs.clean.frames_ok.Statement.{statement}
-use Rattle.passes.proofs.clean.frames_ok.Tie as tie
+use Rattle.passes.proofs.clean.all_clean.Statement.{statement}
+use Rattle.passes.proofs.clean.all_clean.Tie as tie
 
 abbrev Inv-loop : tie.InvT-loop
 Inv-loop w count words records addresses states frames f₀ f = Passed f (λ k. cleanFrame w (frameAt frames k) k words records addresses states)
@@ -16,8 +16,8 @@ Inv-loop w count words records addresses states frames f₀ f = Passed f (λ k. 
 abbrev μ-loop : tie.MeasureT-loop
 μ-loop w count words records addresses states frames f₀ f = count - f
 
-frame-ok-requires : tie.Need-frame-ok-requires Inv-loop μ-loop
-frame-ok-requires c κs =
+clean-requires : tie.Need-clean-requires Inv-loop μ-loop
+clean-requires c κs =
     let args = c .before .before .before .before .before .before .before .args in
     let pre = c .before .before .before .before .before .before .before .pre in
     (part (c .before .before .loop .f) (args .count) (args .w) (length (args .words .now)) (c .before .loop-test .taken) (pre .1), pre .2, fit-le _ _ (λ k. frameAt (args .t3) k .page) (pre .3) (c .before .before .loop .f) (c .before .loop-test .taken), pre .4)
@@ -26,18 +26,18 @@ returns : tie.Need-returns Inv-loop μ-loop
 returns c =
     let loop-test = c .before .before .before .loop-test in
     let loop = c .before .before .before .before .loop in
-    fails (loop .f) _ _ (loop-test .taken) (sym (c .if1 .left) ∙ c .before .frame-ok .ensures)
+    fails (loop .f) _ _ (loop-test .taken) (sym (c .if1 .left) ∙ c .before .clean .ensures)
 
 loop-again : tie.Need-loop-again Inv-loop μ-loop
 loop-again c =
     let loop = c .before .before .before .before .loop in
-    again _ _ (loop .inv) (sym (c .if1 .taken) ∙ c .before .frame-ok .ensures)
+    again _ _ (loop .inv) (sym (c .if1 .taken) ∙ c .before .clean .ensures)
 
 returns-2 : tie.Need-returns-2 Inv-loop μ-loop
 returns-2 c = done _ _ _ (c .before .loop .inv) (c .loop-test .left)
 
-pub frames-ok-spec : {M : Type 1} → statement M
-frames-ok-spec =
+pub all-clean-spec : {M : Type 1} → statement M
+all-clean-spec =
     tie.close
     (tie.spec
     Inv-loop
@@ -45,7 +45,7 @@ frames-ok-spec =
     (λ c. none _)
     (λ c. search needs)
     (λ c. search needs)
-    frame-ok-requires
+    clean-requires
     returns
     (λ c. search needs)
     (λ c. search needs)
