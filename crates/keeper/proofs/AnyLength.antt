@@ -110,8 +110,11 @@ module _ (z : Sizes) (ys : List Frame) (before : State) where
         ∙ ap (λ (o : Outcome State). record { answer = o .answer; left = withFrames ys (o .left) }) kept
         ∙ sym (refuses (withFrames ys before) (unfit-lent h))
 
-    pub whole : record { answer = r; left = withFrames (saved ys fs) after } ≡ G (withFrames ys before)
-    whole = elim (decLe n 64) [
+    saved-whole : record { answer = r; left = withFrames (saved ys fs) after } ≡ G (withFrames ys before)
+    saved-whole = elim (decLe n 64) [
       | yes h ↦ ap (λ (f : List Frame). record { answer = r; left = withFrames f after }) (sym (saved-frames ys fs l h)) ∙ e ∙ ap (λ (f : List Frame). G (withFrames f before)) (loaded-frames ys h)
       | no h ↦ more (omega (arith, h))
     ]
+
+    pub whole : (zs : List Frame) → zs ≡ saved ys fs → record { answer = r; left = withFrames zs after } ≡ G (withFrames ys before)
+    whole zs same = ap (λ (f : List Frame). record { answer = r; left = withFrames f after }) same ∙ saved-whole

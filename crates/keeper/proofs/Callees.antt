@@ -1,6 +1,7 @@
 -- What the walks of the calls know of `load`, `save`, `take` and `deposit`: that each meets its contract.
 --     Load, ..        the contract           to-load, ..        what it binds outside
 --     goes-load, ..   a caller that lends what it asks has it           load-of, ..   what it leaves
+--     cited-load, ..  it is what its name calls
 -- Assumes `Given`.
 use mathlib.Core.Path.{_≡_, refl}
 use Prim.Native.Nat.{ℕ}
@@ -12,10 +13,12 @@ use mir.Val.{Val, vptr}
 use base.Logic.{SProp, ent, sep, guard, ex, id⊢, exE, snd∗}
 use base.Fml.{Lft, Share, flft, fres}
 use prog.Memory.{Memory}
-use prog.Routine.{Routine}
+use prog.Model.{Model}
+use prog.Routine.{Routine, Env}
 use prog.Wp.{Heap}
 use ghost.Atoms.{Atoms, sem}
 use contract.Monad.{Fun, fact}
+use contract.Running.{GhostRules, Running, tables}
 use types.Kit.{Given, ‵, raw, _⊛_, some, _$_, _∵_, !, qed, move, keep, drop, use1, split, join, pick, show, check, rewrite, fsplit, fjoin, feqL, frame, done}
 use denote.RattleType.{RattleType}
 use denote.Laws.{Is}
@@ -25,7 +28,8 @@ use denote.Steps.{owned, heard, nothing}
 use denote.Struct.Laws as LL
 use denote.Triple.Clauses.{ensured, lasts}
 use denote.Triple.Spec.{tripleOf}
-use denote.Triple.Statement.{Contract}
+use denote.Triple.Statement.{Contract, Triple}
+use denote.Triple.Table.{cited}
 use Rattle.model.specs.declared.frame.Frame.{Frame}
 use Rattle.model.specs.declared.frame.Pool.{Pool}
 use Rattle.model.proofs.frame.Pool as TP
@@ -34,9 +38,21 @@ use Rattle.keeper.specs.Copies.{loaded, saved}
 use Rattle.keeper.proofs.Row.{F}
 use Rattle.keeper.proofs.Row64.{F64, makes64}
 use Rattle.keeper.proofs.frames.load as load′
+use Rattle.keeper.proofs.frames.load.Symbol as load-def
+use Rattle.keeper.proofs.frames.load.Symbol.{name as #load}
+use Rattle.keeper.proofs.frames.load.Met as load-thm
 use Rattle.keeper.proofs.frames.save as save
+use Rattle.keeper.proofs.frames.save.Symbol as save-def
+use Rattle.keeper.proofs.frames.save.Symbol.{name as #save}
+use Rattle.keeper.proofs.frames.save.Met as save-thm
 use Rattle.keeper.proofs.pool.take as take
+use Rattle.keeper.proofs.pool.take.Symbol as take-def
+use Rattle.keeper.proofs.pool.take.Symbol.{name as #take}
+use Rattle.keeper.proofs.pool.take.Met as take-thm
 use Rattle.keeper.proofs.pool.deposit as deposit
+use Rattle.keeper.proofs.pool.deposit.Symbol as deposit-def
+use Rattle.keeper.proofs.pool.deposit.Symbol.{name as #deposit}
+use Rattle.keeper.proofs.pool.deposit.Met as deposit-thm
 
 abbrev pub P : RattleType
 P = TP.the-row
@@ -123,3 +139,16 @@ module _ {M : Type 1} (𝓤 : URA M) (H : Heap 𝓤) (A : Atoms 𝓤) (at-mem : 
         qed W (raw (ensured 𝓤 H A deposit.ended (deposit.clauses 𝓤 H A at-mem run) (κ, tt) (x, (new, tt)) tt u) ∷ []) ∵
         use1 W (some (λ (ws : Pool × (Unit {0} × Unit {0})). ‵ (lasts deposit.ended (κ, tt) (x, (new, tt)) ws) ⊛ raw (fact 𝓤 (ws .0 ≡ new)))) (id⊢ 𝓤 _) $ pick ! (λ ws.
         split ! $ move ! (1 ∷ []) $ heard ! (ws .0 ≡ new) (λ e. fsplit ! $ rewrite ! 0 (λ (y : Pool). ‵ (fres (name x) (P .coded .code y))) e refl $ keep ! (0 ∷ []) $ done !))
+
+module _ {M : Type 1} (𝓤 : URA M) (H : Heap 𝓤) (𝓜 : Model 𝓤 H) (𝓖 : GhostRules 𝓤 H) (𝓡 : Running 𝓤 H 𝓜) (γ : Env) where
+  pub cited-load : γ #load ≡ load-def.routine → Triple 𝓤 (tables 𝓤 H 𝓜 𝓡 γ .C #load) (Load 𝓤 H (𝓖 .A) (𝓜 .mem) (𝓡 .run))
+  cited-load is = cited 𝓤 H (Load 𝓤 H (𝓖 .A) (𝓜 .mem) (𝓡 .run)) 𝓜 𝓡 γ #load load-def.routine is (load-thm.met 𝓤 H 𝓜 𝓖 𝓡)
+
+  pub cited-save : γ #save ≡ save-def.routine → Triple 𝓤 (tables 𝓤 H 𝓜 𝓡 γ .C #save) (Save 𝓤 H (𝓖 .A) (𝓜 .mem) (𝓡 .run))
+  cited-save is = cited 𝓤 H (Save 𝓤 H (𝓖 .A) (𝓜 .mem) (𝓡 .run)) 𝓜 𝓡 γ #save save-def.routine is (save-thm.met 𝓤 H 𝓜 𝓖 𝓡)
+
+  pub cited-take : γ #take ≡ take-def.routine → Triple 𝓤 (tables 𝓤 H 𝓜 𝓡 γ .C #take) (Take 𝓤 H (𝓖 .A) (𝓜 .mem) (𝓡 .run))
+  cited-take is = cited 𝓤 H (Take 𝓤 H (𝓖 .A) (𝓜 .mem) (𝓡 .run)) 𝓜 𝓡 γ #take take-def.routine is (take-thm.met 𝓤 H 𝓜 𝓖 𝓡)
+
+  pub cited-deposit : γ #deposit ≡ deposit-def.routine → Triple 𝓤 (tables 𝓤 H 𝓜 𝓡 γ .C #deposit) (Deposit 𝓤 H (𝓖 .A) (𝓜 .mem) (𝓡 .run))
+  cited-deposit is = cited 𝓤 H (Deposit 𝓤 H (𝓖 .A) (𝓜 .mem) (𝓡 .run)) 𝓜 𝓡 γ #deposit deposit-def.routine is (deposit-thm.met 𝓤 H 𝓜 𝓖 𝓡)

@@ -2,12 +2,15 @@
 --     copied-next      a store of src[i] at i makes it the same at i + 1.        copied-length     its length is dst's
 --     left-next, left-all      the index i = n - t, where t of n turns are left
 --     capped-le, capped-64     the number of frames that are copied
+--     goes-on, stops           the test at the head of the loop
 -- Assumes nothing.
 use mathlib.Core.Path.{_≡_, refl, ap}
+use mathlib.Core.Bool.{Bool, true, false}
 use mathlib.Core.List.{List, [], _∷_}
 use Prim.Native.Nat.{ℕ, zero, suc, _-_, _≤_, _<_}
-use native.Mathlib.Nat.{not-suc-le-zero, le-of-suc-le-suc}
+use native.Mathlib.Nat.{lt-irrefl, not-suc-le-zero, le-of-suc-le-suc}
 use native.Mathlib.Omega.{arith}
+use lib.Dec.{T as Holds, ltb, lt→ltb, ltb→lt}
 use lib.ListN.{length, getD, set}
 use Rattle.keeper.specs.Copies.{capped, copied}
 
@@ -25,6 +28,20 @@ capped-le n = omega arith
 pub capped-64 : (n : ℕ) → capped n ≤ 64
 unfolding capped
 capped-64 n = omega arith
+
+holds : (t : Bool) → Holds t → t ≡ true
+holds true _ = refl
+holds false a = absurd a
+
+fails : (t : Bool) → (Holds t → ⊥) → t ≡ false
+fails true f = absurd (f tt)
+fails false _ = refl
+
+pub goes-on : (i m : ℕ) → i < m → ltb i m ≡ true
+goes-on i m l = holds (ltb i m) (lt→ltb i m l)
+
+pub stops : (m : ℕ) → ltb m m ≡ false
+stops m = fails (ltb m m) (λ a. lt-irrefl m (ltb→lt m m a))
 
 module _ {X : Type 0} where
   pub copied-next : (src dst : List X) (i : ℕ) (d : X) → i < length src → i < length dst → set (copied i src dst) i (getD src i d) ≡ copied (suc i) src dst
