@@ -3,6 +3,7 @@ pub mod Row64
 pub mod Copied
 pub mod Capped
 pub mod Shared
+pub mod Reborrowed
 pub mod AnyLength
 pub mod Refused
 pub mod Callees

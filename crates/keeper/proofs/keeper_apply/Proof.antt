@@ -19,7 +19,7 @@ use contract.Monad.{Fun, fact}
 use contract.Running.{givenOf, tables, tablesOf}
 use types.Kit.{Given, ‵, raw, given, _⊛_, some, later, ⋆, _$_, _∵_, !, qed, by, move, keep, drop, use1, use2, use3, split, join, pick, learn, show, check, rewrite, fsplit, fjoin, feqL, suffices, frame, await, done}
 use types.Tokens.{lft-new, lft-end}
-use types.Part.{whole, sub, look-in, agg}
+use types.Part.{whole, sub, look-in}
 use types.Run.{look, init, store, forget, stop, hop, fld, from, load, and-then, no-more, of-opd, addr, assigns, land, returns, enter, alloc1, alloc0, params1, pass1, pass0, free1, free0}
 use denote.Lend.{LentAgain, lends-again, comes-back}
 use sound.WpLaws.{FmC, fmOf, WpFn-mono}
@@ -60,6 +60,7 @@ use Rattle.keeper.proofs.Row.{F}
 use Rattle.keeper.proofs.Row64.{F64, makes64, typed64}
 use Rattle.keeper.proofs.ByValue.{Z, Q, sizes-val, sizes-vals, sizes-tells, makes-sizes, typed-sizes, request-val, request-vals, request-tells, makes-request, typed-request}
 use Rattle.keeper.proofs.Shared.{SharedAgain, shares-again, comes-home}
+use Rattle.keeper.proofs.Reborrowed.{reborrows}
 use Rattle.keeper.proofs.AnyLength.{whole as of-any-length}
 use Rattle.keeper.proofs.Refused.{apply-refuses}
 use Rattle.keeper.proofs.Handed.{An, O, fs-val, pool-val, answer-val, Fields, fields, typed-pool, typed-answer, typed-out}
@@ -175,8 +176,7 @@ module _ {M : Type 1} (𝓤 : URA M) (H : Heap 𝓤) (A : Atoms 𝓤) (W : Given
         pass1 ! (init ! 124 refl (typed-sizes 𝓤 H A W z is-z)) $ pass1 ! (init ! 122 refl (typed-request 𝓤 H A W request is-req)) $ pass1 ! (init ! 120 refl (tt, (tt, (record { fits = roomf .0 }, tt)))) $ pass1 ! (init ! 118 refl (tt, tt)) $ pass1 ! (init ! 116 refl (tt, (tt, (record { fits = room0 .0 }, tt)))) $ pass1 ! (init ! 114 refl (tt, (tt, (record { fits = room1 .0 }, tt)))) $ pass1 ! (init ! 112 refl (tt, (tt, (record { fits = room2 .0 }, tt)))) $ pass1 ! (init ! 110 refl (tt, (tt, (record { fits = room3 .0 }, tt)))) $ pass1 ! (init ! 108 refl (tt, (tt, (record { fits = room4 .0 }, tt)))) $ pass1 ! (init ! 106 refl (tt, (tt, (record { fits = room5 .0 }, tt)))) $ pass1 ! (init ! 104 refl (tt, (tt, (record { fits = room6 .0 }, tt)))) $ pass1 ! (init ! 102 refl (tt, (tt, (record { fits = room7 .0 }, tt)))) $ pass1 ! (init ! 100 refl (tt, (tt, (record { fits = room8 .0 }, tt)))) $ pass1 ! (init ! 98 refl (tt, (tt, (record { fits = room9 .0 }, tt)))) $ pass1 ! (init ! 96 refl (tt, (tt, (record { fits = room10 .0 }, tt)))) $ pass1 ! (init ! 94 refl (tt, (tt, (record { fits = room11 .0 }, tt)))) $ pass1 ! (init ! 92 refl (tt, (tt, (record { fits = room12 .0 }, tt)))) $ pass1 ! (init ! 90 refl (tt, (tt, (record { fits = room13 .0 }, tt)))) $ pass1 ! (init ! 88 refl (tt, (tt, (record { fits = room14 .0 }, tt)))) $ pass1 ! (init ! 86 refl (tt, (tt, (record { fits = room15 .0 }, tt)))) $ pass0 ! $
         -- [_63 at 0; …; _i at 2 · (63 − i); …; what frames owns; …]
         assigns ! (of-opd ! (load ! (from ! (fld ! refl (stop !))) (look-in ! 120 (sub ! 1 refl (whole !))))) (from ! (stop !)) (init ! 84 refl (tt, record { fits = roomf .0 })) $
-        assigns ! (addr ! (from ! (fld ! refl (hop ! (look-in ! 120 (sub ! 0 refl (whole !))) (stop !))))) (from ! (stop !)) (init ! 76 refl (tt, tt)) $
-        assigns ! (agg ! (and-then ! (load ! (from ! (stop !)) (look ! 76 refl)) (and-then ! (load ! (from ! (fld ! refl (stop !))) (look-in ! 120 (sub ! 1 refl (whole !)))) (no-more !)))) (from ! (stop !)) (init ! 74 refl (tt, (tt, (record { fits = roomf .0 }, tt)))) $
+        reborrows ! 120 76 74 refl (sub ! 0 refl (whole !)) refl (tt, tt) refl refl (sub ! 1 refl (whole !)) refl (tt, (tt, (record { fits = roomf .0 }, tt))) $
         -- `load`: frames is lent as a `&` for a lifetime ν of the call
         lft-new ! tt (λ ν. move ! (129 ∷ 130 ∷ []) $
         use2 W (later (some (λ (δ : GName). ‵ (ShrSlice (named 0) (ν ∷ []) F .own (xf δ) (sf ∷ [])) ⊛ ‵ (SharedAgain F κ0 (ν ∷ []) q0 γf bf of′ ys)))) (shares-again F κ0 (ν ∷ []) q0 γf bf of′ 𝓤 H A W (named 0) (named 0) ys) $ await ! tt $ pick ! (λ δ. split ! $
@@ -199,38 +199,22 @@ module _ {M : Type 1} (𝓤 : URA M) (H : Heap 𝓤) (A : Atoms 𝓤) (W : Given
         land ! (from ! (stop !)) (init ! 86 refl (typed-pool 𝓤 H A W p t was)) $
         split ! $ lft-end ! tt $ move ! (0 ∷ 3 ∷ 2 ∷ []) $ use3 W (later (‵ (MutRef (named 1) κ1 P .own xp (vptr bp op ∷ [])) ⊛ ‵ (flft κ1 q1))) (comes-back 𝓤 H A W P (named 1) κ1 (α ∷ []) q1 γp bp op δ′ p p) $ await ! tt $ split ! $
         -- the slices are reborrowed
-        assigns ! (addr ! (from ! (fld ! refl (hop ! (look-in ! 122 (sub ! 0 refl (whole !))) (stop !))))) (from ! (stop !)) (init ! 76 refl (tt, tt)) $
-        assigns ! (agg ! (and-then ! (load ! (from ! (stop !)) (look ! 76 refl)) (and-then ! (load ! (from ! (fld ! refl (stop !))) (look-in ! 122 (sub ! 1 refl (whole !)))) (no-more !)))) (from ! (stop !)) (init ! 74 refl (tt, (tt, (record { fits = room0 .0 }, tt)))) $
-        assigns ! (addr ! (from ! (fld ! refl (hop ! (look-in ! 120 (sub ! 0 refl (whole !))) (stop !))))) (from ! (stop !)) (init ! 72 refl (tt, tt)) $
-        assigns ! (agg ! (and-then ! (load ! (from ! (stop !)) (look ! 72 refl)) (and-then ! (load ! (from ! (fld ! refl (stop !))) (look-in ! 120 (sub ! 1 refl (whole !)))) (no-more !)))) (from ! (stop !)) (init ! 70 refl (tt, (tt, (record { fits = room1 .0 }, tt)))) $
-        assigns ! (addr ! (from ! (fld ! refl (hop ! (look-in ! 118 (sub ! 0 refl (whole !))) (stop !))))) (from ! (stop !)) (init ! 68 refl (tt, tt)) $
-        assigns ! (agg ! (and-then ! (load ! (from ! (stop !)) (look ! 68 refl)) (and-then ! (load ! (from ! (fld ! refl (stop !))) (look-in ! 118 (sub ! 1 refl (whole !)))) (no-more !)))) (from ! (stop !)) (init ! 66 refl (tt, (tt, (record { fits = room2 .0 }, tt)))) $
-        assigns ! (addr ! (from ! (fld ! refl (hop ! (look-in ! 116 (sub ! 0 refl (whole !))) (stop !))))) (from ! (stop !)) (init ! 64 refl (tt, tt)) $
-        assigns ! (agg ! (and-then ! (load ! (from ! (stop !)) (look ! 64 refl)) (and-then ! (load ! (from ! (fld ! refl (stop !))) (look-in ! 116 (sub ! 1 refl (whole !)))) (no-more !)))) (from ! (stop !)) (init ! 62 refl (tt, (tt, (record { fits = room3 .0 }, tt)))) $
-        assigns ! (addr ! (from ! (fld ! refl (hop ! (look-in ! 114 (sub ! 0 refl (whole !))) (stop !))))) (from ! (stop !)) (init ! 60 refl (tt, tt)) $
-        assigns ! (agg ! (and-then ! (load ! (from ! (stop !)) (look ! 60 refl)) (and-then ! (load ! (from ! (fld ! refl (stop !))) (look-in ! 114 (sub ! 1 refl (whole !)))) (no-more !)))) (from ! (stop !)) (init ! 58 refl (tt, (tt, (record { fits = room4 .0 }, tt)))) $
-        assigns ! (addr ! (from ! (fld ! refl (hop ! (look-in ! 112 (sub ! 0 refl (whole !))) (stop !))))) (from ! (stop !)) (init ! 56 refl (tt, tt)) $
-        assigns ! (agg ! (and-then ! (load ! (from ! (stop !)) (look ! 56 refl)) (and-then ! (load ! (from ! (fld ! refl (stop !))) (look-in ! 112 (sub ! 1 refl (whole !)))) (no-more !)))) (from ! (stop !)) (init ! 54 refl (tt, (tt, (record { fits = room5 .0 }, tt)))) $
-        assigns ! (addr ! (from ! (fld ! refl (hop ! (look-in ! 110 (sub ! 0 refl (whole !))) (stop !))))) (from ! (stop !)) (init ! 52 refl (tt, tt)) $
-        assigns ! (agg ! (and-then ! (load ! (from ! (stop !)) (look ! 52 refl)) (and-then ! (load ! (from ! (fld ! refl (stop !))) (look-in ! 110 (sub ! 1 refl (whole !)))) (no-more !)))) (from ! (stop !)) (init ! 50 refl (tt, (tt, (record { fits = room6 .0 }, tt)))) $
-        assigns ! (addr ! (from ! (fld ! refl (hop ! (look-in ! 108 (sub ! 0 refl (whole !))) (stop !))))) (from ! (stop !)) (init ! 48 refl (tt, tt)) $
-        assigns ! (agg ! (and-then ! (load ! (from ! (stop !)) (look ! 48 refl)) (and-then ! (load ! (from ! (fld ! refl (stop !))) (look-in ! 108 (sub ! 1 refl (whole !)))) (no-more !)))) (from ! (stop !)) (init ! 46 refl (tt, (tt, (record { fits = room7 .0 }, tt)))) $
-        assigns ! (addr ! (from ! (fld ! refl (hop ! (look-in ! 106 (sub ! 0 refl (whole !))) (stop !))))) (from ! (stop !)) (init ! 44 refl (tt, tt)) $
-        assigns ! (agg ! (and-then ! (load ! (from ! (stop !)) (look ! 44 refl)) (and-then ! (load ! (from ! (fld ! refl (stop !))) (look-in ! 106 (sub ! 1 refl (whole !)))) (no-more !)))) (from ! (stop !)) (init ! 42 refl (tt, (tt, (record { fits = room8 .0 }, tt)))) $
-        assigns ! (addr ! (from ! (fld ! refl (hop ! (look-in ! 104 (sub ! 0 refl (whole !))) (stop !))))) (from ! (stop !)) (init ! 40 refl (tt, tt)) $
-        assigns ! (agg ! (and-then ! (load ! (from ! (stop !)) (look ! 40 refl)) (and-then ! (load ! (from ! (fld ! refl (stop !))) (look-in ! 104 (sub ! 1 refl (whole !)))) (no-more !)))) (from ! (stop !)) (init ! 38 refl (tt, (tt, (record { fits = room9 .0 }, tt)))) $
-        assigns ! (addr ! (from ! (fld ! refl (hop ! (look-in ! 102 (sub ! 0 refl (whole !))) (stop !))))) (from ! (stop !)) (init ! 36 refl (tt, tt)) $
-        assigns ! (agg ! (and-then ! (load ! (from ! (stop !)) (look ! 36 refl)) (and-then ! (load ! (from ! (fld ! refl (stop !))) (look-in ! 102 (sub ! 1 refl (whole !)))) (no-more !)))) (from ! (stop !)) (init ! 34 refl (tt, (tt, (record { fits = room10 .0 }, tt)))) $
-        assigns ! (addr ! (from ! (fld ! refl (hop ! (look-in ! 100 (sub ! 0 refl (whole !))) (stop !))))) (from ! (stop !)) (init ! 32 refl (tt, tt)) $
-        assigns ! (agg ! (and-then ! (load ! (from ! (stop !)) (look ! 32 refl)) (and-then ! (load ! (from ! (fld ! refl (stop !))) (look-in ! 100 (sub ! 1 refl (whole !)))) (no-more !)))) (from ! (stop !)) (init ! 30 refl (tt, (tt, (record { fits = room11 .0 }, tt)))) $
-        assigns ! (addr ! (from ! (fld ! refl (hop ! (look-in ! 98 (sub ! 0 refl (whole !))) (stop !))))) (from ! (stop !)) (init ! 28 refl (tt, tt)) $
-        assigns ! (agg ! (and-then ! (load ! (from ! (stop !)) (look ! 28 refl)) (and-then ! (load ! (from ! (fld ! refl (stop !))) (look-in ! 98 (sub ! 1 refl (whole !)))) (no-more !)))) (from ! (stop !)) (init ! 26 refl (tt, (tt, (record { fits = room12 .0 }, tt)))) $
-        assigns ! (addr ! (from ! (fld ! refl (hop ! (look-in ! 96 (sub ! 0 refl (whole !))) (stop !))))) (from ! (stop !)) (init ! 24 refl (tt, tt)) $
-        assigns ! (agg ! (and-then ! (load ! (from ! (stop !)) (look ! 24 refl)) (and-then ! (load ! (from ! (fld ! refl (stop !))) (look-in ! 96 (sub ! 1 refl (whole !)))) (no-more !)))) (from ! (stop !)) (init ! 22 refl (tt, (tt, (record { fits = room13 .0 }, tt)))) $
-        assigns ! (addr ! (from ! (fld ! refl (hop ! (look-in ! 94 (sub ! 0 refl (whole !))) (stop !))))) (from ! (stop !)) (init ! 20 refl (tt, tt)) $
-        assigns ! (agg ! (and-then ! (load ! (from ! (stop !)) (look ! 20 refl)) (and-then ! (load ! (from ! (fld ! refl (stop !))) (look-in ! 94 (sub ! 1 refl (whole !)))) (no-more !)))) (from ! (stop !)) (init ! 18 refl (tt, (tt, (record { fits = room14 .0 }, tt)))) $
-        assigns ! (addr ! (from ! (fld ! refl (hop ! (look-in ! 92 (sub ! 0 refl (whole !))) (stop !))))) (from ! (stop !)) (init ! 16 refl (tt, tt)) $
-        assigns ! (agg ! (and-then ! (load ! (from ! (stop !)) (look ! 16 refl)) (and-then ! (load ! (from ! (fld ! refl (stop !))) (look-in ! 92 (sub ! 1 refl (whole !)))) (no-more !)))) (from ! (stop !)) (init ! 14 refl (tt, (tt, (record { fits = room15 .0 }, tt)))) $
+        reborrows ! 122 76 74 refl (sub ! 0 refl (whole !)) refl (tt, tt) refl refl (sub ! 1 refl (whole !)) refl (tt, (tt, (record { fits = room0 .0 }, tt))) $
+        reborrows ! 120 72 70 refl (sub ! 0 refl (whole !)) refl (tt, tt) refl refl (sub ! 1 refl (whole !)) refl (tt, (tt, (record { fits = room1 .0 }, tt))) $
+        reborrows ! 118 68 66 refl (sub ! 0 refl (whole !)) refl (tt, tt) refl refl (sub ! 1 refl (whole !)) refl (tt, (tt, (record { fits = room2 .0 }, tt))) $
+        reborrows ! 116 64 62 refl (sub ! 0 refl (whole !)) refl (tt, tt) refl refl (sub ! 1 refl (whole !)) refl (tt, (tt, (record { fits = room3 .0 }, tt))) $
+        reborrows ! 114 60 58 refl (sub ! 0 refl (whole !)) refl (tt, tt) refl refl (sub ! 1 refl (whole !)) refl (tt, (tt, (record { fits = room4 .0 }, tt))) $
+        reborrows ! 112 56 54 refl (sub ! 0 refl (whole !)) refl (tt, tt) refl refl (sub ! 1 refl (whole !)) refl (tt, (tt, (record { fits = room5 .0 }, tt))) $
+        reborrows ! 110 52 50 refl (sub ! 0 refl (whole !)) refl (tt, tt) refl refl (sub ! 1 refl (whole !)) refl (tt, (tt, (record { fits = room6 .0 }, tt))) $
+        reborrows ! 108 48 46 refl (sub ! 0 refl (whole !)) refl (tt, tt) refl refl (sub ! 1 refl (whole !)) refl (tt, (tt, (record { fits = room7 .0 }, tt))) $
+        reborrows ! 106 44 42 refl (sub ! 0 refl (whole !)) refl (tt, tt) refl refl (sub ! 1 refl (whole !)) refl (tt, (tt, (record { fits = room8 .0 }, tt))) $
+        reborrows ! 104 40 38 refl (sub ! 0 refl (whole !)) refl (tt, tt) refl refl (sub ! 1 refl (whole !)) refl (tt, (tt, (record { fits = room9 .0 }, tt))) $
+        reborrows ! 102 36 34 refl (sub ! 0 refl (whole !)) refl (tt, tt) refl refl (sub ! 1 refl (whole !)) refl (tt, (tt, (record { fits = room10 .0 }, tt))) $
+        reborrows ! 100 32 30 refl (sub ! 0 refl (whole !)) refl (tt, tt) refl refl (sub ! 1 refl (whole !)) refl (tt, (tt, (record { fits = room11 .0 }, tt))) $
+        reborrows ! 98 28 26 refl (sub ! 0 refl (whole !)) refl (tt, tt) refl refl (sub ! 1 refl (whole !)) refl (tt, (tt, (record { fits = room12 .0 }, tt))) $
+        reborrows ! 96 24 22 refl (sub ! 0 refl (whole !)) refl (tt, tt) refl refl (sub ! 1 refl (whole !)) refl (tt, (tt, (record { fits = room13 .0 }, tt))) $
+        reborrows ! 94 20 18 refl (sub ! 0 refl (whole !)) refl (tt, tt) refl refl (sub ! 1 refl (whole !)) refl (tt, (tt, (record { fits = room14 .0 }, tt))) $
+        reborrows ! 92 16 14 refl (sub ! 0 refl (whole !)) refl (tt, tt) refl refl (sub ! 1 refl (whole !)) refl (tt, (tt, (record { fits = room15 .0 }, tt))) $
         -- the work
         move ! (135 ∷ 134 ∷ []) $ use2 W (raw (Core 𝓤 H A at-mem run .pre (to-core v t))) (goes-core v t is-a was) $
         calls-at ! fm (Core 𝓤 H A at-mem run) known-core (to-core v t) (and-then ! (load ! (from ! (stop !)) (look ! 131 refl)) (and-then ! (load ! (from ! (stop !)) (look ! 129 refl)) (and-then ! (load ! (from ! (stop !)) (look ! 91 refl)) (and-then ! (load ! (from ! (stop !)) (look ! 89 refl)) (and-then ! (load ! (from ! (stop !)) (look ! 87 refl)) (and-then ! (load ! (from ! (stop !)) (look ! 75 refl)) (and-then ! (load ! (from ! (stop !)) (look ! 71 refl)) (and-then ! (load ! (from ! (stop !)) (look ! 67 refl)) (and-then ! (load ! (from ! (stop !)) (look ! 63 refl)) (and-then ! (load ! (from ! (stop !)) (look ! 59 refl)) (and-then ! (load ! (from ! (stop !)) (look ! 55 refl)) (and-then ! (load ! (from ! (stop !)) (look ! 51 refl)) (and-then ! (load ! (from ! (stop !)) (look ! 47 refl)) (and-then ! (load ! (from ! (stop !)) (look ! 43 refl)) (and-then ! (load ! (from ! (stop !)) (look ! 39 refl)) (and-then ! (load ! (from ! (stop !)) (look ! 35 refl)) (and-then ! (load ! (from ! (stop !)) (look ! 31 refl)) (and-then ! (load ! (from ! (stop !)) (look ! 27 refl)) (and-then ! (load ! (from ! (stop !)) (look ! 23 refl)) (and-then ! (load ! (from ! (stop !)) (look ! 19 refl)) (and-then ! (load ! (from ! (stop !)) (look ! 15 refl)) (no-more !)))))))))))))))))))))) (λ w.
@@ -239,8 +223,7 @@ module _ {M : Type 1} (𝓤 : URA M) (H : Heap 𝓤) (A : Atoms 𝓤) (W : Given
         move ! (1 ∷ []) $ split ! $ move ! (1 ∷ []) $ peeks ! O (Is O) (shows 𝓤 H A O) out (w ∷ []) (λ is-o. drop ! $
         -- [the slices' tokens; their last lists; pool; its token; …]
         land ! (from ! (stop !)) (init ! 86 refl (typed-out 𝓤 H A W out w is-o)) $ rewrite ! 86 (λ (u : Val). ‵ (fat fullShare TO′.mir l24 0 u)) (ap only (LL.tells TO.the-type TO′.the-laws out (w ∷ []) is-o)) refl $
-        assigns ! (addr ! (from ! (fld ! refl (hop ! (look-in ! 128 (sub ! 0 refl (whole !))) (stop !))))) (from ! (stop !)) (init ! 12 refl (tt, tt)) $
-        assigns ! (agg ! (and-then ! (load ! (from ! (stop !)) (look ! 12 refl)) (and-then ! (load ! (from ! (fld ! refl (stop !))) (look-in ! 128 (sub ! 1 refl (whole !)))) (no-more !)))) (from ! (stop !)) (init ! 10 refl (tt, (tt, (record { fits = roomf .0 }, tt)))) $
+        reborrows ! 128 12 10 refl (sub ! 0 refl (whole !)) refl (tt, tt) refl refl (sub ! 1 refl (whole !)) refl (tt, (tt, (record { fits = roomf .0 }, tt))) $
         -- `save`: frames is given up for good
         move ! (6 ∷ 5 ∷ []) $ use2 W (raw (Save 𝓤 H A at-mem run .pre (to-save 𝓤 H A at-mem run κ0 q0 (xf γf) (out .frames) (fs-val out)))) (goes-save 𝓤 H A at-mem run W κ0 q0 (xf γf) (out .frames) (fs-val out) (fields out w is-o .0)) $
         calls-at ! fm (Save 𝓤 H A at-mem run) known-save (to-save 𝓤 H A at-mem run κ0 q0 (xf γf) (out .frames) (fs-val out)) (and-then ! (load ! (from ! (stop !)) (look ! 9 refl)) (and-then ! (load ! (from ! (fld ! {d = 0} refl (stop !))) (look-in ! 85 (sub ! 0 {d = 0} refl (whole !)))) (no-more !))) (λ u.
