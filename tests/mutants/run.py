@@ -63,7 +63,7 @@ def judge(name):
     refused = re.search(r"^rt: (\S+) NOT PROVED \(", text, re.M)
     if run.returncode == 0 or not refused:
         return False, "accepted"
-    first = re.search(r"crates/(\S+?): error: `?([^`:]*)", text)
+    first = re.search(r"crates/(\S+?): (?:error:|it is not proved)", text)
     place = "%s, at %s" % (refused.group(1), first.group(1)) if first else refused.group(1)
     return True, "refused by " + place
 

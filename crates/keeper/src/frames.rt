@@ -33,7 +33,7 @@ pub fn blank() -> [Frame; 64]
 }
 
 // The first frames of the slice, 64 at most; past its end the array has empty frames.
-// Shut out: one frame too few; frames of an earlier call past the end.
+// Shut out: one frame too few; used frames past the end.
 pub fn load(frames: &[Frame]) -> [Frame; 64]
     ensures { λ r. ⌜ r ≡ loaded (now (frames .entry)) ⌝ }
 {

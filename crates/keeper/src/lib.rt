@@ -80,7 +80,7 @@ pub extern "C" fn keeper_apply(
 }
 
 // Restart, from the disk part alone: memory may hold anything.
-// Shut out: a restart that leaves the frames as it finds them; one that leaves the hand elsewhere than at 0.
+// Shut out: a restart that leaves the frames as it finds them; one that leaves the hand where it was.
 #[no_mangle]
 pub extern "C" fn keeper_restart(
     sizes: Sizes,
@@ -152,7 +152,7 @@ pub extern "C" fn keeper_format(
 }
 
 // A page look: the frame's own part of the lent words, and where it stands; refused, an empty part.
-// Shut out: a part that starts one word later; another frame's part with equal words.
+// Shut out: a part that starts one word later; the next frame's part with equal words.
 pub fn page_look<'a>(
     sizes: Sizes,
     slot: usize,
