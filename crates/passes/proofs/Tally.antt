@@ -3,15 +3,15 @@ use mathlib.Core.Path.{_≡_, refl, ap, sym, _∙_}
 use mathlib.Core.Bool.{Bool, true, false, _&&_}
 use mathlib.Core.Logic.{inl, inr}
 use mathlib.Core.List.{List}
-use Prim.Native.Nat.{ℕ, suc, _+_, _-_, _*_, _/_, _^_, _<_, _≤_}
-use native.Mathlib.Nat.{mul-add-div-right, div-eq-of-lt, pow-le-pow-right, add-zero}
+use Prim.Native.Nat.{ℕ, zero, suc, _+_, _-_, _*_, _/_, _^_, _<_, _≤_}
+use native.Mathlib.Nat.{mul-add-div-right, div-eq-of-lt, pow-le-pow-right}
 use native.Mathlib.Numerals.{add-one}
 use native.Mathlib.Omega.{arith}
 use native.Mathlib.Decide.{ℕ-discrete}
 use lib.Dec.{eqb}
 use lib.ListN.{length, set, length-set}
 use lib.Seq.{getD-set-same, getD-set-other}
-use borrow.Author.Tests.{eq-eqb, ne-eqb}
+use borrow.Author.Tests.{eq-eqb, ne-eqb, lt-ltb, le-ltb}
 use Rattle.tables.specs.Base.{at, if, count}
 use Rattle.tables.specs.Bits.{bits}
 use Rattle.tables.specs.Marks.{bitOf}
@@ -19,8 +19,9 @@ use Rattle.tables.specs.BitLaws.{bits-none, bits-suc, bits-lt}
 use Rattle.tables.specs.Laws.{count-same, count-bound}
 use Rattle.tables.specs.CountLaws.{count-none, count-row}
 use Rattle.tables.specs.Rule.{same, each, Holds, test, alike}
+use Rattle.model.specs.Lines.{FREE}
 use Rattle.tables.specs.Turn.{yes-so, not-so}
-use Rattle.passes.specs.Passes.{chargedPage, usedPage, usedPages, usedTable}
+use Rattle.passes.specs.Passes.{chargedPage, usedPage, usedPages, usedTable, freeRecord}
 
 pub one-le : (b : Bool) → if b 1 0 ≤ 1
 one-le true = omega arith
@@ -42,22 +43,54 @@ pub count-few : (i n : ℕ) (p : ℕ → Bool) → n ≡ count i p → n ≤ i
 count-few i n p e = omega (arith, count-bound i p)
 
 -- ── the bits of a word, from the last down ──
-module _ (p : ℕ → Bool) (from : ℕ) where
-  pub word-start : 0 ≡ bits 0 p (from + (32 - 0))
-  word-start = sym (bits-none p (from + (32 - 0)))
+module _ (p : ℕ → Bool) (from count : ℕ) where
+  pub word-start : 0 ≡ bits 0 p (from + (count - 0))
+  word-start = sym (bits-none p (from + (count - 0)))
 
-  module _ (n word : ℕ) (h : n < 32) (e : word ≡ bits n p (from + (32 - n))) where
-    pub word-small : 2 * word + 1 < 4294967296
-    word-small = let s : bits n p (from + (32 - n)) < 2 ^ n = bits-lt n p (from + (32 - n)) in let u : n ≤ 31 = omega arith in let z : 0 < 2 = omega arith in let t : 2 ^ n ≤ 2 ^ 31 = pow-le-pow-right z u in omega arith
+  module _ (n word : ℕ) (h : n < count) (e : word ≡ bits n p (from + (count - n))) where
+    pub word-small : count ≤ 32 → 2 * word + 1 < 4294967296
+    word-small most = let s : bits n p (from + (count - n)) < 2 ^ n = bits-lt n p (from + (count - n)) in let u : n ≤ 31 = omega arith in let z : 0 < 2 = omega arith in let t : 2 ^ n ≤ 2 ^ 31 = pow-le-pow-right z u in omega arith
 
-    pub word-next : (b : ℕ) → b ≡ if (p (from + (31 - n))) 1 0 → b + 2 * word ≡ bits (n + 1) p (from + (32 - (n + 1)))
+    pub word-next : (b : ℕ) → b ≡ if (p (from + (count - 1 - n))) 1 0 → b + 2 * word ≡ bits (n + 1) p (from + (count - (n + 1)))
     word-next b f =
-        let i : from + (32 - suc n) ≡ from + (31 - n) = omega arith in
-        let j : suc (from + (31 - n)) ≡ from + (32 - n) = omega arith in
-        rw (add-one n, i, bits-suc n p (from + (31 - n)), j, f, e)
+        let i : from + (count - suc n) ≡ from + (count - 1 - n) = omega arith in
+        let j : suc (from + (count - 1 - n)) ≡ from + (count - n) = omega arith in
+        rw (add-one n, i, bits-suc n p (from + (count - 1 - n)), j, f, e)
 
-  pub word-end : (n word : ℕ) → n ≤ 32 → 32 ≤ n → word ≡ bits n p (from + (32 - n)) → word ≡ bits 32 p from
-  word-end n word h l e = let q : n ≡ 32 = omega arith in rw (q, add-zero from) at e
+  pub word-end : (n word : ℕ) → n ≤ count → count ≤ n → word ≡ bits n p (from + (count - n)) → word ≡ bits count p from
+  word-end n word h l e = let q : n ≡ count = omega arith in let z : from + (count - count) ≡ from = omega arith in rw (q, z) at e
+
+-- tests that agree on the records of the word, and none beyond
+bits-same : (n : ℕ) (p q : ℕ → Bool) (i : ℕ) → ((r : ℕ) → i ≤ r → r < i + n → p r ≡ q r) → bits n p i ≡ bits n q i
+bits-same zero p q i h = bits-none p i ∙ sym (bits-none q i)
+bits-same (suc n) p q i h = rw (bits-suc n p i, bits-suc n q i, h i (omega arith) (omega arith), bits-same n p q (suc i) (λ r a b. h r (omega arith) (omega arith)))
+
+bits-off : (n : ℕ) (p : ℕ → Bool) (i : ℕ) → ((r : ℕ) → i ≤ r → p r ≡ false) → bits n p i ≡ 0
+bits-off zero p i h = bits-none p i
+bits-off (suc n) p i h = rw (bits-suc n p i, h i (omega arith), bits-off n p (suc i) (λ r a. h r (omega arith)))
+
+bits-cut : (n k : ℕ) (p : ℕ → Bool) (i : ℕ) → ((r : ℕ) → i + n ≤ r → p r ≡ false) → bits (n + k) p i ≡ bits n p i
+bits-cut zero k p i h = let e : zero + k ≡ k = omega arith in rw (e, bits-none p i) (bits-off k p i (λ r a. h r (omega arith)))
+bits-cut (suc n) k p i h = let e : suc n + k ≡ suc (n + k) = omega arith in rw (e, bits-suc (n + k) p i, bits-suc n p i, bits-cut n k p (suc i) (λ r a. h r (omega arith)))
+
+-- the word of 32 records, where there are so many, and where there are fewer
+module _ (records from : ℕ) (states : List ℕ) where
+  abbrev free : ℕ → Bool
+  free r = eqb (at states r) FREE
+
+  there : (r : ℕ) → r < records → free r ≡ freeRecord records states r
+  there r h = rw (lt-ltb r records h) refl
+
+  past : (r : ℕ) → records ≤ r → freeRecord records states r ≡ false
+  past r h = rw (le-ltb r records h) refl
+
+  pub whole-word : from + 32 ≤ records → bits 32 (λ r. eqb (at states r) FREE) from ≡ bits 32 (freeRecord records states) from
+  whole-word h = bits-same 32 (λ r. eqb (at states r) FREE) (freeRecord records states) from (λ r a b. there r (omega arith))
+
+  pub last-word : from ≤ records → records < from + 32 → bits (records - from) (λ r. eqb (at states r) FREE) from ≡ bits 32 (freeRecord records states) from
+  last-word h l =
+      let e : records - from + (32 - (records - from)) ≡ 32 = omega arith in
+      bits-same (records - from) (λ r. eqb (at states r) FREE) (freeRecord records states) from (λ r a b. there r (omega arith)) ∙ sym (rw e at (bits-cut (records - from) (32 - (records - from)) (freeRecord records states) from (λ r a. past r (omega arith))))
 
 -- ── a charged page ──
 module _ (a f : ℕ) (state : ℕ → ℕ) where

@@ -42,37 +42,34 @@ pub fn free_count(records: usize, states: &[u8]) -> u32
     n
 }
 
-// A record's bit: on where there is such a record and it is free.
-fn free_bit(records: usize, r: usize, states: &[u8]) -> u32
-    requires { ⌜ records ≤ length (now states) ⌝ }
-    ensures { λ x. ⌜ x ≡ if (freeRecord records (now (states .entry)) r) 1 0 ⌝ }
-{
-    if r < records {
-        if states[r] == 0 {
-            return 1;
-        }
-        return 0;
-    }
-    0
-}
-
-// The word of 32 records from `from` up, from the last down.
-fn free_word(records: usize, from: usize, states: &[u8]) -> u32
-    requires { ⌜ (records ≤ length (now states)) × (from ≤ 65536) ⌝ }
-    ensures { λ x. ⌜ x ≡ bits 32 (freeRecord records (now (states .entry))) from ⌝ }
+// The word that tells of `count` records from `from` up which are free, from the last down.
+fn free_bits(count: usize, from: usize, states: &[u8]) -> u32
+    requires { ⌜ (count ≤ 32) × (from + count ≤ length (now states)) × (from ≤ 65536) ⌝ }
+    ensures { λ x. ⌜ x ≡ bits count (λ r. eqb (at (now (states .entry)) r) FREE) from ⌝ }
 {
     let mut word: u32 = 0;
     let mut n = 0;
-    while n < 32 {
-        word = free_bit(records, from + (31 - n), states) + 2 * word;
+    while n < count {
+        word = free_one(states[from + (count - 1 - n)]) + 2 * word;
         n += 1;
     }
     word
 }
 
+// The word of 32 records from `from` up: a bit is on where there is such a record and it is free.
+fn free_word(records: usize, from: usize, states: &[u8]) -> u32
+    requires { ⌜ (records ≤ length (now states)) × (from ≤ records) × (from ≤ 65536) ⌝ }
+    ensures { λ x. ⌜ x ≡ bits 32 (freeRecord records (now (states .entry))) from ⌝ }
+{
+    if from + 32 <= records {
+        return free_bits(32, from, states);
+    }
+    free_bits(records - from, from, states)
+}
+
 // Bit r % 32 of word r / 32 is on where record r is free; bits from R up are off.
 pub fn free_map_ok(records: usize, n: usize, map: &[u32], states: &[u8]) -> bool
-    requires { ⌜ (records ≤ length (now states)) × (n ≤ length (now map)) × (n ≤ 2048) ⌝ }
+    requires { ⌜ (records ≤ length (now states)) × (n ≤ length (now map)) × (n ≤ (records + 31) / 32) × (n ≤ 2048) ⌝ }
     ensures { λ x. ⌜ x ≡ test (freeWords records (now (map .entry)) (now (states .entry)) n) ⌝ }
 {
     let mut k = 0;

@@ -1,62 +1,37 @@
--- The invariant: the word tells the last n of the 32 records.
+-- Thirty-two records, or those that are left.
 use borrow.Author.Needs.{needs}
-use mathlib.Core.Path.{_≡_}
-use Prim.Native.Nat.{_+_, _-_, _≤_}
+use mathlib.Core.Path.{_∙_}
 use native.Mathlib.Omega.{arith}
-use Rattle.tables.specs.Bits.{bits}
-use Rattle.passes.specs.Passes.{freeRecord}
-use Rattle.passes.proofs.Tally.{one-le, word-start, word-small, word-next, word-end}
+use Rattle.passes.proofs.Tally.{whole-word, last-word}
 use Rattle.passes.proofs.counts.free_word.Statement.{statement}
 use Rattle.passes.proofs.counts.free_word.Tie as tie
 
-abbrev Inv-loop : tie.InvT-loop
-Inv-loop records from states word₀ n₀ word n = (word ≡ bits n (freeRecord records states) (from + (32 - n))) × (n ≤ 32)
+free-bits-requires : tie.Need-free-bits-requires
+free-bits-requires c κs =
+    let if1 = c .if1 in
+    let pre = c .before .before .pre in
+    (omega arith, omega (arith, if1 .taken, pre .0), pre .2)
 
-abbrev μ-loop : tie.MeasureT-loop
-μ-loop records from states word₀ n₀ word n = 32 - n
-
-loop-holds : tie.Need-loop-holds Inv-loop μ-loop
-loop-holds c =
-    let args = c .before .args in
-    (word-start (freeRecord (args .records) (args .states .now)) (args .from), omega arith)
-
-mul-word : tie.Need-mul-word Inv-loop μ-loop
-mul-word c =
-    let loop = c .before .before .loop in
-    let args = c .before .before .before .before .args in
-    omega (arith, word-small (freeRecord (args .records) (args .states .now)) (args .from) (loop .n) (loop .word) (c .before .loop-test .taken) (loop .inv .0))
-
-add-word : tie.Need-add-word Inv-loop μ-loop
-add-word c =
-    let loop = c .before .before .loop in
-    let args = c .before .before .before .before .args in
-    omega (arith, word-small (freeRecord (args .records) (args .states .now)) (args .from) (loop .n) (loop .word) (c .before .loop-test .taken) (loop .inv .0), one-le (freeRecord (args .records) (args .states .now) (args .from + (31 - loop .n))), c .free-bit .ensures)
-
-loop-again : tie.Need-loop-again Inv-loop μ-loop
-loop-again c =
-    let loop = c .before .before .loop in
-    let args = c .before .before .before .before .args in
-    (word-next (freeRecord (args .records) (args .states .now)) (args .from) (loop .n) (loop .word) (c .before .loop-test .taken) (loop .inv .0) _ (c .free-bit .ensures), omega (arith, c .before .loop-test .taken))
-
-returns : tie.Need-returns Inv-loop μ-loop
+returns : tie.Need-returns
 returns c =
-    let loop = c .before .loop in
+    let free-bits = c .free-bits in
     let args = c .before .before .before .args in
-    word-end (freeRecord (args .records) (args .states .now)) (args .from) (loop .n) _ (loop .inv .1) (c .loop-test .left) (loop .inv .0)
+    let if1 = c .before .if1 in
+    free-bits .ensures ∙ whole-word (args .records) (args .from) (args .states .now) (if1 .taken)
+
+free-bits-requires-2 : tie.Need-free-bits-requires-2
+free-bits-requires-2 c κs =
+    let if1 = c .if1 in
+    let pre = c .before .before .pre in
+    (omega (arith, if1 .left), omega (arith, pre .0, pre .1), pre .2)
+
+returns-2 : tie.Need-returns-2
+returns-2 c =
+    let free-bits2 = c .free-bits2 in
+    let args = c .before .before .before .args in
+    let pre = c .before .before .before .pre in
+    let if1 = c .before .if1 in
+    free-bits2 .ensures ∙ last-word (args .records) (args .from) (args .states .now) (pre .1) (omega (arith, if1 .left))
 
 pub free-word-spec : {M : Type 1} → statement M
-free-word-spec =
-    tie.close
-    (tie.spec
-    Inv-loop
-    μ-loop
-    loop-holds
-    (λ c. search needs)
-    (λ c. search needs)
-    (λ c κs. search needs)
-    mul-word
-    add-word
-    (λ c. search needs)
-    (λ c. search needs)
-    loop-again
-    returns)
+free-word-spec = tie.close (tie.spec (λ c. search needs) free-bits-requires returns (λ c. search needs) free-bits-requires-2 returns-2)
