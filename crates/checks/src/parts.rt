@@ -12,7 +12,6 @@ ghost use Rattle.checks.specs.Parts.{diskPasses, filePasses, framePasses
 use model::frame::Frame;
 use model::frame::Pool;
 use model::sizes::Sizes;
-use passes::rows::Totals;
 
 // The disk rules; the listed records are marked, from marks that are off.
 pub fn disk(z: Sizes, numbers: &[u32], accounts: &[u16], maps: &[u16], listed: &mut [u32]) -> bool
@@ -25,10 +24,11 @@ pub fn disk(z: Sizes, numbers: &[u32], accounts: &[u16], maps: &[u16], listed: &
         & passes::pages::empty_maps_ok(z.slots, z.pages, numbers, maps)
 }
 
-// The memory rules of pages, records and slots, and each account's used pages; listed, in_frames: the marks of the listed records
-// and of the pages in frames.
+// The memory rules of pages, records and slots; listed, in_frames: the marks of the listed records and of the pages in frames.
+// Each account's used pages are counted, from a table of zeros.
 pub fn files(
     z: Sizes,
+    totals: &mut [usize],
     listed: &[u32],
     in_frames: &[u32],
     numbers: &[u32],
@@ -40,19 +40,19 @@ pub fn files(
     active: &[u8],
     updating: &[u8],
     images: &[u16],
-) -> Totals
-    requires { ⌜ FilesLong z (now numbers) (now accounts) (now maps) (now addresses) (now states) (now owners) (now active) (now updating) (now images) × Holds (fit (length (now maps)) (z .records) (at (now maps))) × (z .records ≤ 32 * length (now listed)) × Holds (marked (z .records) (length (now maps)) (at (now maps)) (now listed)) × (z .slots * z .pages ≤ 32 * length (now «in_frames»)) × Holds (each (z .slots) (λ s. below (at (now accounts) s) (z .accounts))) ⌝ }
-    ensures { λ r. ⌜ (r .ok ≡ test (filePasses (z .slots) (z .pages) (z .records) (now (numbers .entry)) (now (maps .entry)) (now (addresses .entry)) (now (states .entry)) (now (owners .entry)) (now (active .entry)) (now (updating .entry)) (now (images .entry)))) × (r .ok ≡ true → Holds (usedTable (z .slots) (z .pages) (now (accounts .entry)) (now (active .entry)) (now (maps .entry)) (now (addresses .entry)) (now («in_frames» .entry)) (now (states .entry)) (r .used))) ⌝ }
+) -> bool
+    requires { ⌜ FilesLong z (now numbers) (now accounts) (now maps) (now addresses) (now states) (now owners) (now active) (now updating) (now images) × Holds (fit (length (now maps)) (z .records) (at (now maps))) × (z .records ≤ 32 * length (now listed)) × Holds (marked (z .records) (length (now maps)) (at (now maps)) (now listed)) × (z .slots * z .pages ≤ 32 * length (now «in_frames»)) × Holds (each (z .slots) (λ s. below (at (now accounts) s) (z .accounts))) × (length (now totals) ≡ 16) × Holds (each 16 (λ q. same (at (now totals) q) 0)) ⌝ }
+    ensures { λ r. ⌜ (r ≡ test (filePasses (z .slots) (z .pages) (z .records) (now (numbers .entry)) (now (maps .entry)) (now (addresses .entry)) (now (states .entry)) (now (owners .entry)) (now (active .entry)) (now (updating .entry)) (now (images .entry)))) × (r ≡ true → Holds (usedTable (z .slots) (z .pages) (now (accounts .entry)) (now (active .entry)) (now (maps .entry)) (now (addresses .entry)) (now («in_frames» .entry)) (now (states .entry)) (now (totals .exit)))) ⌝ }
 {
     let mut held: [u32; 128] = [0; 128];
     let mut imaged: [u32; 128] = [0; 128];
-    let pages = passes::rows::pages_ok(
+    if passes::rows::pages_ok(
         z.slots,
         z.pages,
         z.records,
-        [0; 16],
         &mut held,
         &mut imaged,
+        totals,
         in_frames,
         accounts,
         active,
@@ -62,14 +62,11 @@ pub fn files(
         images,
         states,
         owners,
-    );
-    let used = pages.used;
-    if pages.ok {} else {
-        return Totals { ok: false, used };
+    ) {} else {
+        return false;
     }
-    let ok = passes::slots::memory_slots_ok(z.slots, numbers, active, updating)
-        & passes::records::records_ok(z.records, z.slots, &held, listed, states, owners, updating);
-    Totals { ok, used }
+    passes::slots::memory_slots_ok(z.slots, numbers, active, updating)
+        & passes::records::records_ok(z.records, z.slots, &held, listed, states, owners, updating)
 }
 
 // The memory rules of frames and of their queues, but for that no page is in two.
@@ -111,13 +108,13 @@ pub fn frames(
 pub fn counts(
     z: Sizes,
     pool: Pool,
-    totals: [usize; 16],
+    totals: &[usize],
     states: &[u8],
     free_map: &[u32],
     used: &[u16],
 ) -> bool
-    requires { ⌜ CountsLong z (now states) (now «free_map») (now used) ⌝ }
-    ensures { λ r. ⌜ r ≡ test (countPasses (z .records) (z .accounts) (pool .hand) (pool .free) (now (states .entry)) (now («free_map» .entry)) (now (used .entry)) totals) ⌝ }
+    requires { ⌜ CountsLong z (now states) (now «free_map») (now used) × (z .accounts ≤ length (now totals)) ⌝ }
+    ensures { λ r. ⌜ r ≡ test (countPasses (z .records) (z .accounts) (pool .hand) (pool .free) (now (states .entry)) (now («free_map» .entry)) (now (used .entry)) (now (totals .entry))) ⌝ }
 {
     passes::counts::hand_fit(z.records, pool.hand)
         & (pool.free == passes::counts::free_count(z.records, states))

@@ -61,8 +61,10 @@ pub fn all_rules(
     if passes::frames::framed_once(z.frames, z.slots * z.pages, frames, &mut in_frames) {} else {
         return false;
     }
-    let files = crate::parts::files(
+    let mut totals: [usize; 16] = [0; 16];
+    if crate::parts::files(
         z,
+        &mut totals,
         &listed,
         &in_frames,
         numbers,
@@ -74,8 +76,7 @@ pub fn all_rules(
         active,
         updating,
         images,
-    );
-    if files.ok {} else {
+    ) {} else {
         return false;
     }
     if crate::parts::frames(
@@ -91,6 +92,5 @@ pub fn all_rules(
     ) {} else {
         return false;
     }
-    let totals = files.used;
-    crate::parts::counts(z, pool, totals, states, free_map, used)
+    crate::parts::counts(z, pool, &totals, states, free_map, used)
 }

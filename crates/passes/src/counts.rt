@@ -118,9 +118,9 @@ pub fn listed_one(map: u16) -> usize
 }
 
 // Used counts equal their definition.
-pub fn used_ok(accounts: usize, totals: [usize; 16], used: &[u16]) -> bool
-    requires { ⌜ (accounts ≤ 16) × (accounts ≤ length (now used)) ⌝ }
-    ensures { λ r. ⌜ r ≡ test (each accounts (λ q. same (at (now (used .entry)) q) (at totals q))) ⌝ }
+pub fn used_ok(accounts: usize, totals: &[usize], used: &[u16]) -> bool
+    requires { ⌜ (accounts ≤ length (now totals)) × (accounts ≤ length (now used)) ⌝ }
+    ensures { λ r. ⌜ r ≡ test (each accounts (λ q. same (at (now (used .entry)) q) (at (now (totals .entry)) q))) ⌝ }
 {
     let mut q = 0;
     while q < accounts {

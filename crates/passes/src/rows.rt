@@ -183,21 +183,15 @@ fn image_ok(
     zeros(images, s * pages, pages)
 }
 
-// What the pass over all pages finds: whether they keep the rules, and each account's used pages.
-pub struct Totals {
-    pub ok: bool,
-    pub used: [usize; 16],
-}
-
-// Every page, slot by slot. What pages hold and what images list is marked, from marks that are off; the used pages are
-// counted, from a table of zeros.
+// Every page, slot by slot. What pages hold and what images list is marked, from marks that are off; each account's used pages
+// are counted, from a table of zeros.
 pub fn pages_ok(
     slots: usize,
     pages: usize,
     records: usize,
-    none: [usize; 16],
     marks: &mut [u32],
     image_marks: &mut [u32],
+    totals: &mut [usize],
     in_frames: &[u32],
     accounts: &[u16],
     active: &[u8],
@@ -207,11 +201,10 @@ pub fn pages_ok(
     images: &[u16],
     states: &[u8],
     owners: &[u8],
-) -> Totals
-    requires { ⌜ (0 < pages) × (slots ≤ length (now accounts)) × (slots ≤ length (now active)) × (slots ≤ length (now updating)) × (length (now maps) ≡ slots * pages) × HeldFit records (now maps) (now addresses) (now «in_frames») (now states) (now owners) × ImagedFit records (now addresses) (now images) (now states) (now owners) × Holds (each slots (λ s. below (at (now accounts) s) 16)) × (length none ≡ 16) × Holds (each 16 (λ q. same (at none q) 0)) × (records ≤ 32 * length (now marks)) × Holds (each (length (now marks)) (λ k. same (at (now marks) k) 0)) × (records ≤ 32 * length (now «image_marks»)) × Holds (each (length (now «image_marks»)) (λ k. same (at (now «image_marks») k) 0)) ⌝ }
-    ensures { λ r. ⌜ (r .ok ≡ test (allEntries slots pages (now (active .entry)) (now (updating .entry)) (now (maps .entry)) (now (addresses .entry)) (now (images .entry)) (now (states .entry)) (now (owners .entry)) and distinct (slots * pages) records (at (now (addresses .entry))) and distinct (slots * pages) records (at (now (images .entry))))) × (r .ok ≡ true → Holds (marked records (slots * pages) (at (now (addresses .entry))) (now (marks .exit))) × Holds (usedTable slots pages (now (accounts .entry)) (now (active .entry)) (now (maps .entry)) (now (addresses .entry)) (now («in_frames» .entry)) (now (states .entry)) (r .used))) ⌝ }
+) -> bool
+    requires { ⌜ (0 < pages) × (slots ≤ length (now accounts)) × (slots ≤ length (now active)) × (slots ≤ length (now updating)) × (length (now maps) ≡ slots * pages) × HeldFit records (now maps) (now addresses) (now «in_frames») (now states) (now owners) × ImagedFit records (now addresses) (now images) (now states) (now owners) × Holds (each slots (λ s. below (at (now accounts) s) 16)) × (length (now totals) ≡ 16) × Holds (each 16 (λ q. same (at (now totals) q) 0)) × (records ≤ 32 * length (now marks)) × Holds (each (length (now marks)) (λ k. same (at (now marks) k) 0)) × (records ≤ 32 * length (now «image_marks»)) × Holds (each (length (now «image_marks»)) (λ k. same (at (now «image_marks») k) 0)) ⌝ }
+    ensures { λ r. ⌜ (r ≡ test (allEntries slots pages (now (active .entry)) (now (updating .entry)) (now (maps .entry)) (now (addresses .entry)) (now (images .entry)) (now (states .entry)) (now (owners .entry)) and distinct (slots * pages) records (at (now (addresses .entry))) and distinct (slots * pages) records (at (now (images .entry))))) × (r ≡ true → Holds (marked records (slots * pages) (at (now (addresses .entry))) (now (marks .exit))) × Holds (usedTable slots pages (now (accounts .entry)) (now (active .entry)) (now (maps .entry)) (now (addresses .entry)) (now («in_frames» .entry)) (now (states .entry)) (now (totals .exit)))) ⌝ }
 {
-    let mut used = none;
     let mut s = 0;
     while s < slots {
         let row = row_ok(
@@ -227,7 +220,7 @@ pub fn pages_ok(
             owners,
         );
         if row.ok {} else {
-            return Totals { ok: false, used };
+            return false;
         }
         if image_ok(
             pages,
@@ -240,12 +233,11 @@ pub fn pages_ok(
             states,
             owners,
         ) {} else {
-            return Totals { ok: false, used };
+            return false;
         }
         let q = accounts[s] as usize;
-        let n = row.used;
-        used[q] += n;
+        totals[q] += row.used;
         s += 1;
     }
-    Totals { ok: true, used }
+    true
 }

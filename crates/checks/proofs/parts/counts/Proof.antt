@@ -8,18 +8,18 @@ use Rattle.checks.proofs.parts.counts.Tie as tie
 
 free-count-requires : tie.Need-free-count-requires
 free-count-requires c κs =
-    let pre = c .before .before .before .before .pre in
-    (omega (arith, pre .states-long), omega (arith, pre .within .records-most))
+    let pre = c .before .before .before .before .before .pre in
+    (omega (arith, pre .0 .states-long), omega (arith, pre .0 .within .records-most))
 
 used-ok-requires : tie.Need-used-ok-requires
 used-ok-requires c κs =
-    let pre = c .before .before .before .before .before .before .before .before .pre in
-    (omega (arith, pre .within .accounts-most), omega (arith, pre .used-long))
+    let pre = c .before .before .before .before .before .before .before .before .before .pre in
+    (pre .1, omega (arith, pre .0 .used-long))
 
 returns : tie.Need-returns
 returns c =
     let hand-fit = c .before .before .before .before .before .hand-fit in
-    let args = c .before .before .before .before .before .before .before .before .before .args in
+    let args = c .before .before .before .before .before .before .before .before .before .before .args in
     let free-count = c .before .before .before .before .free-count in
     let free-map-ok = c .before .free-map-ok in
     let used-ok = c .used-ok in

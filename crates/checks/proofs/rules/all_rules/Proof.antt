@@ -11,6 +11,7 @@ use Rattle.model.specs.Bounds.{pages-most}
 use Rattle.model.specs.Lent.{stateOf}
 use Rattle.passes.specs.Passes.{distinct}
 use Rattle.passes.proofs.Marked.{zeros}
+use Rattle.checks.proofs.Shapes.{all-zero}
 use Rattle.checks.proofs.RulesLaw.{disk-long, files-long, frames-long, counts-long, no-disk, no-files, no-frames, no-framed, counts-decide, frames-taken}
 use Rattle.checks.proofs.rules.all_rules.Statement.{statement}
 use Rattle.checks.proofs.rules.all_rules.Tie as tie
@@ -56,52 +57,52 @@ returns-2 c =
 
 files-requires : tie.Need-files-requires
 files-requires c κs =
-    let start = c .before .before .before .before .before .before .before .before .before .before .before .before .before .before .before .before .before .before .before .before .before .before .before .before .before .before .before in
-    let if1 = c .before .before .before .before .before .before .before .if1 in
-    let disk = c .before .before .before .before .before .before .before .before .before .disk in
-    (files-long (start .args .z) (lent start) (fits start), (learn _ (sym (if1 .taken) ∙ disk .ensures .0)) .0 .0, omega (arith, fits start .sizes .records-most), disk .ensures .1 (if1 .taken), omega (arith, pages-most (start .args .z) (fits start .sizes)), λ x h. (learn _ (sym (if1 .taken) ∙ disk .ensures .0)) .1 .0 x h .1)
+    let start = c .before .before .before .before .before .before .before .before .before .before .before .before .before .before .before .before .before .before .before .before .before .before .before .before .before .before .before .before in
+    let if1 = c .before .before .before .before .before .before .before .before .if1 in
+    let disk = c .before .before .before .before .before .before .before .before .before .before .disk in
+    (files-long (start .args .z) (lent start) (fits start), (learn _ (sym (if1 .taken) ∙ disk .ensures .0)) .0 .0, omega (arith, fits start .sizes .records-most), disk .ensures .1 (if1 .taken), omega (arith, pages-most (start .args .z) (fits start .sizes)), λ x h. (learn _ (sym (if1 .taken) ∙ disk .ensures .0)) .1 .0 x h .1, length-replicate {A = ℕ} 16 0, all-zero 16)
 
 returns-3 : tie.Need-returns-3
 returns-3 c =
-    let start = c .before .before .before .before .before .before .before .before .before .before .before .before .before .before .before .before .before .before .before .before .before .before .before .before .before .before .before .before .before in
+    let start = c .before .before .before .before .before .before .before .before .before .before .before .before .before .before .before .before .before .before .before .before .before .before .before .before .before .before .before .before .before .before .before in
     let if3 = c .if3 in
-    let files = c .before .files in
+    let files = c .before .before .files in
     no-files (start .args .z) (lent start) (fits start) (sym (if3 .left) ∙ files .ensures .0)
 
 frames-requires : tie.Need-frames-requires
 frames-requires c κs =
-    let start = c .before .before .before .before .before .before .before .before .before .before .before .before .before .before .before .before .before .before .before .before .before .before .before .before .before .before .before .before .before in
+    let start = c .before .before .before .before .before .before .before .before .before .before .before .before .before .before .before .before .before .before .before .before .before .before .before .before .before .before .before .before .before .before .before in
     let if3 = c .if3 in
-    let files = c .before .files in
-    let if2 = c .before .before .before .before .if2 in
-    let framed-once = c .before .before .before .before .before .before .framed-once in
+    let files = c .before .before .files in
+    let if2 = c .before .before .before .before .before .before .if2 in
+    let framed-once = c .before .before .before .before .before .before .before .before .framed-once in
     (frames-long (start .args .z) (lent start) (fits start), rw (fits start .memory .addresses) ((learn _ (sym (if3 .taken) ∙ files .ensures .0)) .0 .1 .0 .0), learn (distinct (start .args .z .frames) (start .args .z .slots * start .args .z .pages) (λ f. frameAt (start .args .frames) f .page)) (sym (if2 .taken) ∙ framed-once .ensures .0))
 
 returns-4 : tie.Need-returns-4
 returns-4 c =
-    let start = c .before .before .before .before .before .before .before .before .before .before .before .before .before .before .before .before .before .before .before .before .before .before .before .before .before .before .before .before .before .before .before in
+    let start = c .before .before .before .before .before .before .before .before .before .before .before .before .before .before .before .before .before .before .before .before .before .before .before .before .before .before .before .before .before .before .before .before .before in
     let if4 = c .if4 in
     let frames = c .before .frames in
     no-frames (start .args .z) (lent start) (fits start) (frameAt (start .args .frames)) (same start) (sym (if4 .left) ∙ frames .ensures)
 
 counts-requires : tie.Need-counts-requires
 counts-requires c κs =
-    let start = c .before .before .before .before .before .before .before .before .before .before .before .before .before .before .before .before .before .before .before .before .before .before .before .before .before .before .before .before .before .before .before .before in
-    counts-long (start .args .z) (lent start) (fits start)
+    let start = c .before .before .before .before .before .before .before .before .before .before .before .before .before .before .before .before .before .before .before .before .before .before .before .before .before .before .before .before .before .before .before .before .before .before in
+    (counts-long (start .args .z) (lent start) (fits start), omega (arith, fits start .sizes .accounts-most))
 
 returns-5 : tie.Need-returns-5
 returns-5 c =
-    let start = c .before .before .before .before .before .before .before .before .before .before .before .before .before .before .before .before .before .before .before .before .before .before .before .before .before .before .before .before .before .before .before .before .before in
-    let framed-once = c .before .before .before .before .before .before .before .before .before .before .framed-once in
-    let files = c .before .before .before .before .before .files in
-    let if2 = c .before .before .before .before .before .before .before .before .if2 in
-    let if1 = c .before .before .before .before .before .before .before .before .before .before .before .before .before .if1 in
-    let disk = c .before .before .before .before .before .before .before .before .before .before .before .before .before .before .before .disk in
+    let start = c .before .before .before .before .before .before .before .before .before .before .before .before .before .before .before .before .before .before .before .before .before .before .before .before .before .before .before .before .before .before .before .before .before .before .before in
+    let framed-once = c .before .before .before .before .before .before .before .before .before .before .before .before .framed-once in
+    let files = c .before .before .before .before .before .before .files in
+    let if2 = c .before .before .before .before .before .before .before .before .before .before .if2 in
+    let if1 = c .before .before .before .before .before .before .before .before .before .before .before .before .before .before .before .if1 in
+    let disk = c .before .before .before .before .before .before .before .before .before .before .before .before .before .before .before .before .before .disk in
     let if3 = c .before .before .before .before .if3 in
     let if4 = c .before .before .if4 in
     let frames = c .before .before .before .frames in
     let counts = c .counts in
-    counts-decide (start .args .z) (lent start) (fits start) (frameAt (start .args .frames)) (same start) (framed-once .last .1 .1 .1 .0) (files .result .used) _ (framed-once .ensures .1 (if2 .taken)) (learn _ (sym (if1 .taken) ∙ disk .ensures .0)) (learn _ (sym (if3 .taken) ∙ files .ensures .0)) (learn _ (sym (if4 .taken) ∙ frames .ensures)) (files .ensures .1 (if3 .taken)) (counts .ensures)
+    counts-decide (start .args .z) (lent start) (fits start) (frameAt (start .args .frames)) (same start) (framed-once .last .1 .1 .1 .0) (files .last .1 .0) _ (framed-once .ensures .1 (if2 .taken)) (learn _ (sym (if1 .taken) ∙ disk .ensures .0)) (learn _ (sym (if3 .taken) ∙ files .ensures .0)) (learn _ (sym (if4 .taken) ∙ frames .ensures)) (files .ensures .1 (if3 .taken)) (counts .ensures)
 
 pub all-rules-spec : {M : Type 1} → statement M
-all-rules-spec = tie.close (tie.spec (λ c. search needs) disk-requires returns mul-framed-once (λ c. search needs) framed-once-requires returns-2 (λ c. search needs) (λ c. search needs) files-requires returns-3 frames-requires returns-4 counts-requires returns-5)
+all-rules-spec = tie.close (tie.spec (λ c. search needs) disk-requires returns mul-framed-once (λ c. search needs) framed-once-requires returns-2 (λ c. search needs) (λ c. search needs) (λ c. search needs) files-requires returns-3 frames-requires returns-4 (λ c. search needs) counts-requires returns-5)
