@@ -4,12 +4,12 @@ use mathlib.Core.Bool.{Bool, true, false, _&&_}
 use mathlib.Core.List.{List}
 use Prim.Native.Nat.{ℕ, suc, _*_, _<_, _≤_}
 use native.Mathlib.Omega.{arith}
-use lib.Dec.{eqb, ltb}
+use lib.Dec.{eqb}
 use lib.ListN.{length}
 use Rattle.tables.specs.Base.{at}
 use Rattle.tables.specs.Queue.{members, times}
 use Rattle.tables.specs.Marks.{bitOf}
-use Rattle.tables.specs.Rule.{same, below, each, Holds, test, alike}
+use Rattle.tables.specs.Rule.{same, each, Holds, test, alike}
 use Rattle.model.specs.declared.frame.Frame.{Frame}
 use Rattle.model.specs.declared.sizes.Sizes.{Sizes}
 use Rattle.model.specs.State.{frameAt}
@@ -37,10 +37,6 @@ four-true a b c d e = three-true a b c (both-true ((a && b) && c) d e .0) .0
 pub same-told : (a b x : ℕ) → x ≡ b → eqb a x ≡ test (same a b)
 unfolding test
 same-told a b x e = rw e
-
-pub below-told : (a b : ℕ) → ltb a b ≡ test (below a b)
-unfolding test
-below-told a b = refl
 
 -- ── what is named, by the entries or by the marks ──
 module _ (m n : ℕ) (entry : ℕ → ℕ) (marks : List ℕ) (v : Holds (marked m n entry marks)) (r : ℕ) where

@@ -6,7 +6,7 @@ use mathlib.Core.List.{List, _++_, append-nil}
 use Prim.Native.Nat.{ℕ, _≤_, _<_}
 use native.Mathlib.Omega.{arith}
 use native.Mathlib.Decide.{decLe}
-use lib.ListN.{length, take, drop, replicate, length-take, length-append, length-replicate, take-append-drop}
+use lib.ListN.{length, take, drop, replicate, length-take, length-append, take-append-drop}
 use lib.Seq.{take-append-le, take-take, take-length, drop-length, take-all}
 use Rattle.tables.specs.Rule.{Holds}
 use Rattle.model.specs.declared.frame.Frame.{Frame}
@@ -32,9 +32,6 @@ capped-less n h = omega (arith, h)
 capped-more : (n : ℕ) → 64 < n → capped n ≡ 64
 unfolding capped
 capped-more n h = omega (arith, h)
-
-blanks-length : length (replicate 64 noFrame) ≡ 64
-blanks-length = length-replicate 64 noFrame
 
 loaded-less : (ys : List Frame) → length ys ≤ 64 → loaded ys ≡ ys ++ drop (length ys) (replicate 64 noFrame)
 loaded-less ys h = ap (λ (i : ℕ). copied i ys (replicate 64 noFrame)) (capped-less (length ys) h) ∙ ap (λ (l : List Frame). l ++ drop (length ys) (replicate 64 noFrame)) (take-length ys)

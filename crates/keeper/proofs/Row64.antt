@@ -16,10 +16,10 @@ use ghost.Atoms.{Atoms, sem}
 use types.Kit.{Given, ‵, _$_, _∵_, !, qed, by, use1, fsplit, fjoin, fpick, fpack, done}
 use types.Share.{arr-parts}
 use denote.RattleType.{RattleType}
-use denote.Laws.{Is, Tells, Makes, Copy, shows}
+use denote.Laws.{Is, Tells, Makes, shows}
 use denote.Memory.{cellAt, partAt, partOf, shares}
 use denote.Shadow.{shadow}
-use denote.Array.{Array, each, array-vals, array-tells, array-lawful, array-makes, array-copy}
+use denote.Array.{Array, each, array-vals, array-tells, array-lawful, array-makes}
 use denote.ArrayMemory.{array-apart, array-whole}
 use denote.Steps.{only}
 use denote.Struct.Steps.{spelt}
@@ -27,7 +27,7 @@ use denote.Struct.Laws as LL
 use Rattle.model.specs.declared.frame.Frame.{Frame}
 use Rattle.model.proofs.frame.Frame as T
 use Rattle.model.proofs.frame.Frame.Laws as T′
-use Rattle.keeper.proofs.Row.{F, vals, tells, makes, copy}
+use Rattle.keeper.proofs.Row.{F, vals, tells, makes}
 
 abbrev pub F64 : RattleType
 F64 = Array F 64
@@ -52,9 +52,6 @@ apart zs b o = arr-parts (shares F) 64 .part fullShare zs b o
 module _ {M : Type 1} (𝓤 : URA M) (H : Heap 𝓤) (A : Atoms 𝓤) (W : Given 𝓤 H A) where
   pub makes64 : Makes 𝓤 H A F64 (Is F64)
   makes64 = array-makes 𝓤 H A W F (makes 𝓤 H A) 64
-
-  pub copy64 : Copy 𝓤 H A F64
-  copy64 = array-copy 𝓤 H A W F (copy 𝓤 H A W) 64
 
   -- an array's machine value has the array's MIR type
   pub typed64 : (zs : List Frame) (v : Val) → Is F64 zs (v ∷ []) → Holds (hasTy ty64 v) × WT v

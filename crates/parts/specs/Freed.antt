@@ -1,7 +1,7 @@
 -- The slot's leaving records made free: what becomes of the states, the slots, the free map and the count.
 use mathlib.Core.Path.{_≡_, ap, sym, _∙_}
 use mathlib.Core.List.{List}
-use Prim.Native.Nat.{ℕ, suc, _+_, _-_, _/_, _%_, _^_, _<_}
+use Prim.Native.Nat.{ℕ, suc, _+_, _/_, _%_, _^_, _<_}
 use lib.ListN.{length, set}
 use lib.Seq.{getD-set-same, getD-set-other}
 use Rattle.tables.specs.Laws.{length-tab}
@@ -12,7 +12,7 @@ use Rattle.model.specs.declared.sizes.Sizes.{Sizes}
 use Rattle.model.specs.Lines.{FREE, LEAVING}
 use Rattle.model.specs.State.{freeCount}
 use Rattle.tables.specs.Marks.{bitOf}
-use Rattle.parts.specs.FreeMap.{freeMap, word-inside, bit-on, bit-off, free-map-set, free-map-clear}
+use Rattle.parts.specs.FreeMap.{freeMap, word-inside, bit-off, free-map-set}
 use Rattle.parts.specs.Counts.{free-more}
 
 -- one state a record, and the map of these states
@@ -35,9 +35,6 @@ module _ (z : Sizes) (states map : List ℕ) (fits : MapFits z states map) (r : 
   pub word-fits : r / 32 < length map
   word-fits = rw (fits .told, length-tab) (word-inside z r inside)
 
-  pub on-now : at states r ≡ FREE → bitOf map r ≡ 1
-  on-now e = rw (fits .told) (bit-on z r inside (at states) e)
-
   pub off-now : ¬ (at states r ≡ FREE) → bitOf map r ≡ 0
   off-now d = rw (fits .told) (bit-off z r inside (at states) d)
 
@@ -47,12 +44,9 @@ module _ (z : Sizes) (states map : List ℕ) (fits : MapFits z states map) (r : 
   new : (x : ℕ) → at (set states r x) r ≡ x
   new x = getD-set-same states r x 0 (rw (fits .states-long) inside)
 
-  -- the map once the record is free, or free no more
+  -- the map once the record is free
   pub map-freed : ¬ (at states r ≡ FREE) → set map (r / 32) (at map (r / 32) + 2 ^ (r % 32)) ≡ freeMap z (at (set states r FREE))
   map-freed d = ap (λ (m : List ℕ). set m (r / 32) (at m (r / 32) + 2 ^ (r % 32))) (fits .told) ∙ free-map-set z r inside (at states) (at (set states r FREE)) (stays FREE) d (new FREE)
-
-  pub map-taken : (x : ℕ) → at states r ≡ FREE → ¬ (x ≡ FREE) → set map (r / 32) (at map (r / 32) - 2 ^ (r % 32)) ≡ freeMap z (at (set states r x))
-  map-taken x e d = ap (λ (m : List ℕ). set m (r / 32) (at m (r / 32) - 2 ^ (r % 32))) (fits .told) ∙ free-map-clear z r inside (at states) (at (set states r x)) (stays x) e (λ q. d (sym (new x) ∙ q))
 
   -- the count of free records then
   pub count-freed : ¬ (at states r ≡ FREE) → freeCount z (at (set states r FREE)) ≡ suc (freeCount z (at states))

@@ -1,34 +1,16 @@
-// A record is taken from the free ones or given back: its state, its slot and its bit of the free map.
+// A leaving record is given back to the free ones: its state, its slot and its bit of the free map.
 ghost use mathlib.Core.Path.{_≡_};
 ghost use Prim.Native.Nat.{_<_};
 ghost use lib.ListN.{length, set};
 ghost use Rattle.tables.specs.Base.{at};
-ghost use Rattle.model.specs.Lines.{FREE, NULLED, LEAVING};
+ghost use Rattle.model.specs.Lines.{FREE, LEAVING};
 ghost use Rattle.model.specs.State.{freeCount};
 ghost use Rattle.parts.specs.FreeMap.{freeMap};
 ghost use Rattle.parts.specs.Freed.{MapFits, Freed};
 use crate::cells::put8;
-use crate::marks::clear_mark;
 use crate::marks::set_mark;
 use crate::states::move_record;
 use model::sizes::Sizes;
-
-// A free record becomes a nulled one of the slot.
-pub fn take_record(
-    sizes: Sizes,
-    states: &mut [u8],
-    owners: &mut [u8],
-    map: &mut [u32],
-    r: usize,
-    slot: u8,
-)
-    requires { ⌜ (r < sizes .records) × (at (now states) r ≡ FREE) × MapFits sizes (now states) (now map) ⌝ }
-    ensures { λ _. ⌜ (now (states .exit) ≡ set (now (states .entry)) r NULLED) × (now (owners .exit) ≡ set (now (owners .entry)) r slot) × (now (map .exit) ≡ freeMap sizes (at (now (states .exit)))) ⌝ }
-{
-    clear_mark(map, r);
-    move_record(states, r, 2);
-    put8(owners, r, slot);
-}
 
 // A leaving record becomes a free one of no slot.
 pub fn free_record(sizes: Sizes, states: &mut [u8], owners: &mut [u8], map: &mut [u32], r: usize)

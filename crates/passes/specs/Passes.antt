@@ -8,7 +8,7 @@ use lib.ListN.{length}
 use Rattle.tables.specs.Base.{at, if, count}
 use Rattle.tables.specs.Bits.{bits}
 use Rattle.tables.specs.Marks.{bitOf, mark}
-use Rattle.tables.specs.Queue.{members, times, queue}
+use Rattle.tables.specs.Queue.{members, times}
 use Rattle.tables.specs.Rule.{Rule, same, below, non, _and_, _or_, _then_, each, some, named, names, Holds, test}
 use Rattle.model.specs.declared.frame.Frame.{Frame}
 use Rattle.model.specs.Lines.{FREE, FILED, NULLED, LIVE, RELEASED, LEAVING}

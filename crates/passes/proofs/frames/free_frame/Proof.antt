@@ -1,5 +1,4 @@
 -- The test is the rule's.
-use borrow.Author.Needs.{needs}
 use mathlib.Core.Bool.{and-assoc}
 use Rattle.tables.specs.Rule.{test}
 use Rattle.tables.specs.Turn.{if-then}

@@ -1,6 +1,5 @@
 -- A filled slot is passed over.
 use borrow.Author.Needs.{needs}
-use native.Mathlib.Omega.{arith}
 use Rattle.tables.specs.Rule.{same}
 use Rattle.tables.specs.Turn.{unless, when}
 use Rattle.passes.proofs.pages.empty_map.Statement.{statement}

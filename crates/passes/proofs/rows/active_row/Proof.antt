@@ -1,16 +1,16 @@
 -- The invariant: the first p pages of the row keep their rules, what they hold is marked, and the charged ones are counted.
 use borrow.Author.Needs.{needs}
-use mathlib.Core.Path.{_≡_, refl, sym, _∙_}
-use Prim.Native.Nat.{ℕ, _+_, _-_, _*_, _<_, _≤_}
+use mathlib.Core.Path.{_≡_, sym, _∙_}
+use Prim.Native.Nat.{_+_, _-_, _*_, _≤_}
 use native.Mathlib.Omega.{arith}
 use lib.ListN.{length}
 use Rattle.tables.specs.Base.{at, count}
 use Rattle.tables.specs.Marks.{bitOf}
 use Rattle.tables.specs.Rule.{test}
-use Rattle.tables.specs.Turn.{Passed, none, again, fails, done, learn, unlearn, yes-so, not-so, first-no}
+use Rattle.tables.specs.Turn.{Passed, none, again, fails, done, learn, unlearn, not-so, first-no}
 use Rattle.passes.specs.Passes.{Prefix, heldEntries, chargedPage, unmarked}
 use Rattle.passes.proofs.Entries.{fit-le, active-told}
-use Rattle.passes.proofs.Marked.{among, step, stuck, not-true}
+use Rattle.passes.proofs.Marked.{among, stuck, not-true}
 use Rattle.passes.proofs.ByRow.{at-start, next-page, last-page, unmarked-le, row-so}
 use Rattle.passes.proofs.Tally.{one-le, count-start, count-next, count-end, count-few}
 use Rattle.passes.proofs.rows.active_row.Statement.{statement}

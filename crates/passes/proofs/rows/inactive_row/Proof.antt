@@ -1,10 +1,9 @@
 -- The invariant: the first p pages of the row keep their rules, and the listed ones are counted.
 use borrow.Author.Needs.{needs}
-use mathlib.Core.Path.{_≡_, refl, sym, _∙_}
-use Prim.Native.Nat.{ℕ, _+_, _-_, _*_, _<_, _≤_}
+use mathlib.Core.Path.{_≡_, sym, _∙_}
+use Prim.Native.Nat.{_+_, _-_, _*_, _≤_}
 use native.Mathlib.Omega.{arith}
 use lib.Dec.{ltb}
-use lib.ListN.{length}
 use Rattle.tables.specs.Base.{at, count}
 use Rattle.tables.specs.Rule.{same, each}
 use Rattle.tables.specs.Turn.{Passed, none, again, fails, done, learn, unlearn, not-so}

@@ -1,14 +1,14 @@
 -- The invariant: the pages of the slots before s keep their rules, what they hold and list is marked, and the used ones are counted.
 use borrow.Author.Needs.{needs}
 use mathlib.Core.Path.{_≡_, refl, sym, _∙_}
-use Prim.Native.Nat.{ℕ, _+_, _-_, _*_, _<_, _≤_}
+use Prim.Native.Nat.{_+_, _-_, _*_}
 use native.Mathlib.Omega.{arith}
 use lib.ListN.{length}
 use Rattle.tables.specs.Base.{at}
 use Rattle.tables.specs.Laws.{count-bound}
 use Rattle.tables.specs.Marks.{bitOf}
 use Rattle.tables.specs.Turn.{Passed, none}
-use Rattle.passes.specs.Passes.{Prefix, heldRow, imagedRow, usedPage}
+use Rattle.passes.specs.Passes.{Prefix, usedPage}
 use Rattle.passes.proofs.Entries.{part}
 use Rattle.passes.proofs.Marked.{start, ended, among, not-true}
 use Rattle.passes.proofs.ByRow.{row, no-row, no-image, row-more, rows-done, to-next, from-none, few-slots}

@@ -1,12 +1,10 @@
 -- By the slot's switch.
 use borrow.Author.Needs.{needs}
-use mathlib.Core.Path.{_≡_, sym, _∙_}
-use Prim.Native.Nat.{_+_, _*_}
+use Prim.Native.Nat.{_*_}
 use native.Mathlib.Omega.{arith}
 use borrow.Author.Tests.{eq-eqb, ne-eqb}
 use lib.ListN.{length}
 use Rattle.tables.specs.Base.{at}
-use Rattle.tables.specs.Turn.{learn}
 use Rattle.passes.proofs.Marked.{skip-run}
 use Rattle.passes.proofs.ByRow.{held-only}
 use Rattle.passes.proofs.rows.row_ok.Statement.{statement}
