@@ -1,3 +1,4 @@
+-- Laws that the proofs of this crate share.
 pub mod Shapes
 pub mod PartLaws
 pub mod DiskLaw

@@ -1,3 +1,4 @@
+-- The theorem over every list with cuts, and what it rests on.
 pub mod Writes
 pub mod Link
 pub mod Steps

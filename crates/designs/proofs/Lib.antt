@@ -1,3 +1,4 @@
+-- Laws that the proofs of this crate share.
 pub mod Tests
 pub mod Live
 pub mod Carried

@@ -4,6 +4,9 @@ ghost use Prim.Native.Nat.{_+_, _*_, _<_, _≤_};
 ghost use lib.ListN.{length};
 ghost use Rattle.tables.specs.Rule.{test};
 ghost use Rattle.designs.specs.Asks.{zeroMap, liveAddress, trueMap, settledRecord, settled};
+use model::lines::LIVE;
+use model::lines::NULLED;
+use model::lines::RELEASED;
 use parts::cells::at8;
 use parts::cells::at16;
 
@@ -31,7 +34,7 @@ pub fn live_address(addresses: &[u16], states: &[u8], i: usize) -> u16
     if address == 0 {
         return 0;
     }
-    if at8(states, address as usize - 1) == 3 {
+    if at8(states, address as usize - 1) == LIVE {
         return address;
     }
     0
@@ -69,7 +72,7 @@ fn smaller(a: usize, b: usize) -> usize
 fn is_settled(state: u8, owner: u8, slot: u8) -> bool
     ensures { λ r. ⌜ r ≡ test (settledRecord state owner slot) ⌝ }
 {
-    (owner != slot) | ((state != 2) & (state != 4))
+    (owner != slot) | ((state != NULLED) & (state != RELEASED))
 }
 
 // Whether no record of the slot is nulled or released. All are asked, so that no branch hangs on a record.

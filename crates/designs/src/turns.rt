@@ -11,6 +11,8 @@ use crate::asks::ask_activate;
 use crate::asks::ask_deactivate;
 use model::event::Answer;
 use model::frame::Frame;
+use model::lines::FILED;
+use model::lines::LIVE;
 use model::sizes::Sizes;
 use parts::cells::put8;
 use parts::slots::clear_slot;
@@ -39,7 +41,7 @@ pub fn activate(
         return Answer { refusal, result: 0 };
     }
     copy_slot(maps, addresses, sizes.pages, slot);
-    move_all(states, owners, slot, 1, 3);
+    move_all(states, owners, slot, FILED, LIVE);
     put8(active, slot, 1);
     Answer {
         refusal: 0,
@@ -82,7 +84,7 @@ pub fn deactivate(
         return Answer { refusal, result: 0 };
     }
     clear_slot(addresses, sizes.pages, slot);
-    move_all(states, owners, slot, 3, 1);
+    move_all(states, owners, slot, LIVE, FILED);
     put8(active, slot, 0);
     Answer {
         refusal: 0,

@@ -1,3 +1,4 @@
+-- Laws that the proofs of this crate share.
 pub mod Charges
 pub mod Outcomes
 pub mod DesignLaws

@@ -1,1 +1,2 @@
+-- What every event is handed and leaves.
 pub mod Kept

@@ -1,1 +1,2 @@
+-- The fields of the event program's input.
 pub mod Fields

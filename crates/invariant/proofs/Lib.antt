@@ -1,3 +1,4 @@
+-- The theorem that every event keeps the rules, and what it rests on.
 pub mod Records
 pub mod RecordsLanded
 pub mod RecordsStored

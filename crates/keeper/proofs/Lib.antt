@@ -1,3 +1,4 @@
+-- Laws that the proofs of this crate share.
 pub mod Row
 pub mod Row64
 pub mod Copied

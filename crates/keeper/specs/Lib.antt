@@ -1,1 +1,2 @@
+-- The copies of the lent frames.
 pub mod Copies

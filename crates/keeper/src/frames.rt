@@ -4,6 +4,7 @@ ghost use lib.ListN.{replicate};
 ghost use Rattle.model.specs.State.{noFrame};
 ghost use Rattle.keeper.specs.Copies.{capped, loaded, saved};
 use model::frame::Frame;
+use model::frame::NONE;
 
 // How many frames are copied, of n.
 pub fn capped(n: usize) -> usize
@@ -21,7 +22,7 @@ pub fn empty() -> Frame
         modified: 0,
         wired: 0,
         initial: 0,
-        transfer: 0,
+        transfer: NONE,
     }
 }
 

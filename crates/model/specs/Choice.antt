@@ -1,4 +1,4 @@
--- Laws of the choice of a free record: it is below R, it is free, and it is found whenever one is free. Nothing else rests on its text.
+-- Laws of the choice of a free record: it is below R, and free whenever one is.
 use mathlib.Core.Path.{_≡_, ap, _∙_}
 use mathlib.Core.Bool.{Bool}
 use Prim.Native.Nat.{ℕ, _+_, _-_, _%_, _<_}

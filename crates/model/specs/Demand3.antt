@@ -39,7 +39,7 @@ module _ (z : Sizes) (w : World) where
   abbrev pub designOf : ℕ → ℕ
   designOf i = w .ledger .design (slotOf z i)
 
-  -- the page was live when its design's last finished map update began
+  -- the last finished map update of a page's design
   abbrev pub lastUpdateAt : ℕ → Update
   lastUpdateAt i = lastUpdate (designOf i) (w .ledger .stored)
 

@@ -25,11 +25,12 @@ listing = opened 2 ++ write 0 0 1 9 ∷ claim ∷ pageDone 0 1 ∷ update 0 ∷ 
 abbrev blanked : List Act
 blanked = listing ++ fault 0 0 ∷ pageDone 1 1 ∷ write 0 0 1 0 ∷ claim ∷ []
 
--- all tables in a row
+-- the frames as numbers in a row
 abbrev flat : List Frame → List ℕ
 flat [] = []
 flat (g ∷ gs) = g .page ∷ g .used ∷ g .modified ∷ g .wired ∷ g .initial ∷ g .transfer ∷ flat gs
 
+-- all tables in a row
 unfoldable tables : State → List ℕ
 tables st = st .disk .records ++ st .disk .numbers ++ st .disk .accounts ++ st .disk .maps ++ st .disk .limits ++ flat (st .memory .core .frames) ++ st .memory .core .words
     ++ st .memory .core .free-queue ++ st .memory .core .removal-list ++ st .memory .held .addresses ++ st .memory .held .states ++ st .memory .held .owners ++ st .memory .held .free-map

@@ -1,3 +1,4 @@
+-- The definitions of the paper, and their laws.
 pub mod Sizes
 pub mod Lines
 pub mod Requests

@@ -106,11 +106,12 @@ junk z = record {
   used = replicate (z .accounts) 8;
 }
 
--- a cut at which these frames' writes and these slots' updates land
+-- the number stands in the list
 unfoldable pub among : List ℕ → ℕ → Bool
 among [] x = false
 among (y ∷ ys) x = eqb x y || among ys x
 
+-- a cut at which these frames' writes and these slots' updates land
 abbrev pub cut : List ℕ → List ℕ → Act
 cut fs ss = Acts.cutting (among fs) (among ss) (junk small)
 

@@ -38,10 +38,11 @@ unfoldable pub holds : List Act → Bool
 unfolding always
 holds acts = legal small (begin small) acts && always (begin small) acts
 
--- a design with its page 0 in a frame; a page put on the disk: faulted, written, claimed, done good (by the frame that it takes)
+-- an active design, none of its pages in a frame
 abbrev opened : List Act
 opened = restart ∷ limit 0 3 ∷ create 0 0 7 ∷ activate 0 ∷ []
 
+-- a page put on the disk: faulted, written, claimed, done good (by the frame that it takes)
 abbrev put : ℕ → ℕ → ℕ → List Act
 put p x f = fault 0 p ∷ write 0 p 1 x ∷ claim ∷ pageDone f 1 ∷ []
 

@@ -1,4 +1,4 @@
--- One setter for each table: an event is a chain of stores, and a new table touches this file alone.
+-- One setter for each table: an event is a chain of stores.
 use mathlib.Core.List.{List}
 use Prim.Native.Nat.{ℕ}
 use Rattle.tables.specs.Base.{tab}

@@ -1,6 +1,13 @@
 // What memory keeps as records of numbers. Any bytes may stand there after a cut, so there is no bool and no enum.
 
-// A memory frame. page: 0 for none, else the flat page number + 1. Switches: 0 or 1. transfer: 0 none, 1 reading, 2 writing.
+// The transfers of a frame.
+pub const NONE: u8 = 0;
+
+pub const READING: u8 = 1;
+
+pub const WRITING: u8 = 2;
+
+// A memory frame. page: 0 for none, else the flat page number + 1. Switches: 0 or 1. transfer: one of the three.
 #[repr(C)]
 pub struct Frame {
     pub page: u16,

@@ -2,9 +2,22 @@
 ghost use mathlib.Core.Path.{_≡_};
 ghost use Rattle.model.specs.Lines.{allowed};
 
+// The states of a record.
+pub const FREE: u8 = 0;
+
+pub const FILED: u8 = 1;
+
+pub const NULLED: u8 = 2;
+
+pub const LIVE: u8 = 3;
+
+pub const RELEASED: u8 = 4;
+
+pub const LEAVING: u8 = 5;
+
 const STATES: usize = 6;
 
-// Free, filed, nulled, live, released, leaving: a row for each state that a record leaves, a cell for each that it enters.
+// A row for each state that a record leaves, a cell for each that it enters.
 const LINES: [[bool; STATES]; STATES] = [
     [false, false, true, false, false, false],
     [false, false, false, true, false, false],

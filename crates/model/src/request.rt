@@ -22,7 +22,7 @@ pub enum Decoded {
     Unknown,
 }
 
-// Looks first among the kinds about a design or an account.
+// The event that a request asks for. Looks first among the kinds about a design or an account.
 pub fn decode(request: Request) -> Decoded
     ensures { λ r. ⌜ r ≡ decoded request ⌝ }
 {

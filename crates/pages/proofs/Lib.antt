@@ -1,3 +1,4 @@
+-- Laws that the proofs of this crate share.
 pub mod Seats
 pub mod Served
 pub mod OneWord

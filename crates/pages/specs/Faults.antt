@@ -21,10 +21,11 @@ use Rattle.model.specs.Questions.{questions}
 use Rattle.model.specs.Own.{own}
 use Rattle.pages.specs.Asks.{inFrame, ofFrame, isStill}
 
--- 0: the page has no address; 1: one that is not live; 2: a live one
+-- the page's address is live
 abbrev pub isLive : List ℕ → List ℕ → ℕ → Rule
 isLive addresses states i = names (at addresses i) λ r. same (at states r) LIVE
 
+-- 0: the page has no address; 1: one that is not live; 2: a live one
 unfoldable pub wayOf : List ℕ → List ℕ → ℕ → ℕ
 wayOf addresses states i = if (test (isLive addresses states i)) 2 (if (test (same (at addresses i) 0)) 0 1)
 

@@ -1,3 +1,4 @@
+-- What the events about one page see and need.
 pub mod Seen
 pub mod Asks
 pub mod Needs

@@ -10,6 +10,7 @@ ghost use Rattle.model.specs.Fit.{Within};
 ghost use Rattle.pages.specs.Asks.{seat, slotAsked, frameAsked};
 ghost use Rattle.pages.specs.Needs.{Seats};
 use model::frame::Frame;
+use model::frame::NONE;
 use model::sizes::Sizes;
 use parts::cells::at8;
 use parts::cells::at32;
@@ -58,7 +59,7 @@ pub fn ask_frame(sizes: Sizes, frames: [Frame; 64], page: usize) -> u32
         return 13;
     }
     let frame = frame_at(frames, f);
-    if frame.transfer != 0 {
+    if frame.transfer != NONE {
         return 14;
     }
     0

@@ -16,7 +16,11 @@ ghost use Rattle.model.specs.Fit.{Within};
 ghost use Rattle.pages.specs.Needs.{Seats, Pooled};
 ghost use Rattle.pages.specs.Faults.{wayOf, awayAsked, supplyAsked, cleared, charged1};
 use model::frame::Frame;
+use model::frame::NONE;
 use model::frame::Pool;
+use model::frame::READING;
+use model::lines::LIVE;
+use model::lines::NULLED;
 use model::sizes::Sizes;
 use parts::cells::at8;
 use parts::cells::at16;
@@ -31,7 +35,7 @@ use parts::queue::push_front;
 use parts::states::move_record;
 use parts::words::clear_part;
 
-// The page has no address, one that is not live, or a live one.
+// 0: the page has no address; 1: one that is not live; 2: a live one.
 pub fn way_of(page: usize, addresses: &[u16], states: &[u8]) -> u8
     ensures { λ r. ⌜ r ≡ wayOf (now (addresses .entry)) (now (states .entry)) page ⌝ }
 {
@@ -39,7 +43,7 @@ pub fn way_of(page: usize, addresses: &[u16], states: &[u8]) -> u8
     if address == 0 {
         return 0;
     }
-    if at8(states, address as usize - 1) == 3 {
+    if at8(states, address as usize - 1) == LIVE {
         return 2;
     }
     1
@@ -55,7 +59,7 @@ pub fn ask_away(sizes: Sizes, frames: [Frame; 64], page: usize) -> u32
         return 0;
     }
     let frame = frame_at(frames, f);
-    if frame.transfer != 0 {
+    if frame.transfer != NONE {
         return 14;
     }
     15
@@ -130,7 +134,7 @@ pub fn hold(
     }
     let record = pick(sizes, free_map, pool.hand as usize);
     put16(addresses, page, (record + 1) as u16);
-    move_record(states, record, 2);
+    move_record(states, record, NULLED);
     put8(owners, record, slot as u8);
     clear_mark(free_map, record);
     Pool {
@@ -160,7 +164,7 @@ pub fn serve(
         modified: 0,
         wired: 0,
         initial: 0,
-        transfer: 1,
+        transfer: READING,
     };
     if way == 2 {
         return with_frame(frames, frame, taken);
@@ -168,7 +172,7 @@ pub fn serve(
     clear_part(words, sizes.words, frame);
     push_front(removal_list, frame);
     taken.initial = 1;
-    taken.transfer = 0;
+    taken.transfer = NONE;
     with_frame(frames, frame, taken)
 }
 

@@ -1,3 +1,4 @@
+-- Laws that the proofs of this crate share.
 pub mod Along
 pub mod Freeing
 pub mod Queues

@@ -1,3 +1,4 @@
+-- What the leaves of the code do to one table.
 pub mod Counts
 pub mod FrameLaws
 pub mod FreeMap

@@ -6,6 +6,7 @@ ghost use lib.ListN.{set};
 ghost use Rattle.tables.specs.Base.{find};
 ghost use Rattle.model.specs.State.{frameAt};
 use model::frame::Frame;
+use model::frame::NONE;
 
 // A frame, empty past the end.
 pub fn frame_at(frames: [Frame; 64], f: usize) -> Frame
@@ -20,7 +21,7 @@ pub fn frame_at(frames: [Frame; 64], f: usize) -> Frame
         modified: 0,
         wired: 0,
         initial: 0,
-        transfer: 0,
+        transfer: NONE,
     }
 }
 

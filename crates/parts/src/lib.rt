@@ -1,10 +1,10 @@
 // The parts that the events of the keeper are built from: each changes or reads one table, by one definition.
-pub mod cells;
-pub mod frames;
-pub mod marks;
-pub mod pool;
-pub mod queue;
-pub mod records;
-pub mod slots;
-pub mod states;
-pub mod words;
+pub mod cells; // one entry
+pub mod frames; // frames by value
+pub mod marks; // one bit a number
+pub mod pool; // the choice of a free record
+pub mod queue; // the free queue and the removal list
+pub mod records; // leaving records become free
+pub mod slots; // the entries of one slot
+pub mod states; // records move along the lines
+pub mod words; // the words of frames and records

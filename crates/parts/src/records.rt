@@ -10,6 +10,8 @@ ghost use Rattle.parts.specs.Freed.{MapFits, Freed};
 use crate::cells::put8;
 use crate::marks::set_mark;
 use crate::states::move_record;
+use model::lines::FREE;
+use model::lines::LEAVING;
 use model::sizes::Sizes;
 
 // A leaving record becomes a free one of no slot.
@@ -18,7 +20,7 @@ pub fn free_record(sizes: Sizes, states: &mut [u8], owners: &mut [u8], map: &mut
     ensures { λ _. ⌜ (now (states .exit) ≡ set (now (states .entry)) r FREE) × (now (owners .exit) ≡ set (now (owners .entry)) r 0) × (now (map .exit) ≡ freeMap sizes (at (now (states .exit)))) ⌝ }
 {
     set_mark(map, r);
-    move_record(states, r, 0);
+    move_record(states, r, FREE);
     put8(owners, r, 0);
 }
 
@@ -37,7 +39,7 @@ pub fn free_leaving(
     let mut count = free;
     let mut r = 0;
     while r < states.len() {
-        if states[r] == 5 && owners[r] as usize == slot {
+        if states[r] == LEAVING && owners[r] as usize == slot {
             free_record(sizes, states, owners, map, r);
             count += 1;
         }

@@ -12,6 +12,7 @@ ghost use Rattle.model.specs.State.{allPages};
 ghost use Rattle.model.specs.Parts.{fromPage};
 ghost use Rattle.parts.specs.Released.{Releasing};
 use crate::cells::at16;
+use model::lines::RELEASED;
 use model::sizes::Sizes;
 
 // The record moves to another state, along a line.
@@ -59,7 +60,7 @@ pub fn release_from(sizes: Sizes, states: &mut [u8], addresses: &[u16], slot: us
     while i < end {
         let address = at16(addresses, i);
         if address != 0 {
-            move_record(states, address as usize - 1, 4);
+            move_record(states, address as usize - 1, RELEASED);
         }
         i += 1;
     }

@@ -1,3 +1,4 @@
+-- Laws that the proofs of this crate share.
 pub mod Marked
 pub mod Entries
 pub mod ByRow

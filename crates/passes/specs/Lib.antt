@@ -1,1 +1,2 @@
+-- What the passes of question 2 decide.
 pub mod Passes

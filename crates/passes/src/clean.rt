@@ -8,6 +8,8 @@ ghost use Rattle.model.specs.State.{frameAt};
 ghost use Rattle.model.specs.Rules.{fit};
 ghost use Rattle.passes.specs.Passes.{content, cleanFrame, cleanFrames};
 use model::frame::Frame;
+use model::frame::NONE;
+use model::lines::LIVE;
 
 // w words of a from i up, and of b from j up: all are looked at, so that many are compared at once.
 fn equal(a: &[u32], i: usize, b: &[u32], j: usize, w: usize) -> bool
@@ -40,7 +42,7 @@ fn content_ok(w: usize, f: usize, r: usize, state: u8, words: &[u32], records: &
     requires { ⌜ (f * w + w ≤ length (now words)) × (r * w + w ≤ length (now records)) ⌝ }
     ensures { λ x. ⌜ x ≡ test (content w f r state (now (words .entry)) (now (records .entry))) ⌝ }
 {
-    if state == 3 {
+    if state == LIVE {
         return equal(words, f * w, records, r * w, w);
     }
     zeros(words, f * w, w)
@@ -62,7 +64,7 @@ fn clean(
     if x.page == 0 {
         return true;
     }
-    if x.transfer != 0 {
+    if x.transfer != NONE {
         return true;
     }
     if x.modified != 0 {

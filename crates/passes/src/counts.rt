@@ -9,6 +9,8 @@ ghost use Rattle.tables.specs.Marks.{bitOf};
 ghost use Rattle.tables.specs.Rule.{same, below, each, test};
 ghost use Rattle.model.specs.Lines.{FREE};
 ghost use Rattle.passes.specs.Passes.{chargedPage, freeRecord, freeWords};
+use model::lines::FREE;
+use model::lines::LIVE;
 use parts::marks::is_marked;
 
 // The hand is below R.
@@ -22,7 +24,7 @@ pub fn hand_fit(records: usize, hand: u32) -> bool
 fn free_one(state: u8) -> u32
     ensures { λ r. ⌜ r ≡ if (eqb state FREE) 1 0 ⌝ }
 {
-    if state == 0 {
+    if state == FREE {
         return 1;
     }
     0
@@ -90,7 +92,7 @@ fn charged(i: usize, address: u16, in_frames: &[u32], states: &[u8]) -> bool
     if address == 0 {
         return false;
     }
-    if states[address as usize - 1] == 3 {
+    if states[address as usize - 1] == LIVE {
         return true;
     }
     is_marked(in_frames, i)

@@ -11,6 +11,10 @@ ghost use Rattle.model.specs.Rules.{fit};
 ghost use Rattle.passes.specs.Passes.{distinct, marked, switches, onePlace, bare, activePage, heldPage, frameRow, frameRows};
 use crate::marks::mark_entry;
 use model::frame::Frame;
+use model::frame::NONE;
+use model::frame::READING;
+use model::frame::WRITING;
+use model::lines::LIVE;
 
 // A frame's page is at most S · N, and no page is in two frames; each page that is in one is marked, from marks that are
 // off.
@@ -39,7 +43,7 @@ fn frame_fit(x: Frame) -> bool
 fn moving(transfer: u8) -> usize
     ensures { λ r. ⌜ r ≡ if (eqb transfer NONE) 0 1 ⌝ }
 {
-    if transfer == 0 {
+    if transfer == NONE {
         return 0;
     }
     1
@@ -56,7 +60,7 @@ fn in_one_place(x: Frame, queued: u8, removing: u8) -> bool
 fn writing_modified(x: Frame) -> bool
     ensures { λ r. ⌜ r ≡ test (same (x .transfer) WRITING then same (x .modified) 1) ⌝ }
 {
-    !(x.transfer == 2) | (x.modified == 1)
+    !(x.transfer == WRITING) | (x.modified == 1)
 }
 
 // A free frame has no page and no switch on,
@@ -103,7 +107,7 @@ fn framed_held(page: u16, transfer: u8, addresses: &[u16], states: &[u8]) -> boo
     if a == 0 {
         return false;
     }
-    !(transfer == 1) | (states[a - 1] == 3)
+    !(transfer == READING) | (states[a - 1] == LIVE)
 }
 
 fn frame_ok(

@@ -5,6 +5,11 @@ ghost use lib.ListN.{length};
 ghost use Rattle.tables.specs.Base.{at};
 ghost use Rattle.tables.specs.Rule.{same, each, named, test};
 ghost use Rattle.passes.specs.Passes.{emptyRow, emptyRows, filedRecord, mappedRecord, heldRecord, imagedRecord};
+use model::lines::FILED;
+use model::lines::LEAVING;
+use model::lines::LIVE;
+use model::lines::NULLED;
+use model::lines::RELEASED;
 
 // Whether n entries from i up name nothing: all are looked at, so that many are compared at once.
 pub fn zeros(entries: &[u16], i: usize, n: usize) -> bool
@@ -57,7 +62,7 @@ pub fn filed(s: usize, active: u8, map: u16, states: &[u8], owners: &[u8]) -> bo
         return true;
     }
     let r = map as usize - 1;
-    (owners[r] as usize == s) & (states[r] == 1)
+    (owners[r] as usize == s) & (states[r] == FILED)
 }
 
 // A record in an active design's stored map is held by that same page or is that slot's released or leaving record.
@@ -75,7 +80,7 @@ pub fn mapped(s: usize, active: u8, map: u16, address: u16, states: &[u8], owner
         return true;
     }
     let r = map as usize - 1;
-    (owners[r] as usize == s) & ((states[r] == 4) | (states[r] == 5))
+    (owners[r] as usize == s) & ((states[r] == RELEASED) | (states[r] == LEAVING))
 }
 
 // What a page holds is nulled or live, in the page's slot.
@@ -87,7 +92,7 @@ pub fn held(s: usize, address: u16, states: &[u8], owners: &[u8]) -> bool
         return true;
     }
     let r = address as usize - 1;
-    (owners[r] as usize == s) & ((states[r] == 2) | (states[r] == 3))
+    (owners[r] as usize == s) & ((states[r] == NULLED) | (states[r] == LIVE))
 }
 
 // A record in a begun image is held by that same page or is that slot's released record.
@@ -102,5 +107,5 @@ pub fn imaged(s: usize, image: u16, address: u16, states: &[u8], owners: &[u8]) 
         return true;
     }
     let r = image as usize - 1;
-    (owners[r] as usize == s) & (states[r] == 4)
+    (owners[r] as usize == s) & (states[r] == RELEASED)
 }

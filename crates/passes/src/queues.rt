@@ -6,16 +6,7 @@ ghost use Rattle.tables.specs.Base.{at};
 ghost use Rattle.tables.specs.Queue.{queue};
 ghost use Rattle.tables.specs.Rule.{same, each, test, Holds};
 ghost use Rattle.passes.specs.Passes.{queueEntry, counted};
-
-// An entry, 0 past the end.
-fn entry_at(entries: &[u16], k: usize) -> u16
-    ensures { λ r. ⌜ r ≡ at (now (entries .entry)) k ⌝ }
-{
-    if k < entries.len() {
-        return entries[k];
-    }
-    0
-}
+use parts::cells::at16;
 
 fn entry_ok(frames: usize, entry: u16, next: u16) -> bool
     ensures { λ r. ⌜ r ≡ test (queueEntry frames entry next) ⌝ }
@@ -30,7 +21,7 @@ pub fn queue(frames: usize, entries: &[u16]) -> bool
 {
     let mut k = 0;
     while k < frames {
-        if entry_ok(frames, entries[k], entry_at(entries, k + 1)) {} else {
+        if entry_ok(frames, entries[k], at16(entries, k + 1)) {} else {
             return false;
         }
         k += 1;

@@ -7,6 +7,10 @@ ghost use Rattle.tables.specs.Marks.{bitOf};
 ghost use Rattle.tables.specs.Rule.{same, below, _or_, _then_, test};
 ghost use Rattle.model.specs.Lines.{FILED, NULLED, LIVE, LEAVING};
 ghost use Rattle.passes.specs.Passes.{recordRow, recordRows};
+use model::lines::FILED;
+use model::lines::LEAVING;
+use model::lines::LIVE;
+use model::lines::NULLED;
 use parts::marks::is_marked;
 
 // A state is one of six,
@@ -28,7 +32,7 @@ fn held_by(r: usize, state: u8, held: &[u32]) -> bool
     requires { ⌜ r / 32 < length (now held) ⌝ }
     ensures { λ x. ⌜ x ≡ test ((same state NULLED or same state LIVE) then same (bitOf (now (held .entry)) r) 1) ⌝ }
 {
-    if (state == 2) | (state == 3) {
+    if (state == NULLED) | (state == LIVE) {
         return is_marked(held, r);
     }
     true
@@ -39,7 +43,7 @@ fn filed_by(r: usize, state: u8, listed: &[u32]) -> bool
     requires { ⌜ r / 32 < length (now listed) ⌝ }
     ensures { λ x. ⌜ x ≡ test (same state FILED then same (bitOf (now (listed .entry)) r) 1) ⌝ }
 {
-    if state == 1 {
+    if state == FILED {
         return is_marked(listed, r);
     }
     true
@@ -50,7 +54,7 @@ fn leaving_begun(state: u8, owner: usize, updating: &[u8]) -> bool
     requires { ⌜ owner < length (now updating) ⌝ }
     ensures { λ x. ⌜ x ≡ test (same state LEAVING then same (at (now (updating .entry)) owner) 1) ⌝ }
 {
-    if state == 5 {
+    if state == LEAVING {
         return updating[owner] == 1;
     }
     true

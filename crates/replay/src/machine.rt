@@ -25,7 +25,7 @@ fn sizes() -> Sizes {
     }
 }
 
-// Frames and pool before the first restart; what stands in them is of no account.
+// Frames and pool before the first restart; what stands in them is never read.
 fn blank() -> Applied {
     let empty = Frame {
         page: 0,
@@ -117,7 +117,7 @@ fn carry(
     )
 }
 
-// What a field asks for, by the event program's tag; a cut has no values.
+// The request that stands for a cut and a restart; it has no values.
 fn cut() -> Request {
     Request {
         kind: CUT,

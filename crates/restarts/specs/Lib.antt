@@ -1,3 +1,4 @@
+-- What restart and format set.
 pub mod Filled
 pub mod Formats
 pub mod Filed

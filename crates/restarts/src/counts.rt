@@ -9,6 +9,7 @@ ghost use Rattle.parts.specs.FreeMap.{freeMap};
 ghost use Rattle.restarts.specs.Counts.{listedUsed};
 use crate::zero::zero16;
 use crate::zero::zero32;
+use model::lines::FREE;
 use model::sizes::Sizes;
 use parts::marks::set_mark;
 
@@ -38,7 +39,7 @@ pub fn build_free_map(sizes: Sizes, states: &[u8], map: &mut [u32]) -> usize
     let mut free = 0;
     let mut r = 0;
     while r < sizes.records {
-        if states[r] == 0 {
+        if states[r] == FREE {
             set_mark(map, r);
             free += 1;
         }

@@ -7,6 +7,7 @@ ghost use Rattle.tables.specs.Rule.{Holds};
 ghost use Rattle.model.specs.Rules.{fit, once};
 ghost use Rattle.restarts.specs.Filed.{filedStates, filedOwners};
 use crate::zero::zero8;
+use model::lines::FILED;
 
 // One pass over the maps; no record is listed twice.
 pub fn file_records(pages: usize, maps: &[u16], states: &mut [u8], owners: &mut [u8])
@@ -20,7 +21,7 @@ pub fn file_records(pages: usize, maps: &[u16], states: &mut [u8], owners: &mut 
     while i < maps.len() {
         let entry = maps[i] as usize;
         if entry != 0 {
-            states[entry - 1] = 1;
+            states[entry - 1] = FILED;
             owners[entry - 1] = (i / pages) as u8;
         }
         i += 1;

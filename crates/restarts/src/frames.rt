@@ -6,6 +6,7 @@ ghost use Rattle.tables.specs.Base.{tab};
 ghost use Rattle.tables.specs.Queue.{packed};
 ghost use Rattle.model.specs.State.{noFrame};
 use model::frame::Frame;
+use model::frame::NONE;
 
 pub fn no_frames() -> [Frame; 64]
     ensures { λ r. ⌜ r ≡ replicate 64 noFrame ⌝ }
@@ -16,7 +17,7 @@ pub fn no_frames() -> [Frame; 64]
         modified: 0,
         wired: 0,
         initial: 0,
-        transfer: 0,
+        transfer: NONE,
     };
     [none; 64]
 }

@@ -1,3 +1,4 @@
+-- Laws that the proofs of this crate share.
 pub mod ByPage
 pub mod ClaimLaws
 pub mod ClaimWork

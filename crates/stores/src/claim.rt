@@ -19,6 +19,8 @@ use crate::switches::empty;
 use crate::switches::writing;
 use model::applied::Framed;
 use model::frame::Frame;
+use model::lines::LIVE;
+use model::lines::NULLED;
 use model::sizes::Sizes;
 use parts::cells::at8;
 use parts::cells::at16;
@@ -87,8 +89,8 @@ fn make_nulled(states: &mut [u8], r: usize, modified: u8)
     ensures { λ _. ⌜ now (states .exit) ≡ if (eqb modified 1) (set (now (states .entry)) r NULLED) (now (states .entry)) ⌝ }
 {
     if modified == 1 {
-        if at8(states, r) == 3 {
-            move_record(states, r, 2);
+        if at8(states, r) == LIVE {
+            move_record(states, r, NULLED);
         }
     }
 }
@@ -98,7 +100,7 @@ fn uncharge(used: &mut [u16], states: &[u8], r: usize, accounts: &[u16], slot: u
     requires { ⌜ 0 < at (now used) (at (now accounts) slot) ⌝ }
     ensures { λ _. ⌜ now (used .exit) ≡ if (eqb (at (now (states .entry)) r) NULLED) (set (now (used .entry)) (at (now (accounts .entry)) slot) (at (now (used .entry)) (at (now (accounts .entry)) slot) - 1)) (now (used .entry)) ⌝ }
 {
-    if at8(states, r) == 2 {
+    if at8(states, r) == NULLED {
         let q = at16(accounts, slot) as usize;
         put16(used, q, at16(used, q) - 1);
     }

@@ -1,9 +1,9 @@
 // The events that free frames and records, or move pages and maps to the disk: one function for each.
-mod by_page;
-pub mod claim;
-pub mod map_done;
-mod names;
-pub mod page_done;
-mod switches;
-pub mod truncate;
-pub mod update;
+mod by_page; // the frames of one slot's pages, as a table
+pub mod claim; // the removal list is looked through for a frame to free or to write
+pub mod map_done; // a map update is over
+mod names; // what entries name, and answers put together
+pub mod page_done; // a transfer is over
+mod switches; // one frame as an event leaves it
+pub mod truncate; // the pages from k up become zeros
+pub mod update; // a map update begins

@@ -10,6 +10,8 @@ ghost use Rattle.model.specs.Own.{own};
 ghost use Rattle.stores.specs.MapDone.{mapDone, asked, seen, MapReady, MapLeft};
 use model::event::Answer;
 use model::frame::Pool;
+use model::lines::LEAVING;
+use model::lines::RELEASED;
 use model::sizes::Sizes;
 use parts::cells::at8;
 use parts::cells::at16;
@@ -36,7 +38,7 @@ fn none_leaving(pages: usize, slot: usize, states: &[u8], images: &[u16]) -> boo
     while p < pages {
         let entry = at16(images, start + p);
         if entry != 0 {
-            if at8(states, entry as usize - 1) == 5 {
+            if at8(states, entry as usize - 1) == LEAVING {
                 return false;
             }
         }
@@ -111,7 +113,7 @@ pub fn map_done(
         return with_free(pool, free, 0);
     }
     clear_slot(images, sizes.pages, slot);
-    move_all(states, owners, slot, 5, 4);
+    move_all(states, owners, slot, LEAVING, RELEASED);
     with_free(pool, pool.free, 0)
 }
 

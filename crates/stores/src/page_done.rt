@@ -15,6 +15,10 @@ use crate::switches::served;
 use crate::switches::unwritten;
 use model::applied::Framed;
 use model::frame::Frame;
+use model::frame::NONE;
+use model::frame::READING;
+use model::lines::LIVE;
+use model::lines::NULLED;
 use model::sizes::Sizes;
 use parts::cells::at8;
 use parts::frames::frame_at;
@@ -35,7 +39,7 @@ fn ask_done(sizes: Sizes, frame: usize, good: usize, frames: [Frame; 64]) -> u32
         return 3;
     }
     let asked = frame_at(frames, frame);
-    if asked.transfer == 0 {
+    if asked.transfer == NONE {
         return 22;
     }
     0
@@ -46,8 +50,8 @@ fn make_live(states: &mut [u8], r: usize)
     requires { ⌜ (at (now states) r ≡ NULLED) ⊎ (at (now states) r ≡ LIVE) ⌝ }
     ensures { λ _. ⌜ now (states .exit) ≡ set (now (states .entry)) r LIVE ⌝ }
 {
-    if at8(states, r) == 2 {
-        move_record(states, r, 3);
+    if at8(states, r) == NULLED {
+        move_record(states, r, LIVE);
     }
 }
 
@@ -72,7 +76,7 @@ pub fn page_done(
     }
     let old = frame_at(frames, frame);
     let r = record_of(addresses, old.page);
-    if old.transfer == 1 {
+    if old.transfer == READING {
         if good == 1 {
             copy_part(records, r, words, frame, sizes.words);
             push_front(removal_list, frame);

@@ -6,6 +6,8 @@ ghost use Rattle.model.specs.Setters.{setModified, setTransfer};
 ghost use Rattle.model.specs.Pages.{fresh};
 ghost use Rattle.model.specs.Stores.{cooled};
 use model::frame::Frame;
+use model::frame::NONE;
+use model::frame::WRITING;
 
 // No page, and no switch on.
 pub fn empty() -> Frame
@@ -17,7 +19,7 @@ pub fn empty() -> Frame
         modified: 0,
         wired: 0,
         initial: 0,
-        transfer: 0,
+        transfer: NONE,
     }
 }
 
@@ -32,7 +34,7 @@ pub fn served(frame: Frame) -> Frame
         modified: 0,
         wired: 0,
         initial: 1,
-        transfer: 0,
+        transfer: NONE,
     }
 }
 
@@ -60,7 +62,7 @@ pub fn unwritten(frame: Frame) -> Frame
         modified: 1,
         wired: frame.wired,
         initial: 0,
-        transfer: 0,
+        transfer: NONE,
     }
 }
 
@@ -74,6 +76,6 @@ pub fn writing(frame: Frame) -> Frame
         modified: frame.modified,
         wired: frame.wired,
         initial: frame.initial,
-        transfer: 2,
+        transfer: WRITING,
     }
 }

@@ -21,6 +21,8 @@ use crate::names::framed;
 use crate::switches::empty;
 use model::applied::Framed;
 use model::frame::Frame;
+use model::frame::NONE;
+use model::lines::LIVE;
 use model::sizes::Sizes;
 use parts::cells::at8;
 use parts::cells::at16;
@@ -31,12 +33,12 @@ use parts::queue::remove;
 use parts::slots::clear_from;
 use parts::states::release_from;
 
-// Whether the frame is in no transfer, or not wired.
+// Whether the frame is in no transfer (which 0, question 14), or not wired (which 1, question 16).
 fn is_quiet(which: u8, frame: Frame) -> bool
     ensures { λ r. ⌜ r ≡ test (quiet which frame) ⌝ }
 {
     if which == 0 {
-        return frame.transfer == 0;
+        return frame.transfer == NONE;
     }
     frame.wired != 1
 }
@@ -81,7 +83,7 @@ fn is_charged(entry: u8, addresses: &[u16], states: &[u8], i: usize) -> bool
     if address == 0 {
         return false;
     }
-    at8(states, address as usize - 1) == 3
+    at8(states, address as usize - 1) == LIVE
 }
 
 // How many pages of the slot from k up are charged.

@@ -12,6 +12,10 @@ ghost use Rattle.model.specs.Own.{own};
 ghost use Rattle.stores.specs.Update.{update, asked, seen, imageOf, leaves, leavesSlot, Leaving, UpdateReady, UpdateLeft};
 use model::event::Answer;
 use model::frame::Frame;
+use model::lines::LEAVING;
+use model::lines::LIVE;
+use model::lines::NULLED;
+use model::lines::RELEASED;
 use model::sizes::Sizes;
 use parts::cells::at8;
 use parts::cells::at16;
@@ -48,7 +52,7 @@ fn image_of(addresses: &[u16], states: &[u8], i: usize) -> u16
     if address == 0 {
         return 0;
     }
-    if at8(states, address as usize - 1) != 3 {
+    if at8(states, address as usize - 1) != LIVE {
         return 0;
     }
     address
@@ -76,7 +80,7 @@ fn leaving_of(count: usize, frames: [Frame; 64], addresses: &[u16], states: &[u8
     if address == 0 {
         return 0;
     }
-    if at8(states, address as usize - 1) != 2 {
+    if at8(states, address as usize - 1) != NULLED {
         return 0;
     }
     if frame_of(frames, count, i) < count {
@@ -102,7 +106,7 @@ fn leave_pages(
     while i < end {
         let address = leaving_of(sizes.frames, frames, addresses, states, i);
         if address != 0 {
-            move_record(states, address as usize - 1, 5);
+            move_record(states, address as usize - 1, LEAVING);
             addresses[i] = 0;
         }
         i += 1;
@@ -131,7 +135,7 @@ pub fn update(
     put8(updating, slot, 1);
     fill_image(sizes.pages, slot, addresses, states, images);
     leave_pages(sizes, slot, frames, addresses, states);
-    move_all(states, owners, slot, 4, 5);
+    move_all(states, owners, slot, RELEASED, LEAVING);
     Answer {
         refusal: 0,
         result: 0,

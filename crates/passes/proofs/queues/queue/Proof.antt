@@ -22,13 +22,13 @@ returns c =
     let loop-test = c .before .before .before .before .loop-test in
     let loop = c .before .before .before .before .before .loop in
     let args = c .before .before .before .before .before .before .before .args in
-    fails (loop .k) _ _ (loop-test .taken) (sym (c .if1 .left) ∙ next-entry _ _ _ _ _ (c .before .before .entry-at .ensures ∙ ap (at (args .entries .now)) (add-one (loop .k))) (c .before .entry-ok .ensures))
+    fails (loop .k) _ _ (loop-test .taken) (sym (c .if1 .left) ∙ next-entry _ _ _ _ _ (c .before .before .at16 .ensures ∙ ap (at (args .entries .now)) (add-one (loop .k))) (c .before .entry-ok .ensures))
 
 loop-again : tie.Need-loop-again Inv-loop μ-loop
 loop-again c =
     let loop = c .before .before .before .before .before .loop in
     let args = c .before .before .before .before .before .before .before .args in
-    again _ _ (loop .inv) (sym (c .if1 .taken) ∙ next-entry _ _ _ _ _ (c .before .before .entry-at .ensures ∙ ap (at (args .entries .now)) (add-one (loop .k))) (c .before .entry-ok .ensures))
+    again _ _ (loop .inv) (sym (c .if1 .taken) ∙ next-entry _ _ _ _ _ (c .before .before .at16 .ensures ∙ ap (at (args .entries .now)) (add-one (loop .k))) (c .before .entry-ok .ensures))
 
 returns-2 : tie.Need-returns-2 Inv-loop μ-loop
 returns-2 c = done _ _ _ (c .before .loop .inv) (c .loop-test .left)
