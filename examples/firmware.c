@@ -8,7 +8,7 @@ enum { W = 4, R = 8, F = 3, S = 2, N = 4, Q = 2 };
 
 static const KeeperSizes sizes = {.words = W, .records = R, .frames = F, .slots = S, .pages = N, .accounts = Q};
 
-/* What survives a cut. */
+/* What survives a cut: here the device and the copy of it that is lent are one. */
 static struct {
     uint32_t records[R * W], numbers[S];
     uint16_t accounts[S], maps[S * N], limits[Q];
@@ -35,11 +35,15 @@ static struct {
 
 static unsigned refused; /* calls that were refused */
 
+/* What `done` gives for a call that was refused: no frame, and no number of looks. */
+#define REFUSED UINT32_MAX
+
 static uint32_t done(const char *what, KeeperAnswer answer)
 {
     if (answer.refusal != KEEPER_DONE) {
         printf("%s: refused, %u\n", what, (unsigned)answer.refusal);
         refused++;
+        return REFUSED;
     }
     return answer.result;
 }
@@ -64,13 +68,16 @@ static void bring(uint32_t slot, uint32_t page)
         ask("page done", KEEPER_PAGE_DONE, frame, 1, 0, 0);
 }
 
-/* A page is woven: its words count up from the first. Then its frame is claimed, and a write begins. Result: the frame. */
+/* A page is woven: its words count up from the first. Then its frame is claimed, and a write begins. Result: the frame,
+ * or F where there is none. */
 static uint32_t weave(uint32_t slot, uint32_t page, uint32_t first)
 {
     bring(slot, page);
     for (uint32_t word = 0; word < W; word++)
         ask("write", KEEPER_WRITE, slot, page, word, first + word);
     uint32_t looks = ask("claim", KEEPER_CLAIM, 0, 0, 0, 0), frame = 0;
+    if (looks == REFUSED)
+        return F;
     while (frame < F && (memory.frames[frame].page != slot * N + page + 1 || memory.frames[frame].transfer != 2))
         frame++;
     printf("mill %u weaves page %u from %u on: %u looks, a write from frame %u begins\n", slot, page, first, looks, frame);

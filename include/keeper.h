@@ -2,7 +2,8 @@
  *
  * All tables are lent by the caller, as a pointer and a count of elements each; the keeper keeps no memory of its own, never
  * allocates, never blocks, and every call ends. A table of a wrong length is answered 1. After a refusal everything lent is as it
- * was. What the caller owes: no pointer is null, each is aligned as its elements, no two tables overlap. */
+ * was. What the caller owes: no pointer is null, each is aligned as its elements, no two tables overlap, and one call at a time on
+ * one set of tables. */
 #ifndef KEEPER_H
 #define KEEPER_H
 
@@ -107,7 +108,7 @@ enum {
     KEEPER_PAGE_IN = 15,        /* fault: the page is in a frame */
     KEEPER_WIRED = 16,          /* a page concerned is wired */
     KEEPER_NOT_WIRED = 17,      /* unwire: the page is not wired */
-    KEEPER_AT_LIMIT = 18,       /* fault: the account is at its limit */
+    KEEPER_AT_LIMIT = 18,       /* fault: the account is at its limit or above */
     KEEPER_NO_RECORD = 19,      /* fault: no record is free */
     KEEPER_NO_FRAME = 20,       /* fault: no frame is free */
     KEEPER_NOTHING_TO_CLAIM = 21, /* claim: the removal list is empty */
@@ -116,24 +117,24 @@ enum {
 };
 
 /* The lent tables, in the order of every call: a pointer and a count of elements each. The comment is the count that is asked for. */
-#define KEEPER_DISK(Q)                                                                                                           \
-    Q uint32_t *records, size_t records_count,             /* R * W */                                                           \
-        Q uint32_t *numbers, size_t numbers_count,         /* S */                                                               \
-        Q uint16_t *accounts, size_t accounts_count,       /* S */                                                               \
-        Q uint16_t *maps, size_t maps_count,               /* S * N */                                                           \
-        Q uint16_t *limits, size_t limits_count            /* Q */
-#define KEEPER_MEMORY(Q)                                                                                                         \
-    Q uint32_t *frame_words, size_t frame_words_count,     /* F * W */                                                           \
-        Q uint16_t *free_queue, size_t free_queue_count,   /* F */                                                               \
-        Q uint16_t *removal_list, size_t removal_list_count, /* F */                                                             \
-        Q uint16_t *addresses, size_t addresses_count,     /* S * N */                                                           \
-        Q uint8_t *states, size_t states_count,            /* R */                                                               \
-        Q uint8_t *owners, size_t owners_count,            /* R */                                                               \
-        Q uint32_t *free_map, size_t free_map_count,       /* (R + 31) / 32 */                                                   \
-        Q uint8_t *active, size_t active_count,            /* S */                                                               \
-        Q uint8_t *updating, size_t updating_count,        /* S */                                                               \
-        Q uint16_t *images, size_t images_count,           /* S * N */                                                           \
-        Q uint16_t *used, size_t used_count                /* Q */
+#define KEEPER_DISK(CONST)                                                                                                       \
+    CONST uint32_t *records, size_t records_count,          /* R * W */                                                          \
+        CONST uint32_t *numbers, size_t numbers_count,      /* S */                                                              \
+        CONST uint16_t *accounts, size_t accounts_count,    /* S */                                                              \
+        CONST uint16_t *maps, size_t maps_count,            /* S * N */                                                          \
+        CONST uint16_t *limits, size_t limits_count         /* Q */
+#define KEEPER_MEMORY(CONST)                                                                                                     \
+    CONST uint32_t *frame_words, size_t frame_words_count,  /* F * W */                                                          \
+        CONST uint16_t *free_queue, size_t free_queue_count, /* F */                                                             \
+        CONST uint16_t *removal_list, size_t removal_list_count, /* F */                                                         \
+        CONST uint16_t *addresses, size_t addresses_count,  /* S * N */                                                          \
+        CONST uint8_t *states, size_t states_count,         /* R */                                                              \
+        CONST uint8_t *owners, size_t owners_count,         /* R */                                                              \
+        CONST uint32_t *free_map, size_t free_map_count,    /* (R + 31) / 32 */                                                  \
+        CONST uint8_t *active, size_t active_count,         /* S */                                                              \
+        CONST uint8_t *updating, size_t updating_count,     /* S */                                                              \
+        CONST uint16_t *images, size_t images_count,        /* S * N */                                                          \
+        CONST uint16_t *used, size_t used_count             /* Q */
 
 /* Zeroes the disk part, once for a new disk. Lent: the disk part. Answers 0 or 1. */
 KeeperAnswer keeper_format(KeeperSizes sizes, KEEPER_DISK());
