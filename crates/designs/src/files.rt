@@ -1,4 +1,4 @@
-// Limit, create and delete: each is one disk store.
+// Limit, create and delete: stores to the disk part alone, which the caller brings to the device as one.
 ghost use mathlib.Core.Path.{_≡_};
 ghost use mathlib.Core.List.{[]};
 ghost use Rattle.model.specs.declared.event.Design.the-variants as Design;

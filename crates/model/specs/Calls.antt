@@ -12,13 +12,13 @@ use Rattle.model.specs.declared.frame.Frame.{Frame}
 use Rattle.model.specs.declared.request.Request.{Request}
 use Rattle.model.specs.declared.request.Decoded.{Decoded}
 use Rattle.model.specs.declared.request.Decoded.the-variants.{Known, Unknown}
-use Rattle.model.specs.Requests.{decoded}
+use Rattle.model.specs.Requests.{decoded, decodedNumber}
 use Rattle.model.specs.State.{State, noFrame}
 use Rattle.model.specs.Step.{Outcome, outcome, asked, step}
 
--- a kind that is no event gets 3, after 1 and 2
+-- a kind that is no event gets its number, after 1 and 2
 unfoldable pub unknown : Sizes → State → Outcome State
-unknown z st = outcome (firstNo (asked z st (ask 3 (same 0 1) none))) 0 st st
+unknown z st = outcome (firstNo (asked z st (ask (decodedNumber Unknown) (same 0 1) none))) 0 st st
 
 unfoldable pub stepOf : Sizes → State → Decoded → Outcome State
 stepOf z st (Known e) = step z st e
