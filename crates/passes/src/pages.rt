@@ -12,7 +12,7 @@ use model::lines::NULLED;
 use model::lines::RELEASED;
 
 // Whether n entries from i up name nothing: all are looked at, so that many are compared at once.
-pub fn zeros(entries: &[u16], i: usize, n: usize) -> bool
+fn zeros(entries: &[u16], i: usize, n: usize) -> bool
     requires { ⌜ i + n ≤ length (now entries) ⌝ }
     ensures { λ r. ⌜ r ≡ test (each n (λ k. same (at (now (entries .entry)) (i + k)) 0)) ⌝ }
 {
@@ -95,6 +95,14 @@ pub fn held(s: usize, address: u16, states: &[u8], owners: &[u8]) -> bool
     (owners[r] as usize == s) & ((states[r] == NULLED) | (states[r] == LIVE))
 }
 
+// An inactive slot has no address: asked of its row.
+pub fn address_active(pages: usize, s: usize, addresses: &[u16]) -> bool
+    requires { ⌜ s * pages + pages ≤ length (now addresses) ⌝ }
+    ensures { λ r. ⌜ r ≡ test (each pages (λ p. same (at (now (addresses .entry)) (s * pages + p)) 0)) ⌝ }
+{
+    zeros(addresses, s * pages, pages)
+}
+
 // A record in a begun image is held by that same page or is that slot's released record.
 pub fn imaged(s: usize, image: u16, address: u16, states: &[u8], owners: &[u8]) -> bool
     requires { ⌜ (image ≤ length (now states)) × (image ≤ length (now owners)) ⌝ }
@@ -108,4 +116,12 @@ pub fn imaged(s: usize, image: u16, address: u16, states: &[u8], owners: &[u8]) 
     }
     let r = image as usize - 1;
     (owners[r] as usize == s) & (states[r] == RELEASED)
+}
+
+// An image is zero unless its update is under way: asked of its row.
+pub fn image_zero(pages: usize, s: usize, images: &[u16]) -> bool
+    requires { ⌜ s * pages + pages ≤ length (now images) ⌝ }
+    ensures { λ r. ⌜ r ≡ test (each pages (λ p. same (at (now (images .entry)) (s * pages + p)) 0)) ⌝ }
+{
+    zeros(images, s * pages, pages)
 }

@@ -13,11 +13,12 @@ ghost use Rattle.passes.specs.Passes.{Prefix, distinct, marked, heldRow,
 use crate::counts::charged_one;
 use crate::counts::listed_one;
 use crate::marks::mark_entry;
+use crate::pages::address_active;
 use crate::pages::filed;
 use crate::pages::held;
+use crate::pages::image_zero;
 use crate::pages::imaged;
 use crate::pages::mapped;
-use crate::pages::zeros;
 
 // What a pass over the pages of one slot finds: whether they keep the rules, and how many count as used.
 pub struct Row {
@@ -59,7 +60,7 @@ fn active_row(
     Row { ok: true, used }
 }
 
-// A row of an inactive slot: it has no address.
+// A row of an inactive slot.
 fn inactive_row(
     pages: usize,
     s: usize,
@@ -73,7 +74,7 @@ fn inactive_row(
     ensures { λ r. ⌜ (r .ok ≡ test (heldRow pages s active (now (maps .entry)) (now (addresses .entry)) (now (states .entry)) (now (owners .entry)))) × (r .ok ≡ true → Holds (each pages (λ p. same (at (now (addresses .entry)) (s * pages + p)) 0)) × (r .used ≡ count pages (λ p. ltb 0 (at (now (maps .entry)) (s * pages + p))))) ⌝ }
 {
     let base = s * pages;
-    if zeros(addresses, base, pages) {} else {
+    if address_active(pages, s, addresses) {} else {
         return Row { ok: false, used: 0 };
     }
     let mut used = 0;
@@ -152,7 +153,6 @@ fn image_row(
     true
 }
 
-// An image is zero unless its update is under way.
 fn image_ok(
     pages: usize,
     s: usize,
@@ -180,7 +180,7 @@ fn image_ok(
             owners,
         );
     }
-    zeros(images, s * pages, pages)
+    image_zero(pages, s, images)
 }
 
 // Every page, slot by slot. What pages hold and what images list is marked, from marks that are off; each account's used pages

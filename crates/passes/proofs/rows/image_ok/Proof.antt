@@ -23,8 +23,8 @@ returns c =
     let image-row = c .before .before .image-row in
     image-row .ensures
 
-zeros-requires : tie.Need-zeros-requires
-zeros-requires c κs =
+image-zero-requires : tie.Need-image-zero-requires
+image-zero-requires c κs =
     let pre = c .before .before .before .before .before .before .pre in
     omega (arith, pre .0, pre .1 .images-long)
 
@@ -33,8 +33,8 @@ returns-2 c =
     let args = c .before .before .before .before .before .before .before .args in
     let pre = c .before .before .before .before .before .before .before .pre in
     let if1 = c .before .if1 in
-    let zeros = c .zeros in
-    (image-only (args .pages) (args .s) (args .records) (length (args .addresses .now)) (length (args .marks .now)) (args .marks .now) _ (pre .0) (args .updating) (args .addresses .now) (args .images .now) (args .states .now) (args .owners .now) (if1 .left) (pre .2) (zeros .ensures), λ e. skip-run (args .records) (length (args .addresses .now)) (at (args .images .now)) (length (args .marks .now)) (args .marks .now) (args .s * args .pages) (pre .2) (args .pages) (pre .0) (learn (each _ λ k. same (at (args .images .now) (args .s * args .pages + k)) 0) (sym e ∙ zeros .ensures)))
+    let image-zero = c .image-zero in
+    (image-only (args .pages) (args .s) (args .records) (length (args .addresses .now)) (length (args .marks .now)) (args .marks .now) _ (pre .0) (args .updating) (args .addresses .now) (args .images .now) (args .states .now) (args .owners .now) (if1 .left) (pre .2) (image-zero .ensures), λ e. skip-run (args .records) (length (args .addresses .now)) (at (args .images .now)) (length (args .marks .now)) (args .marks .now) (args .s * args .pages) (pre .2) (args .pages) (pre .0) (learn (each _ λ k. same (at (args .images .now) (args .s * args .pages + k)) 0) (sym e ∙ image-zero .ensures)))
 
 pub image-ok-spec : {M : Type 1} → statement M
-image-ok-spec = tie.close (tie.spec image-row-requires (λ c. search needs) returns (λ c. search needs) zeros-requires returns-2)
+image-ok-spec = tie.close (tie.spec image-row-requires (λ c. search needs) returns image-zero-requires returns-2)

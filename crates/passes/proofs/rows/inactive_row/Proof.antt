@@ -20,8 +20,8 @@ Inv-loop pages s active maps addresses states owners base used₀ p₀ used p = 
 abbrev μ-loop : tie.MeasureT-loop
 μ-loop pages s active maps addresses states owners base used₀ p₀ used p = pages - p
 
-zeros-requires : tie.Need-zeros-requires Inv-loop μ-loop
-zeros-requires c κs =
+address-active-requires : tie.Need-address-active-requires Inv-loop μ-loop
+address-active-requires c κs =
     let pre = c .before .before .before .before .pre in
     omega (arith, pre .1, pre .2)
 
@@ -29,9 +29,9 @@ returns : tie.Need-returns Inv-loop μ-loop
 returns c =
     let args = c .before .before .before .before .before .before .args in
     let if1 = c .if1 in
-    let zeros = c .before .zeros in
+    let address-active = c .before .address-active in
     let pre = c .before .before .before .before .before .before .pre in
-    (not-so _ (λ h. unlearn (each _ λ k. same (at (args .addresses .now) (args .s * args .pages + k)) 0) (sym (if1 .left) ∙ zeros .ensures) (λ k l. inactive-zero _ _ _ _ _ _ (pre .0) (h k l))), not-true)
+    (not-so _ (λ h. unlearn (each _ λ k. same (at (args .addresses .now) (args .s * args .pages + k)) 0) (sym (if1 .left) ∙ address-active .ensures) (λ k l. inactive-zero _ _ _ _ _ _ (pre .0) (h k l))), not-true)
 
 loop-holds : tie.Need-loop-holds Inv-loop μ-loop
 loop-holds c =
@@ -53,9 +53,9 @@ returns-2 c =
     let pre = c .before .before .before .before .before .before .before .before .before .before .before .pre in
     let args = c .before .before .before .before .before .before .before .before .before .before .before .args in
     let if1 = c .before .before .before .before .before .if1 in
-    let zeros = c .before .before .before .before .before .before .zeros in
+    let address-active = c .before .before .before .before .before .before .address-active in
     let filed = c .before .filed in
-    (fails (loop .p) _ _ (loop-test .taken) (sym (if2 .left) ∙ inactive-told _ _ _ _ _ _ (pre .0) (learn (each _ λ k. same (at (args .addresses .now) (args .s * args .pages + k)) 0) (sym (if1 .taken) ∙ zeros .ensures) (loop .p) (loop-test .taken)) _ (filed .ensures)), not-true)
+    (fails (loop .p) _ _ (loop-test .taken) (sym (if2 .left) ∙ inactive-told _ _ _ _ _ _ (pre .0) (learn (each _ λ k. same (at (args .addresses .now) (args .s * args .pages + k)) 0) (sym (if1 .taken) ∙ address-active .ensures) (loop .p) (loop-test .taken)) _ (filed .ensures)), not-true)
 
 add-used : tie.Need-add-used Inv-loop μ-loop
 add-used c =
@@ -73,11 +73,11 @@ loop-again c =
     let pre = c .before .before .before .before .before .before .before .before .before .before .before .before .pre in
     let args = c .before .before .before .before .before .before .before .before .before .before .before .before .args in
     let if1 = c .before .before .before .before .before .before .if1 in
-    let zeros = c .before .before .before .before .before .before .before .zeros in
+    let address-active = c .before .before .before .before .before .before .before .address-active in
     let loop-test = c .before .before .before .before .loop-test in
     let filed = c .before .before .filed in
     let listed-one = c .listed-one in
-    (again _ _ (loop .inv .0) (sym (if2 .taken) ∙ inactive-told _ _ _ _ _ _ (pre .0) (learn (each _ λ k. same (at (args .addresses .now) (args .s * args .pages + k)) 0) (sym (if1 .taken) ∙ zeros .ensures) (loop .p) (loop-test .taken)) _ (filed .ensures)), count-next _ _ _ _ (loop .inv .1) (listed-one .ensures), omega (arith, loop-test .taken))
+    (again _ _ (loop .inv .0) (sym (if2 .taken) ∙ inactive-told _ _ _ _ _ _ (pre .0) (learn (each _ λ k. same (at (args .addresses .now) (args .s * args .pages + k)) 0) (sym (if1 .taken) ∙ address-active .ensures) (loop .p) (loop-test .taken)) _ (filed .ensures)), count-next _ _ _ _ (loop .inv .1) (listed-one .ensures), omega (arith, loop-test .taken))
 
 returns-3 : tie.Need-returns-3 Inv-loop μ-loop
 returns-3 c =
@@ -85,8 +85,8 @@ returns-3 c =
     let loop-test = c .loop-test in
     let args = c .before .before .before .before .before .before .before .before .args in
     let if1 = c .before .before .if1 in
-    let zeros = c .before .before .before .zeros in
-    (done _ _ _ (loop .inv .0) (loop-test .left), λ e. (learn (each _ λ k. same (at (args .addresses .now) (args .s * args .pages + k)) 0) (sym (if1 .taken) ∙ zeros .ensures), count-end _ _ _ _ (loop .inv .1) (loop .inv .2) (loop-test .left)))
+    let address-active = c .before .before .before .address-active in
+    (done _ _ _ (loop .inv .0) (loop-test .left), λ e. (learn (each _ λ k. same (at (args .addresses .now) (args .s * args .pages + k)) 0) (sym (if1 .taken) ∙ address-active .ensures), count-end _ _ _ _ (loop .inv .1) (loop .inv .2) (loop-test .left)))
 
 pub inactive-row-spec : {M : Type 1} → statement M
-inactive-row-spec = tie.close (tie.spec Inv-loop μ-loop (λ c. search needs) zeros-requires returns loop-holds (λ c. search needs) (λ c. search needs) (λ c. search needs) filed-requires returns-2 (λ c κs. search needs) add-used (λ c. search needs) (λ c. search needs) loop-again returns-3)
+inactive-row-spec = tie.close (tie.spec Inv-loop μ-loop (λ c. search needs) address-active-requires returns loop-holds (λ c. search needs) (λ c. search needs) (λ c. search needs) filed-requires returns-2 (λ c κs. search needs) add-used (λ c. search needs) (λ c. search needs) loop-again returns-3)
