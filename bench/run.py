@@ -20,9 +20,9 @@ NO_REPEATS = {"GLIBC_TUNABLES": "glibc.cpu.hwcaps=-ERMS,-FSRM"}
 SIZES = ["smallest", "middle", "largest"]
 SECONDS = "20"
 HEADING = "## Tables"
-# the mean leaves these out: they are not calls of a running keeper
-APART = ["format", "restart"]
-MEAN = "mean of all but format and restart"
+# the mean leaves these out: they are no events of a running keeper
+APART = ["format", "restart", "refused"]
+MEAN = "mean of all but format, restart and refused"
 
 
 def output(*words, more={}):

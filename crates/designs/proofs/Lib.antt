@@ -1,6 +1,5 @@
 -- Laws that the proofs of this crate share.
 pub mod Tests
-pub mod Live
 pub mod Carried
 pub mod Kept
 pub mod Filed

@@ -28,7 +28,7 @@ use Rattle.model.specs.Index.{of-pages}
 use Rattle.model.specs.Ruled.{Ruled}
 use Rattle.model.specs.Fit.{Fit}
 use Rattle.parts.specs.Counts.{counts}
-use Rattle.designs.proofs.Live.{live-split}
+use Rattle.parts.specs.Addresses.{live-split}
 use Rattle.designs.proofs.Kept.{after, split-in, split-out, counts-kept, counted-kept}
 
 -- the slot's pages take new addresses, its records in state x become y, its switch becomes b

@@ -1,13 +1,14 @@
 -- The questions about a design, in the parts in which the code asks them.
 use mathlib.Core.List.{List}
 use Prim.Native.Nat.{ℕ, suc, _+_, _*_}
-use Rattle.tables.specs.Base.{at, if}
+use Rattle.tables.specs.Base.{at}
 use Rattle.tables.specs.Questions.{Questions, none, ask}
-use Rattle.tables.specs.Rule.{Rule, same, below, non, _and_, _or_, _then_, each, some, names, test}
+use Rattle.tables.specs.Rule.{Rule, same, below, non, _and_, _or_, _then_, each, some}
 use Rattle.model.specs.declared.sizes.Sizes.{Sizes}
 use Rattle.model.specs.declared.frame.Frame.{Frame}
-use Rattle.model.specs.Lines.{NULLED, LIVE, RELEASED}
+use Rattle.model.specs.Lines.{NULLED, RELEASED}
 use Rattle.model.specs.State.{frameAt}
+use Rattle.parts.specs.Addresses.{liveAddress}
 
 -- 3 and 4: the slot below its size; filled
 abbrev pub filledAsked : Sizes → ℕ → List ℕ → Questions
@@ -36,10 +37,6 @@ activeAsked s active updating = ask 8 (same (at active s) 1) (ask 10 (same (at u
 -- 11: no page of the slot in a frame
 abbrev pub unframed : ℕ → List Frame → ℕ → ℕ → Rule
 unframed count fs pages s = each pages λ p. non (some count λ f. same (frameAt fs f .page) (suc (s * pages + p)))
-
--- what an update now would store for a page: its live address, or 0
-abbrev pub liveAddress : List ℕ → List ℕ → ℕ → ℕ
-liveAddress addresses states i = if (test (names (at addresses i) λ r. same (at states r) LIVE)) (at addresses i) 0
 
 -- 12: the slot's map is what an update now would store,
 abbrev pub trueMap : List ℕ → List ℕ → List ℕ → ℕ → ℕ → Rule

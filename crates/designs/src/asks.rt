@@ -10,7 +10,7 @@ ghost use Rattle.model.specs.declared.event.Event.the-variants as Event;
 ghost use Rattle.model.specs.Fit.{Within};
 ghost use Rattle.model.specs.Questions.{questions};
 ghost use Rattle.designs.specs.Asks.{filledAsked, newNumber, activeAsked, heldAsked};
-ghost use Rattle.designs.specs.Seen.{filed, turned};
+ghost use Rattle.designs.specs.Seen.{seenFiles, seenTurns};
 use crate::frames::none_framed;
 use crate::maps::map_true;
 use crate::maps::map_zero;
@@ -49,7 +49,7 @@ pub fn number_new(slots: usize, numbers: &[u32], number: u32) -> bool
 
 // Questions 3, 5 and 6.
 pub fn ask_create(sizes: Sizes, slot: usize, account: usize, number: u32, numbers: &[u32]) -> u32
-    ensures { λ r. ⌜ r ≡ firstNo (questions sizes (filed (now (numbers .entry)) [] [] [] []) (Event.Design (Design.Create slot account number))) ⌝ }
+    ensures { λ r. ⌜ r ≡ firstNo (questions sizes (seenFiles (now (numbers .entry)) [] [] [] []) (Event.Design (Design.Create slot account number))) ⌝ }
 {
     let in_range = (slot < sizes.slots) & ((account < sizes.accounts) & (0 < number));
     if in_range {} else {
@@ -67,7 +67,7 @@ pub fn ask_create(sizes: Sizes, slot: usize, account: usize, number: u32, number
 // Questions 3, 4, 7 and 9.
 pub fn ask_delete(sizes: Sizes, slot: usize, numbers: &[u32], maps: &[u16], active: &[u8]) -> u32
     requires { ⌜ Within sizes ⌝ }
-    ensures { λ r. ⌜ r ≡ firstNo (questions sizes (filed (now (numbers .entry)) [] (now (maps .entry)) [] (now (active .entry))) (Event.Design (Design.Delete slot))) ⌝ }
+    ensures { λ r. ⌜ r ≡ firstNo (questions sizes (seenFiles (now (numbers .entry)) [] (now (maps .entry)) [] (now (active .entry))) (Event.Design (Design.Delete slot))) ⌝ }
 {
     let no = ask_filled(sizes, slot, numbers);
     if no != 0 {
@@ -84,7 +84,7 @@ pub fn ask_delete(sizes: Sizes, slot: usize, numbers: &[u32], maps: &[u16], acti
 
 // Questions 3, 4 and 9.
 pub fn ask_activate(sizes: Sizes, slot: usize, numbers: &[u32], active: &[u8]) -> u32
-    ensures { λ r. ⌜ r ≡ firstNo (questions sizes (turned [] (now (numbers .entry)) [] [] [] [] (now (active .entry)) []) (Event.Design (Design.Activate slot))) ⌝ }
+    ensures { λ r. ⌜ r ≡ firstNo (questions sizes (seenTurns [] (now (numbers .entry)) [] [] [] [] (now (active .entry)) []) (Event.Design (Design.Activate slot))) ⌝ }
 {
     let no = ask_filled(sizes, slot, numbers);
     if no != 0 {
@@ -148,7 +148,7 @@ pub fn ask_deactivate(
     updating: &[u8],
 ) -> u32
     requires { ⌜ Within sizes × (length (now states) ≤ length (now owners)) ⌝ }
-    ensures { λ r. ⌜ r ≡ firstNo (questions sizes (turned (take (sizes .frames) frames) (now (numbers .entry)) (now (maps .entry)) (now (addresses .entry)) (now (states .entry)) (now (owners .entry)) (now (active .entry)) (now (updating .entry))) (Event.Design (Design.Deactivate slot))) ⌝ }
+    ensures { λ r. ⌜ r ≡ firstNo (questions sizes (seenTurns (take (sizes .frames) frames) (now (numbers .entry)) (now (maps .entry)) (now (addresses .entry)) (now (states .entry)) (now (owners .entry)) (now (active .entry)) (now (updating .entry))) (Event.Design (Design.Deactivate slot))) ⌝ }
 {
     let no = ask_filled(sizes, slot, numbers);
     if no != 0 {

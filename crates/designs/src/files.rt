@@ -5,7 +5,7 @@ ghost use Rattle.model.specs.declared.event.Design.the-variants as Design;
 ghost use Rattle.model.specs.declared.event.Event.the-variants as Event;
 ghost use Rattle.model.specs.Fit.{Within};
 ghost use Rattle.model.specs.Own.{own};
-ghost use Rattle.designs.specs.Seen.{filed};
+ghost use Rattle.designs.specs.Seen.{seenFiles};
 use crate::asks::ask_create;
 use crate::asks::ask_delete;
 use model::event::Answer;
@@ -15,8 +15,8 @@ use parts::cells::put32;
 
 // The account's limit is set.
 pub fn limit(sizes: Sizes, account: usize, pages: usize, limits: &mut [u16]) -> Answer
-    ensures answer { λ r. ⌜ r ≡ own sizes (filed [] [] [] (now (limits .entry)) []) (Event.Design (Design.Limit account pages)) .answer ⌝ }
-    ensures limits { λ r. ⌜ now (limits .exit) ≡ own sizes (filed [] [] [] (now (limits .entry)) []) (Event.Design (Design.Limit account pages)) .left .disk .limits ⌝ }
+    ensures answer { λ r. ⌜ r ≡ own sizes (seenFiles [] [] [] (now (limits .entry)) []) (Event.Design (Design.Limit account pages)) .answer ⌝ }
+    ensures limits { λ r. ⌜ now (limits .exit) ≡ own sizes (seenFiles [] [] [] (now (limits .entry)) []) (Event.Design (Design.Limit account pages)) .left .disk .limits ⌝ }
 {
     let in_range = (account < sizes.accounts) & (pages < 65536);
     if in_range {} else {
@@ -42,9 +42,9 @@ pub fn create(
     accounts: &mut [u16],
 ) -> Answer
     requires { ⌜ Within sizes ⌝ }
-    ensures answer { λ r. ⌜ r ≡ own sizes (filed (now (numbers .entry)) (now (accounts .entry)) [] [] []) (Event.Design (Design.Create slot account number)) .answer ⌝ }
-    ensures numbers { λ r. ⌜ now (numbers .exit) ≡ own sizes (filed (now (numbers .entry)) (now (accounts .entry)) [] [] []) (Event.Design (Design.Create slot account number)) .left .disk .numbers ⌝ }
-    ensures accounts { λ r. ⌜ now (accounts .exit) ≡ own sizes (filed (now (numbers .entry)) (now (accounts .entry)) [] [] []) (Event.Design (Design.Create slot account number)) .left .disk .accounts ⌝ }
+    ensures answer { λ r. ⌜ r ≡ own sizes (seenFiles (now (numbers .entry)) (now (accounts .entry)) [] [] []) (Event.Design (Design.Create slot account number)) .answer ⌝ }
+    ensures numbers { λ r. ⌜ now (numbers .exit) ≡ own sizes (seenFiles (now (numbers .entry)) (now (accounts .entry)) [] [] []) (Event.Design (Design.Create slot account number)) .left .disk .numbers ⌝ }
+    ensures accounts { λ r. ⌜ now (accounts .exit) ≡ own sizes (seenFiles (now (numbers .entry)) (now (accounts .entry)) [] [] []) (Event.Design (Design.Create slot account number)) .left .disk .accounts ⌝ }
 {
     let refusal = ask_create(sizes, slot, account, number, numbers);
     if refusal != 0 {
@@ -68,9 +68,9 @@ pub fn delete(
     active: &[u8],
 ) -> Answer
     requires { ⌜ Within sizes ⌝ }
-    ensures answer { λ r. ⌜ r ≡ own sizes (filed (now (numbers .entry)) (now (accounts .entry)) (now (maps .entry)) [] (now (active .entry))) (Event.Design (Design.Delete slot)) .answer ⌝ }
-    ensures numbers { λ r. ⌜ now (numbers .exit) ≡ own sizes (filed (now (numbers .entry)) (now (accounts .entry)) (now (maps .entry)) [] (now (active .entry))) (Event.Design (Design.Delete slot)) .left .disk .numbers ⌝ }
-    ensures accounts { λ r. ⌜ now (accounts .exit) ≡ own sizes (filed (now (numbers .entry)) (now (accounts .entry)) (now (maps .entry)) [] (now (active .entry))) (Event.Design (Design.Delete slot)) .left .disk .accounts ⌝ }
+    ensures answer { λ r. ⌜ r ≡ own sizes (seenFiles (now (numbers .entry)) (now (accounts .entry)) (now (maps .entry)) [] (now (active .entry))) (Event.Design (Design.Delete slot)) .answer ⌝ }
+    ensures numbers { λ r. ⌜ now (numbers .exit) ≡ own sizes (seenFiles (now (numbers .entry)) (now (accounts .entry)) (now (maps .entry)) [] (now (active .entry))) (Event.Design (Design.Delete slot)) .left .disk .numbers ⌝ }
+    ensures accounts { λ r. ⌜ now (accounts .exit) ≡ own sizes (seenFiles (now (numbers .entry)) (now (accounts .entry)) (now (maps .entry)) [] (now (active .entry))) (Event.Design (Design.Delete slot)) .left .disk .accounts ⌝ }
 {
     let refusal = ask_delete(sizes, slot, numbers, maps, active);
     if refusal != 0 {

@@ -3,11 +3,10 @@ ghost use mathlib.Core.Path.{_≡_};
 ghost use Prim.Native.Nat.{_+_, _*_, _<_, _≤_};
 ghost use lib.ListN.{length};
 ghost use Rattle.tables.specs.Rule.{test};
-ghost use Rattle.designs.specs.Asks.{zeroMap, liveAddress, trueMap, settledRecord, settled};
-use model::lines::LIVE;
+ghost use Rattle.designs.specs.Asks.{zeroMap, trueMap, settledRecord, settled};
 use model::lines::NULLED;
 use model::lines::RELEASED;
-use parts::cells::at8;
+use parts::addresses::live_address;
 use parts::cells::at16;
 
 // Whether the slot's map is all 0.
@@ -24,20 +23,6 @@ pub fn map_zero(maps: &[u16], pages: usize, slot: usize) -> bool
         p += 1;
     }
     true
-}
-
-// What an update now would store for the page.
-pub fn live_address(addresses: &[u16], states: &[u8], i: usize) -> u16
-    ensures { λ r. ⌜ r ≡ liveAddress (now (addresses .entry)) (now (states .entry)) i ⌝ }
-{
-    let address = at16(addresses, i);
-    if address == 0 {
-        return 0;
-    }
-    if at8(states, address as usize - 1) == LIVE {
-        return address;
-    }
-    0
 }
 
 // Whether the slot's map is what an update now would store.

@@ -6,7 +6,7 @@ ghost use Rattle.model.specs.declared.event.Design.the-variants as Design;
 ghost use Rattle.model.specs.declared.event.Event.the-variants as Event;
 ghost use Rattle.model.specs.Own.{own};
 ghost use Rattle.designs.specs.Needs.{Turning};
-ghost use Rattle.designs.specs.Seen.{turned};
+ghost use Rattle.designs.specs.Seen.{seenTurns};
 use crate::asks::ask_activate;
 use crate::asks::ask_deactivate;
 use model::event::Answer;
@@ -31,10 +31,10 @@ pub fn activate(
     active: &mut [u8],
 ) -> Answer
     requires { ⌜ Turning sizes (now maps) (now addresses) (now states) (now owners) ⌝ }
-    ensures answer { λ r. ⌜ r ≡ own sizes (turned [] (now (numbers .entry)) (now (maps .entry)) (now (addresses .entry)) (now (states .entry)) (now (owners .entry)) (now (active .entry)) []) (Event.Design (Design.Activate slot)) .answer ⌝ }
-    ensures addresses { λ r. ⌜ now (addresses .exit) ≡ own sizes (turned [] (now (numbers .entry)) (now (maps .entry)) (now (addresses .entry)) (now (states .entry)) (now (owners .entry)) (now (active .entry)) []) (Event.Design (Design.Activate slot)) .left .memory .held .addresses ⌝ }
-    ensures states { λ r. ⌜ now (states .exit) ≡ own sizes (turned [] (now (numbers .entry)) (now (maps .entry)) (now (addresses .entry)) (now (states .entry)) (now (owners .entry)) (now (active .entry)) []) (Event.Design (Design.Activate slot)) .left .memory .held .states ⌝ }
-    ensures active { λ r. ⌜ now (active .exit) ≡ own sizes (turned [] (now (numbers .entry)) (now (maps .entry)) (now (addresses .entry)) (now (states .entry)) (now (owners .entry)) (now (active .entry)) []) (Event.Design (Design.Activate slot)) .left .memory .slots .active ⌝ }
+    ensures answer { λ r. ⌜ r ≡ own sizes (seenTurns [] (now (numbers .entry)) (now (maps .entry)) (now (addresses .entry)) (now (states .entry)) (now (owners .entry)) (now (active .entry)) []) (Event.Design (Design.Activate slot)) .answer ⌝ }
+    ensures addresses { λ r. ⌜ now (addresses .exit) ≡ own sizes (seenTurns [] (now (numbers .entry)) (now (maps .entry)) (now (addresses .entry)) (now (states .entry)) (now (owners .entry)) (now (active .entry)) []) (Event.Design (Design.Activate slot)) .left .memory .held .addresses ⌝ }
+    ensures states { λ r. ⌜ now (states .exit) ≡ own sizes (seenTurns [] (now (numbers .entry)) (now (maps .entry)) (now (addresses .entry)) (now (states .entry)) (now (owners .entry)) (now (active .entry)) []) (Event.Design (Design.Activate slot)) .left .memory .held .states ⌝ }
+    ensures active { λ r. ⌜ now (active .exit) ≡ own sizes (seenTurns [] (now (numbers .entry)) (now (maps .entry)) (now (addresses .entry)) (now (states .entry)) (now (owners .entry)) (now (active .entry)) []) (Event.Design (Design.Activate slot)) .left .memory .slots .active ⌝ }
 {
     let refusal = ask_activate(sizes, slot, numbers, active);
     if refusal != 0 {
@@ -63,10 +63,10 @@ pub fn deactivate(
     updating: &[u8],
 ) -> Answer
     requires { ⌜ Turning sizes (now maps) (now addresses) (now states) (now owners) ⌝ }
-    ensures answer { λ r. ⌜ r ≡ own sizes (turned (take (sizes .frames) frames) (now (numbers .entry)) (now (maps .entry)) (now (addresses .entry)) (now (states .entry)) (now (owners .entry)) (now (active .entry)) (now (updating .entry))) (Event.Design (Design.Deactivate slot)) .answer ⌝ }
-    ensures addresses { λ r. ⌜ now (addresses .exit) ≡ own sizes (turned (take (sizes .frames) frames) (now (numbers .entry)) (now (maps .entry)) (now (addresses .entry)) (now (states .entry)) (now (owners .entry)) (now (active .entry)) (now (updating .entry))) (Event.Design (Design.Deactivate slot)) .left .memory .held .addresses ⌝ }
-    ensures states { λ r. ⌜ now (states .exit) ≡ own sizes (turned (take (sizes .frames) frames) (now (numbers .entry)) (now (maps .entry)) (now (addresses .entry)) (now (states .entry)) (now (owners .entry)) (now (active .entry)) (now (updating .entry))) (Event.Design (Design.Deactivate slot)) .left .memory .held .states ⌝ }
-    ensures active { λ r. ⌜ now (active .exit) ≡ own sizes (turned (take (sizes .frames) frames) (now (numbers .entry)) (now (maps .entry)) (now (addresses .entry)) (now (states .entry)) (now (owners .entry)) (now (active .entry)) (now (updating .entry))) (Event.Design (Design.Deactivate slot)) .left .memory .slots .active ⌝ }
+    ensures answer { λ r. ⌜ r ≡ own sizes (seenTurns (take (sizes .frames) frames) (now (numbers .entry)) (now (maps .entry)) (now (addresses .entry)) (now (states .entry)) (now (owners .entry)) (now (active .entry)) (now (updating .entry))) (Event.Design (Design.Deactivate slot)) .answer ⌝ }
+    ensures addresses { λ r. ⌜ now (addresses .exit) ≡ own sizes (seenTurns (take (sizes .frames) frames) (now (numbers .entry)) (now (maps .entry)) (now (addresses .entry)) (now (states .entry)) (now (owners .entry)) (now (active .entry)) (now (updating .entry))) (Event.Design (Design.Deactivate slot)) .left .memory .held .addresses ⌝ }
+    ensures states { λ r. ⌜ now (states .exit) ≡ own sizes (seenTurns (take (sizes .frames) frames) (now (numbers .entry)) (now (maps .entry)) (now (addresses .entry)) (now (states .entry)) (now (owners .entry)) (now (active .entry)) (now (updating .entry))) (Event.Design (Design.Deactivate slot)) .left .memory .held .states ⌝ }
+    ensures active { λ r. ⌜ now (active .exit) ≡ own sizes (seenTurns (take (sizes .frames) frames) (now (numbers .entry)) (now (maps .entry)) (now (addresses .entry)) (now (states .entry)) (now (owners .entry)) (now (active .entry)) (now (updating .entry))) (Event.Design (Design.Deactivate slot)) .left .memory .slots .active ⌝ }
 {
     let refusal = ask_deactivate(
         sizes,

@@ -15,7 +15,7 @@ use Rattle.model.specs.Designs as Designs
 use Rattle.model.specs.Fit.{Within}
 use Rattle.model.specs.Step.{carried, result}
 use Rattle.model.specs.Own.{own}
-use Rattle.designs.specs.Seen.{filed, turned}
+use Rattle.designs.specs.Seen.{seenFiles, seenTurns}
 use Rattle.designs.specs.Needs.{Turning}
 use Rattle.designs.proofs.Kept.{after}
 use Rattle.designs.proofs.Filed.{limit-left, create-left, delete-left}
@@ -35,7 +35,7 @@ module _ (z : Sizes) (st : State) (k : Kept z st) where
     limits = Event.Design (Design.Limit q n)
 
     abbrev limit-sees : State
-    limit-sees = filed [] [] [] (st .disk .limits) []
+    limit-sees = seenFiles [] [] [] (st .disk .limits) []
 
     pub limit-own : {a : Answer} {ls : List ℕ} → a ≡ own z limit-sees limits .answer → ls ≡ own z limit-sees limits .left .disk .limits → leaves a (after st (st .disk .numbers) (st .disk .accounts) ls (st .memory .held .addresses) (st .memory .held .states) (st .memory .slots .active)) ≡ own z st limits
     unfolding carried result Designs.limit
@@ -48,7 +48,7 @@ module _ (z : Sizes) (st : State) (k : Kept z st) where
     creates = Event.Design (Design.Create s q n)
 
     abbrev create-sees : State
-    create-sees = filed (st .disk .numbers) (st .disk .accounts) [] [] []
+    create-sees = seenFiles (st .disk .numbers) (st .disk .accounts) [] [] []
 
     pub create-own : {a : Answer} {ns cs : List ℕ} → a ≡ own z create-sees creates .answer → ns ≡ own z create-sees creates .left .disk .numbers → cs ≡ own z create-sees creates .left .disk .accounts → leaves a (after st ns cs (st .disk .limits) (st .memory .held .addresses) (st .memory .held .states) (st .memory .slots .active)) ≡ own z st creates
     unfolding carried result Designs.create counted
@@ -61,7 +61,7 @@ module _ (z : Sizes) (st : State) (k : Kept z st) where
     deletes = Event.Design (Design.Delete s)
 
     abbrev delete-sees : State
-    delete-sees = filed (st .disk .numbers) (st .disk .accounts) (st .disk .maps) [] (st .memory .slots .active)
+    delete-sees = seenFiles (st .disk .numbers) (st .disk .accounts) (st .disk .maps) [] (st .memory .slots .active)
 
     pub delete-own : {a : Answer} {ns cs : List ℕ} → a ≡ own z delete-sees deletes .answer → ns ≡ own z delete-sees deletes .left .disk .numbers → cs ≡ own z delete-sees deletes .left .disk .accounts → leaves a (after st ns cs (st .disk .limits) (st .memory .held .addresses) (st .memory .held .states) (st .memory .slots .active)) ≡ own z st deletes
     unfolding carried result Designs.delete counted
@@ -74,7 +74,7 @@ module _ (z : Sizes) (st : State) (k : Kept z st) where
     activates = Event.Design (Design.Activate s)
 
     abbrev activate-sees : State
-    activate-sees = turned [] (st .disk .numbers) (st .disk .maps) (st .memory .held .addresses) (st .memory .held .states) (st .memory .held .owners) (st .memory .slots .active) []
+    activate-sees = seenTurns [] (st .disk .numbers) (st .disk .maps) (st .memory .held .addresses) (st .memory .held .states) (st .memory .held .owners) (st .memory .slots .active) []
 
     pub activate-own : {a : Answer} {ads ss ac : List ℕ} → a ≡ own z activate-sees activates .answer → ads ≡ own z activate-sees activates .left .memory .held .addresses → ss ≡ own z activate-sees activates .left .memory .held .states → ac ≡ own z activate-sees activates .left .memory .slots .active → leaves a (after st (st .disk .numbers) (st .disk .accounts) (st .disk .limits) ads ss ac) ≡ own z st activates
     unfolding carried result Designs.activate counted
@@ -87,7 +87,7 @@ module _ (z : Sizes) (st : State) (k : Kept z st) where
     deactivates = Event.Design (Design.Deactivate s)
 
     abbrev deactivate-sees : State
-    deactivate-sees = turned (st .memory .core .frames) (st .disk .numbers) (st .disk .maps) (st .memory .held .addresses) (st .memory .held .states) (st .memory .held .owners) (st .memory .slots .active) (st .memory .slots .updating)
+    deactivate-sees = seenTurns (st .memory .core .frames) (st .disk .numbers) (st .disk .maps) (st .memory .held .addresses) (st .memory .held .states) (st .memory .held .owners) (st .memory .slots .active) (st .memory .slots .updating)
 
     pub deactivate-own : {a : Answer} {ads ss ac : List ℕ} → a ≡ own z deactivate-sees deactivates .answer → ads ≡ own z deactivate-sees deactivates .left .memory .held .addresses → ss ≡ own z deactivate-sees deactivates .left .memory .held .states → ac ≡ own z deactivate-sees deactivates .left .memory .slots .active → leaves a (after st (st .disk .numbers) (st .disk .accounts) (st .disk .limits) ads ss ac) ≡ own z st deactivates
     unfolding carried result Designs.deactivate counted wouldStore

@@ -18,7 +18,7 @@ use Rattle.model.specs.Pages as Pages
 use Rattle.model.specs.Step.{Outcome, outcome, carried, result}
 use Rattle.model.specs.Own.{own}
 use Rattle.pages.specs.Seen.{seen}
-use Rattle.pages.specs.Needs.{Seats, Listed}
+use Rattle.pages.specs.Needs.{Seats, RemovalList}
 use Rattle.families.specs.Kept.{Kept, leaves}
 
 module _ (z : Sizes) (st : State) where
@@ -34,7 +34,7 @@ module _ (z : Sizes) (st : State) where
     pub served-ready : Seats z (core .frames)
     served-ready = record { sizes = k .fits .sizes; seated = k .rules .frames .once }
 
-    pub listed-ready : Listed z (core .frames) (core .removal-list)
+    pub listed-ready : RemovalList z (core .frames) (core .removal-list)
     listed-ready = record { long = k .fits .memory .removal-list; packed = k .rules .queues .removal-list; placed = λ f h. omega (arith, k .rules .frames .in-one-place f h) }
 
   -- ── read and write, and the tables that they see ──

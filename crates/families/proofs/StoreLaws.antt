@@ -16,11 +16,10 @@ use Rattle.model.specs.Setters.{counted}
 use Rattle.model.specs.Questions.{questions, wouldStore}
 use Rattle.model.specs.Parts.{frameOf}
 use Rattle.model.specs.Stores
-use Rattle.model.specs.Lent.{stateOf, same-state}
+use Rattle.model.specs.Lent.{stateOf, same-state, noPool}
 use Rattle.model.specs.Step.{Outcome, outcome, carried, result}
 use Rattle.model.specs.Own.{own}
 use Rattle.model.specs.OwnLaws.{outcome-no}
-use Rattle.stores.specs.Answered.{noPool}
 use Rattle.stores.specs.Claim.{claim, usedThen, ClaimLeft}
 use Rattle.stores.specs.Done.{pageDone, DoneLeft}
 use Rattle.stores.specs.MapDone.{mapDone, MapLeft}

@@ -1,10 +1,8 @@
 // The lent frames as values: they are copied to an array of 64, and back from it.
 ghost use mathlib.Core.Path.{_≡_};
-ghost use lib.ListN.{replicate};
-ghost use Rattle.model.specs.State.{noFrame};
 ghost use Rattle.keeper.specs.Copies.{capped, loaded, saved};
 use model::frame::Frame;
-use model::frame::NONE;
+use model::frame::no_frames;
 
 // How many frames are copied, of n.
 pub fn capped(n: usize) -> usize
@@ -13,32 +11,12 @@ pub fn capped(n: usize) -> usize
     if n <= 64 { n } else { 64 }
 }
 
-pub fn empty() -> Frame
-    ensures { λ r. ⌜ r ≡ noFrame ⌝ }
-{
-    Frame {
-        page: 0,
-        used: 0,
-        modified: 0,
-        wired: 0,
-        initial: 0,
-        transfer: NONE,
-    }
-}
-
-pub fn blank() -> [Frame; 64]
-    ensures { λ r. ⌜ r ≡ replicate 64 noFrame ⌝ }
-{
-    let e = empty();
-    [e; 64]
-}
-
 // The first frames of the slice, 64 at most; past its end the array has empty frames.
 // Shut out: one frame too few; used frames past the end.
 pub fn load(frames: &[Frame]) -> [Frame; 64]
     ensures { λ r. ⌜ r ≡ loaded (now (frames .entry)) ⌝ }
 {
-    let mut a = blank();
+    let mut a = no_frames();
     let n = capped(frames.len());
     let mut i: usize = 0;
     while i < n {

@@ -23,6 +23,10 @@ stateOf frames pool records numbers accounts maps limits words free-queue remova
   memory = memoryOf frames pool words free-queue removal-list addresses states owners free-map active updating images used;
 }
 
+-- the pool of a state whose pool nothing looks at
+abbrev pub noPool : Pool
+noPool = record { hand = 0; free = 0 }
+
 -- two states are equal by their tables
 pub same-state : {f f′ : List Frame} {p p′ : Pool} {a a′ b b′ c c′ d d′ e e′ g g′ h h′ i i′ j j′ k k′ l l′ m m′ n n′ o o′ q q′ r r′ : List ℕ}
     → f ≡ f′ → p ≡ p′ → a ≡ a′ → b ≡ b′ → c ≡ c′ → d ≡ d′ → e ≡ e′ → g ≡ g′ → h ≡ h′ → i ≡ i′ → j ≡ j′ → k ≡ k′ → l ≡ l′ → m ≡ m′ → n ≡ n′ → o ≡ o′ → q ≡ q′ → r ≡ r′

@@ -17,6 +17,10 @@ own z st e = outcome (firstNo (questions z st e)) (result z st e) st (carried z 
 abbrev pub refusal : ℕ → State → Outcome State
 refusal n st = record { answer = record { refusal = n; result = 0 }; left = st }
 
+-- carried out, with a result
+abbrev pub completed : ℕ → State → Outcome State
+completed n st = record { answer = record { refusal = 0; result = n }; left = st }
+
 -- the first question answered
 pub first-yes : (n : ℕ) (r : Rule) (q : Questions) → Holds r → firstNo (ask n r q) ≡ firstNo q
 unfolding firstNo

@@ -7,7 +7,7 @@ use Rattle.model.specs.declared.event.Event.{Event}
 use Rattle.model.specs.State.{State}
 use Rattle.model.specs.Questions.{questions}
 use Rattle.model.specs.Step.{Outcome, outcome, carried, result}
-use Rattle.model.specs.Own.{own, refusal}
+use Rattle.model.specs.Own.{own, refusal, completed}
 
 pub outcome-no : {A : Type 0} (n result : ℕ) (old new : A) → ¬ (n ≡ 0) → outcome n result old new ≡ record { answer = record { refusal = n; result = 0 }; left = old }
 outcome-no zero result old new h = absurd (h refl)
@@ -16,7 +16,7 @@ outcome-no (suc n) result old new h = refl
 module _ (z : Sizes) (st : State) (e : Event) where
   -- carried out
   abbrev pub done : Outcome State
-  done = record { answer = record { refusal = 0; result = result z st e }; left = carried z st e }
+  done = completed (result z st e) (carried z st e)
 
   -- n is what the code answers
   pub own-no : (n : ℕ) → n ≡ firstNo (questions z st e) → ¬ (n ≡ 0) → refusal n st ≡ own z st e

@@ -1,4 +1,5 @@
 // What comes back by value from the work of an event: the frames, 64 of them whatever F is, the pool, and the answer.
+ghost use mathlib.Core.Path.{_≡_};
 use crate::event::Answer;
 use crate::frame::Frame;
 use crate::frame::Pool;
@@ -7,6 +8,16 @@ use crate::frame::Pool;
 pub struct Framed {
     pub frames: [Frame; 64],
     pub answer: Answer,
+}
+
+// The frames and an answer.
+pub fn answered(frames: [Frame; 64], refusal: u32, result: u32) -> Framed
+    ensures { λ r. ⌜ r ≡ record { frames = frames; answer = record { refusal = refusal; result = result } } ⌝ }
+{
+    Framed {
+        frames,
+        answer: Answer { refusal, result },
+    }
 }
 
 // Of an event that changes the pool too.

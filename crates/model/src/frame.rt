@@ -1,4 +1,7 @@
 // What memory keeps as records of numbers. Any bytes may stand there after a cut, so there is no bool and no enum.
+ghost use mathlib.Core.Path.{_≡_};
+ghost use lib.ListN.{replicate};
+ghost use Rattle.model.specs.State.{noFrame};
 
 // The transfers of a frame.
 pub const NONE: u8 = 0;
@@ -16,6 +19,28 @@ pub struct Frame {
     pub wired: u8,
     pub initial: u8,
     pub transfer: u8,
+}
+
+// A frame with no page and no switch on.
+pub fn no_frame() -> Frame
+    ensures { λ r. ⌜ r ≡ noFrame ⌝ }
+{
+    Frame {
+        page: 0,
+        used: 0,
+        modified: 0,
+        wired: 0,
+        initial: 0,
+        transfer: NONE,
+    }
+}
+
+// 64 such frames.
+pub fn no_frames() -> [Frame; 64]
+    ensures { λ r. ⌜ r ≡ replicate 64 noFrame ⌝ }
+{
+    let none = no_frame();
+    [none; 64]
 }
 
 // The hand, where the search for a free record starts, and the count of free records.

@@ -23,7 +23,7 @@ use Rattle.model.specs.Own.{own, refusal, first-no}
 use Rattle.model.specs.OwnLaws.{done, own-no, own-yes}
 use Rattle.parts.specs.FrameLaws.{frame-take}
 use Rattle.pages.specs.Seen.{seen}
-use Rattle.pages.specs.Needs.{Seats, Listed}
+use Rattle.pages.specs.Needs.{Seats, RemovalList}
 use Rattle.pages.specs.Asks.{seat, slotAsked, frameAsked, isUnwired, unwiredAsked, wiredAsked}
 use Rattle.pages.proofs.Seats.{seat-found, seat-changed, seat-tells, seat-told}
 use Rattle.pages.proofs.Served.{pageTest, pageRange, page-test, served-answer}
@@ -91,7 +91,7 @@ module _ (z : Sizes) (fs : List Frame) (numbers list active : List ℕ) (s p : �
     unwire-list m em = em ∙ ap (push-back list) place
 
     -- ── what the queue's parts require ──
-    module _ (seats : Seats z (take (z .frames) fs)) (listed : Listed z (take (z .frames) fs) list) where
+    module _ (seats : Seats z (take (z .frames) fs)) (listed : RemovalList z (take (z .frames) fs) list) where
       inside : f < z .frames
       inside = rw ef h
 

@@ -19,7 +19,7 @@ pub record Seats (z : Sizes) (fs : List Frame) : Type 0 where
   pub seated : Holds (once (z .frames) (λ f. frameAt fs f .page))
 
 -- the removal list is a queue of frames, each in it once at most, and no wired frame
-pub record Listed (z : Sizes) (fs : List Frame) (list : List ℕ) : Type 0 where
+pub record RemovalList (z : Sizes) (fs : List Frame) (list : List ℕ) : Type 0 where
   pub long : length list ≡ z .frames
   pub packed : Holds (queue (z .frames) list)
   pub placed : (f : ℕ) → f < z .frames → times (members list) f + frameAt fs f .wired ≤ 1

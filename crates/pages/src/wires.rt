@@ -6,26 +6,17 @@ ghost use Rattle.model.specs.declared.event.Event.the-variants as Event;
 ghost use Rattle.model.specs.declared.event.Page.the-variants as Page;
 ghost use Rattle.model.specs.Own.{own};
 ghost use Rattle.pages.specs.Seen.{seen};
-ghost use Rattle.pages.specs.Needs.{Seats, Listed};
+ghost use Rattle.pages.specs.Needs.{Seats, RemovalList};
 use crate::asks::ask_served;
 use crate::asks::seat_of;
 use model::applied::Framed;
-use model::event::Answer;
+use model::applied::answered;
 use model::frame::Frame;
 use model::sizes::Sizes;
 use parts::frames::frame_at;
 use parts::frames::with_frame;
 use parts::queue::push_back;
 use parts::queue::remove;
-
-fn answered(frames: [Frame; 64], refusal: u32) -> Framed
-    ensures { λ r. ⌜ r ≡ record { frames = frames; answer = record { refusal = refusal; result = 0 } } ⌝ }
-{
-    Framed {
-        frames,
-        answer: Answer { refusal, result: 0 },
-    }
-}
 
 // Takes the page's frame off the removal list; its wired switch goes on.
 pub fn wire(
@@ -37,7 +28,7 @@ pub fn wire(
     active: &[u8],
     removal_list: &mut [u16],
 ) -> Framed
-    requires { ⌜ Seats sizes (take (sizes .frames) frames) × Listed sizes (take (sizes .frames) frames) (now «removal_list») ⌝ }
+    requires { ⌜ Seats sizes (take (sizes .frames) frames) × RemovalList sizes (take (sizes .frames) frames) (now «removal_list») ⌝ }
     ensures answer { λ r. ⌜ r .answer ≡ own sizes (seen (take (sizes .frames) frames) (now (numbers .entry)) [] (now («removal_list» .entry)) (now (active .entry))) (Event.Page (Page.Wire slot page)) .answer ⌝ }
     ensures frames { λ r. ⌜ take (sizes .frames) (r .frames) ≡ own sizes (seen (take (sizes .frames) frames) (now (numbers .entry)) [] (now («removal_list» .entry)) (now (active .entry))) (Event.Page (Page.Wire slot page)) .left .memory .core .frames ⌝ }
     ensures list { λ r. ⌜ now («removal_list» .exit) ≡ own sizes (seen (take (sizes .frames) frames) (now (numbers .entry)) [] (now («removal_list» .entry)) (now (active .entry))) (Event.Page (Page.Wire slot page)) .left .memory .core .removal-list ⌝ }
@@ -45,16 +36,16 @@ pub fn wire(
     let in_range = (slot < sizes.slots) & (page < sizes.pages);
     let refusal = ask_served(sizes, in_range, slot, page, frames, numbers, active);
     if refusal != 0 {
-        return answered(frames, refusal);
+        return answered(frames, refusal, 0);
     }
     let f = seat_of(sizes, slot, page, frames);
     let mut frame = frame_at(frames, f);
     if frame.wired == 1 {
-        return answered(frames, 16);
+        return answered(frames, 16, 0);
     }
     frame.wired = 1;
     remove(removal_list, f);
-    answered(with_frame(frames, f, frame), 0)
+    answered(with_frame(frames, f, frame), 0, 0)
 }
 
 // Puts the page's frame at the removal list's end; its wired and initial switches go off.
@@ -67,7 +58,7 @@ pub fn unwire(
     active: &[u8],
     removal_list: &mut [u16],
 ) -> Framed
-    requires { ⌜ Seats sizes (take (sizes .frames) frames) × Listed sizes (take (sizes .frames) frames) (now «removal_list») ⌝ }
+    requires { ⌜ Seats sizes (take (sizes .frames) frames) × RemovalList sizes (take (sizes .frames) frames) (now «removal_list») ⌝ }
     ensures answer { λ r. ⌜ r .answer ≡ own sizes (seen (take (sizes .frames) frames) (now (numbers .entry)) [] (now («removal_list» .entry)) (now (active .entry))) (Event.Page (Page.Unwire slot page)) .answer ⌝ }
     ensures frames { λ r. ⌜ take (sizes .frames) (r .frames) ≡ own sizes (seen (take (sizes .frames) frames) (now (numbers .entry)) [] (now («removal_list» .entry)) (now (active .entry))) (Event.Page (Page.Unwire slot page)) .left .memory .core .frames ⌝ }
     ensures list { λ r. ⌜ now («removal_list» .exit) ≡ own sizes (seen (take (sizes .frames) frames) (now (numbers .entry)) [] (now («removal_list» .entry)) (now (active .entry))) (Event.Page (Page.Unwire slot page)) .left .memory .core .removal-list ⌝ }
@@ -75,15 +66,15 @@ pub fn unwire(
     let in_range = (slot < sizes.slots) & (page < sizes.pages);
     let refusal = ask_served(sizes, in_range, slot, page, frames, numbers, active);
     if refusal != 0 {
-        return answered(frames, refusal);
+        return answered(frames, refusal, 0);
     }
     let f = seat_of(sizes, slot, page, frames);
     let mut frame = frame_at(frames, f);
     if frame.wired != 1 {
-        return answered(frames, 17);
+        return answered(frames, 17, 0);
     }
     frame.wired = 0;
     frame.initial = 0;
     push_back(removal_list, f);
-    answered(with_frame(frames, f, frame), 0)
+    answered(with_frame(frames, f, frame), 0, 0)
 }

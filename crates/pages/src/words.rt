@@ -11,7 +11,7 @@ use crate::asks::ask_served;
 use crate::asks::seat_of;
 use crate::asks::word_of;
 use model::applied::Framed;
-use model::event::Answer;
+use model::applied::answered;
 use model::frame::Frame;
 use model::sizes::Sizes;
 use parts::cells::at32;
@@ -37,10 +37,7 @@ pub fn read(
     let in_range = (slot < sizes.slots) & ((page < sizes.pages) & (word < sizes.words));
     let refusal = ask_served(sizes, in_range, slot, page, frames, numbers, active);
     if refusal != 0 {
-        return Framed {
-            frames,
-            answer: Answer { refusal, result: 0 },
-        };
+        return answered(frames, refusal, 0);
     }
     let f = seat_of(sizes, slot, page, frames);
     let mut frame = frame_at(frames, f);
@@ -48,10 +45,7 @@ pub fn read(
     let frames = with_frame(frames, f, frame);
     let k = word_of(sizes, f, word);
     let result = at32(words, k);
-    Framed {
-        frames,
-        answer: Answer { refusal: 0, result },
-    }
+    answered(frames, 0, result)
 }
 
 // The word takes the value; the frame's used and modified switches go on.
@@ -74,10 +68,7 @@ pub fn write(
     let in_range = (slot < sizes.slots) & ((page < sizes.pages) & (word < sizes.words));
     let refusal = ask_served(sizes, in_range, slot, page, frames, numbers, active);
     if refusal != 0 {
-        return Framed {
-            frames,
-            answer: Answer { refusal, result: 0 },
-        };
+        return answered(frames, refusal, 0);
     }
     let f = seat_of(sizes, slot, page, frames);
     let mut frame = frame_at(frames, f);
@@ -86,11 +77,5 @@ pub fn write(
     let frames = with_frame(frames, f, frame);
     let k = word_of(sizes, f, word);
     put32(words, k, value);
-    Framed {
-        frames,
-        answer: Answer {
-            refusal: 0,
-            result: 0,
-        },
-    }
+    answered(frames, 0, 0)
 }

@@ -1,4 +1,5 @@
 -- What the leaves of the code do to one table.
+pub mod Addresses
 pub mod Counts
 pub mod FrameLaws
 pub mod FreeMap

@@ -6,7 +6,7 @@ ghost use lib.ListN.{set};
 ghost use Rattle.tables.specs.Base.{find};
 ghost use Rattle.model.specs.State.{frameAt};
 use model::frame::Frame;
-use model::frame::NONE;
+use model::frame::no_frame;
 
 // A frame, empty past the end.
 pub fn frame_at(frames: [Frame; 64], f: usize) -> Frame
@@ -15,14 +15,7 @@ pub fn frame_at(frames: [Frame; 64], f: usize) -> Frame
     if f < 64 {
         return frames[f];
     }
-    Frame {
-        page: 0,
-        used: 0,
-        modified: 0,
-        wired: 0,
-        initial: 0,
-        transfer: NONE,
-    }
+    no_frame()
 }
 
 // The frames with one stored anew; none past the end.

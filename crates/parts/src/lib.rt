@@ -1,4 +1,5 @@
 // The parts that the events of the keeper are built from: each changes or reads one table, by one definition.
+pub mod addresses; // the address of a page
 pub mod cells; // one entry
 pub mod frames; // frames by value
 pub mod marks; // one bit a number

@@ -26,7 +26,7 @@ pub fn move_record(states: &mut [u8], r: usize, to: u8)
 }
 
 // The state that is stored for a record in a pass: one line on, or its own, which is no move.
-fn turned(state: u8, own: bool, from: u8, to: u8) -> u8
+fn moved(state: u8, own: bool, from: u8, to: u8) -> u8
     requires { ⌜ T (allowed from to) ⌝ }
     ensures { λ r. ⌜ Split ((own ≡ true) × (state ≡ from)) r to state ⌝ }
 {
@@ -44,7 +44,7 @@ pub fn move_all(states: &mut [u8], owners: &[u8], slot: usize, from: u8, to: u8)
     let owner = slot as u8;
     let mut r = 0;
     while r < states.len() {
-        states[r] = turned(states[r], owners[r] == owner, from, to);
+        states[r] = moved(states[r], owners[r] == owner, from, to);
         r += 1;
     }
 }

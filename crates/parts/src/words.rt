@@ -1,10 +1,9 @@
 // The words of one part, a record's or a frame's, in a table of parts of `size` words.
 ghost use mathlib.Core.Path.{_≡_};
 ghost use Prim.Native.Nat.{_+_, _*_, _/_, _%_, _<_, _≤_};
-ghost use lib.Dec.{eqb};
 ghost use lib.ListN.{length};
-ghost use Rattle.tables.specs.Base.{at, all};
-ghost use Rattle.tables.specs.Rule.{same};
+ghost use Rattle.tables.specs.Base.{at};
+ghost use Rattle.tables.specs.Rule.{same, each, test};
 ghost use Rattle.tables.specs.Store.{store};
 
 // The part's words become 0.
@@ -35,18 +34,17 @@ pub fn copy_part(from: &[u32], from_part: usize, to: &mut [u32], to_part: usize,
     }
 }
 
-// Whether all words of the part are 0.
+// Whether all words of the part are 0: all are looked at, so that many are compared at once.
 pub fn all_zero(words: &[u32], size: usize, part: usize) -> bool
     requires { ⌜ part * size + size ≤ length (now words) ⌝ }
-    ensures { λ r. ⌜ r ≡ all size (λ w. eqb (at (now (words .entry)) (part * size + w)) 0) ⌝ }
+    ensures { λ r. ⌜ r ≡ test (each size (λ w. same (at (now (words .entry)) (part * size + w)) 0)) ⌝ }
 {
     let start = part * size;
+    let mut ok = true;
     let mut w = 0;
     while w < size {
-        if words[start + w] != 0 {
-            return false;
-        }
+        ok = ok & (words[start + w] == 0);
         w += 1;
     }
-    true
+    ok
 }

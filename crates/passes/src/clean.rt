@@ -10,6 +10,7 @@ ghost use Rattle.passes.specs.Passes.{content, cleanFrame, cleanFrames};
 use model::frame::Frame;
 use model::frame::NONE;
 use model::lines::LIVE;
+use parts::words::all_zero;
 
 // w words of a from i up, and of b from j up: all are looked at, so that many are compared at once.
 fn equal(a: &[u32], i: usize, b: &[u32], j: usize, w: usize) -> bool
@@ -25,19 +26,6 @@ fn equal(a: &[u32], i: usize, b: &[u32], j: usize, w: usize) -> bool
     ok
 }
 
-fn zeros(a: &[u32], i: usize, w: usize) -> bool
-    requires { ⌜ i + w ≤ length (now a) ⌝ }
-    ensures { λ r. ⌜ r ≡ test (each w (λ k. same (at (now (a .entry)) (i + k)) 0)) ⌝ }
-{
-    let mut ok = true;
-    let mut k = 0;
-    while k < w {
-        ok = ok & (a[i + k] == 0);
-        k += 1;
-    }
-    ok
-}
-
 fn content_ok(w: usize, f: usize, r: usize, state: u8, words: &[u32], records: &[u32]) -> bool
     requires { ⌜ (f * w + w ≤ length (now words)) × (r * w + w ≤ length (now records)) ⌝ }
     ensures { λ x. ⌜ x ≡ test (content w f r state (now (words .entry)) (now (records .entry))) ⌝ }
@@ -45,7 +33,7 @@ fn content_ok(w: usize, f: usize, r: usize, state: u8, words: &[u32], records: &
     if state == LIVE {
         return equal(words, f * w, records, r * w, w);
     }
-    zeros(words, f * w, w)
+    all_zero(words, w, f)
 }
 
 // An unmodified frame in service equals its live record, or is zeros if its address is nulled.

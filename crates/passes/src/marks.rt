@@ -1,4 +1,4 @@
-// Marks, one bit a record: every "no record twice", "is at most R" and "is this record named".
+// Marks, one bit a record or a page: every "none twice", "is at most so many" and "is it named".
 ghost use mathlib.Core.Path.{_≡_};
 ghost use mathlib.Core.Bool.{true};
 ghost use Prim.Native.Nat.{_+_, _*_, _≤_, _<_};
@@ -9,16 +9,16 @@ ghost use Rattle.passes.specs.Passes.{distinct, marked, unmarked, noted}
 use parts::marks::is_marked;
 use parts::marks::set_mark;
 
-// Marks what an entry names: false where that is no record, or one that is marked.
-pub fn mark_entry(entry: u16, records: usize, marks: &mut [u32]) -> bool
-    requires { ⌜ records ≤ 32 * length (now marks) ⌝ }
-    ensures { λ x. ⌜ (x ≡ test (unmarked records (now (marks .entry)) entry)) × (x ≡ true → now (marks .exit) ≡ noted (now (marks .entry)) entry) ⌝ }
+// Marks what an entry names: false where the entry is above `most`, or what it names is marked.
+pub fn mark_entry(entry: u16, most: usize, marks: &mut [u32]) -> bool
+    requires { ⌜ most ≤ 32 * length (now marks) ⌝ }
+    ensures { λ x. ⌜ (x ≡ test (unmarked most (now (marks .entry)) entry)) × (x ≡ true → now (marks .exit) ≡ noted (now (marks .entry)) entry) ⌝ }
 {
     if entry == 0 {
         return true;
     }
     let e = entry as usize;
-    if records < e {
+    if most < e {
         return false;
     }
     if is_marked(marks, e - 1) {
@@ -28,7 +28,7 @@ pub fn mark_entry(entry: u16, records: usize, marks: &mut [u32]) -> bool
     true
 }
 
-// A run of entries from i up that name nothing, to be passed over: eight, or the one at i.
+// How many entries from i up are passed over at once: they name nothing.
 fn zeros_from(entries: &[u16], i: usize, n: usize) -> usize
     requires { ⌜ (n ≡ length (now entries)) × (i < n) × (at (now entries) i ≡ 0) ⌝ }
     ensures { λ r. ⌜ (0 < r) × (i + r ≤ n) × Holds (each r (λ k. same (at (now (entries .entry)) (i + k)) 0)) ⌝ }
@@ -49,10 +49,10 @@ fn zeros_from(entries: &[u16], i: usize, n: usize) -> usize
     1
 }
 
-// Marks what the entries name, from marks that are off: false where an entry names no record, or one that is marked.
-pub fn mark_all(entries: &[u16], records: usize, marks: &mut [u32]) -> bool
-    requires { ⌜ (records ≤ 32 * length (now marks)) × Holds (each (length (now marks)) (λ k. same (at (now marks) k) 0)) ⌝ }
-    ensures { λ x. ⌜ (x ≡ test (distinct (length (now (entries .entry))) records (at (now (entries .entry))))) × (x ≡ true → Holds (marked records (length (now (entries .entry))) (at (now (entries .entry))) (now (marks .exit)))) ⌝ }
+// Marks what the entries name, from marks that are off: false where an entry is above `most`, or two name the same.
+pub fn mark_all(entries: &[u16], most: usize, marks: &mut [u32]) -> bool
+    requires { ⌜ (most ≤ 32 * length (now marks)) × Holds (each (length (now marks)) (λ k. same (at (now marks) k) 0)) ⌝ }
+    ensures { λ x. ⌜ (x ≡ test (distinct (length (now (entries .entry))) most (at (now (entries .entry))))) × (x ≡ true → Holds (marked most (length (now (entries .entry))) (at (now (entries .entry))) (now (marks .exit)))) ⌝ }
 {
     let n = entries.len();
     let mut i = 0;
@@ -62,7 +62,7 @@ pub fn mark_all(entries: &[u16], records: usize, marks: &mut [u32]) -> bool
             i += zeros_from(entries, i, n);
             continue;
         }
-        if mark_entry(e, records, marks) {} else {
+        if mark_entry(e, most, marks) {} else {
             return false;
         }
         i += 1;

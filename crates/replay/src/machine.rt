@@ -6,8 +6,8 @@ use crate::input::next_field;
 use crate::lines;
 use model::applied::Applied;
 use model::event::Answer;
-use model::frame::Frame;
 use model::frame::Pool;
+use model::frame::no_frames;
 use model::request::Request;
 use model::sizes::Sizes;
 
@@ -27,16 +27,8 @@ fn sizes() -> Sizes {
 
 // Frames and pool before the first restart; what stands in them is never read.
 fn blank() -> Applied {
-    let empty = Frame {
-        page: 0,
-        used: 0,
-        modified: 0,
-        wired: 0,
-        initial: 0,
-        transfer: 0,
-    };
     Applied {
-        frames: [empty; 64],
+        frames: no_frames(),
         pool: Pool { hand: 0, free: 0 },
         answer: Answer {
             refusal: 0,

@@ -6,14 +6,14 @@ ghost use Rattle.restarts.specs.Restarts.{seen, poolOf, Recorded, Ready}
 use crate::counts::build_free_map;
 use crate::counts::count_used;
 use crate::filed::file_records;
-use crate::frames::fill_queue;
-use crate::frames::no_frames;
+use crate::queue::fill_queue;
 use crate::zero::zero8;
 use crate::zero::zero16;
 use crate::zero::zero32;
 use model::applied::Applied;
 use model::event::Answer;
 use model::frame::Pool;
+use model::frame::no_frames;
 use model::sizes::Sizes;
 
 // The tables that a restart zeroes.

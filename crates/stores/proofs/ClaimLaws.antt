@@ -30,7 +30,7 @@ use Rattle.model.specs.Fit.{Fit}
 use Rattle.model.specs.Ruled.{Ruled}
 use Rattle.model.specs.Lent.{stateOf, same-state}
 use Rattle.parts.specs.Counts.{counts, countsFor, usedCounts, counts-less}
-use Rattle.stores.specs.Claim.{claim, payerOf, usedThen, Listed, ClaimReady}
+use Rattle.stores.specs.Claim.{claim, payerOf, usedThen, Claimable, ClaimReady}
 use Rattle.stores.proofs.Kept.{counts-alike, charged-alike, used-is, used-kept, map-kept, pool-kept}
 use Rattle.stores.proofs.Looks.{look-page, look-long, taken-in}
 use Rattle.stores.proofs.Ready.{Paged, paged, queue-room}
@@ -68,7 +68,7 @@ module _ (z : Sizes) (st : State) (fit : Fit z st) (ruled : Ruled z st) where
     payer-pays = let q = payer v (slotOf z (p .index)) in rw (ruled .counts .used q payer-below)
         (count-pos (allPages z) (countsFor z v c q) (p .index) (p .page-inside) (and-intro (eqb q q) (counts z v c (p .index)) (eq→T {a = q} refl) counted-page))
 
-  listed : (f : ℕ) → f < z .frames → 0 < times (members (st .memory .core .removal-list)) f → Listed z (c .frame f .page) (st .disk .accounts) (st .memory .core .free-queue) (st .memory .held .addresses) (st .memory .held .states) (st .memory .used)
+  listed : (f : ℕ) → f < z .frames → 0 < times (members (st .memory .core .removal-list)) f → Claimable z (c .frame f .page) (st .disk .accounts) (st .memory .core .free-queue) (st .memory .held .addresses) (st .memory .held .states) (st .memory .used)
   unfolding payer
   listed f h t =
       let q = unqueued f h t in

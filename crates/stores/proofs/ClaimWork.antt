@@ -27,10 +27,10 @@ use Rattle.model.specs.Questions.{questions}
 use Rattle.model.specs.Stores.{Looked, look, looking, beginsWrite, zeros, recordIn, freeFrame}
 use Rattle.model.specs.Stores
 use Rattle.model.specs.Step.{Outcome, outcome, carried, result}
-use Rattle.model.specs.Own.{own, refusal, first-no}
+use Rattle.model.specs.Own.{own, refusal, completed, first-no}
 use Rattle.parts.specs.FrameLaws.{frame-take, take-frame}
-use Rattle.stores.specs.Answered.{done, own-yes, own-no}
-use Rattle.stores.specs.Claim.{claim, seen, payerOf, usedThen, Turned, Listed, ClaimReady, ClaimLeft}
+use Rattle.model.specs.OwnLaws.{own-yes, own-no}
+use Rattle.stores.specs.Claim.{claim, seen, payerOf, usedThen, LooksLeft, Claimable, ClaimReady, ClaimLeft}
 use Rattle.stores.proofs.DoneWork.{answered}
 use Rattle.stores.proofs.Looks.{cut, look-take, taken-in}
 use Rattle.tables.specs.StoreLoops.{part-fits}
@@ -56,7 +56,7 @@ module _ (z : Sizes) (fs : List Frame) (ac ws fq rl ads ss us : List ℕ) where
       says = first-no 21 _ _ (λ h. omega (arith, size-zero rl (sym a ∙ b)))
 
       no : own z st claim ≡ refusal 21 st
-      no = own-no z st claim (sym says) (λ h. omega arith)
+      no = sym (own-no z st claim _ (sym says) (λ h. omega arith))
 
   module _ {e : ℕ} (a : e ≡ at rl 0) (d : ¬ (e ≡ 0)) where
     pub some : 0 < size rl
@@ -65,7 +65,7 @@ module _ (z : Sizes) (fs : List Frame) (ac ws fq rl ads ss us : List ℕ) where
     says : firstNo (questions z st claim) ≡ 0
     says = yes-all (questions z st claim) (some, tt)
 
-    module _ (ready : ClaimReady z (take (z .frames) fs) ac ws fq rl ads ss us) {kept : List Frame} {looks f : ℕ} {list : List ℕ} (t : Turned fs rl kept looks list) (here : f ≡ first list) where
+    module _ (ready : ClaimReady z (take (z .frames) fs) ac ws fq rl ads ss us) {kept : List Frame} {looks f : ℕ} {list : List ℕ} (t : LooksLeft fs rl kept looks list) (here : f ≡ first list) where
       looked-is : looking z st ≡ cut (z .frames) (look (suc (size rl)) 0 fs (members rl))
       unfolding looking
       looked-is = ap (λ (n : ℕ). look (suc n) 0 (take (z .frames) fs) (members rl)) (sym (size-members rl)) ∙ look-take (z .frames) (suc (size rl)) 0 fs (members rl) (members-within rl (ready .list-long) (ready .listed))
@@ -94,8 +94,8 @@ module _ (z : Sizes) (fs : List Frame) (ac ws fq rl ads ss us : List ℕ) where
       same-frame : frameAt (take (z .frames) fs) f ≡ old
       same-frame = frame-take (z .frames) fs f below
 
-      held : Listed z (old .page) ac fq ads ss us
-      held = subst (λ (g : Frame). Listed z (g .page) ac fq ads ss us) same-frame (ready .held f below in-list)
+      held : Claimable z (old .page) ac fq ads ss us
+      held = subst (λ (g : Frame). Claimable z (g .page) ac fq ads ss us) same-frame (ready .held f below in-list)
 
       pub words-fit : f * z .words + z .words ≤ length ws
       words-fit = rw (ready .words-long) (part-fits (z .frames) (z .words) f below)
@@ -125,12 +125,12 @@ module _ (z : Sizes) (fs : List Frame) (ac ws fq rl ads ss us : List ℕ) where
         abbrev looked : State
         looked = onCore (λ c. setFrames (looking z st .frames) (setRemovalList (packed (length (c .removal-list)) (looking z st .list)) c)) st
 
-        by-way : (st' : State) → carried z st claim ≡ counted z st' → own z st claim ≡ done (looking z st .looks) (counted z st')
+        by-way : (st' : State) → carried z st claim ≡ counted z st' → own z st claim ≡ completed (looking z st .looks) (counted z st')
         unfolding result
-        by-way st' c = own-yes z st claim (sym says) refl ∙ ap (done (looking z st .looks)) c
+        by-way st' c = sym (own-yes z st claim _ (sym says) refl) ∙ ap (completed (looking z st .looks)) c
 
         -- what every way leaves: the answer, the list and the used counts
-        the-answer : {st' : State} {x : Framed} {gs : List Frame} → own z st claim ≡ done (looking z st .looks) st' → x ≡ answered gs 0 looks → x .answer ≡ own z st claim .answer
+        the-answer : {st' : State} {x : Framed} {gs : List Frame} → own z st claim ≡ completed (looking z st .looks) st' → x ≡ answered gs 0 looks → x .answer ≡ own z st claim .answer
         the-answer c y = ap (λ (v : Framed). v .answer) y ∙ ap (λ (n : ℕ). record { refusal = 0; result = n }) (sym looks-are) ∙ sym (ap (λ (o : Outcome State). o .answer) c)
 
         used-by : {us' : List ℕ} → us' ≡ usedThen z st → us' ≡ outcome (firstNo (questions z st claim)) 0 us (usedThen z st) .left
@@ -147,7 +147,7 @@ module _ (z : Sizes) (fs : List Frame) (ac ws fq rl ads ss us : List ℕ) where
           used = used-by (rw (begins ∙ v));
         }
           where
-            way : own z st claim ≡ done (looking z st .looks) (counted z (onCore (λ c. onFrame (looking z st .taken) (setTransfer WRITING) c) looked))
+            way : own z st claim ≡ completed (looking z st .looks) (counted z (onCore (λ c. onFrame (looking z st .taken) (setTransfer WRITING) c) looked))
             way = by-way (onCore (λ c. onFrame (looking z st .taken) (setTransfer WRITING) c) looked) (rw (begins ∙ v))
 
         module _ (v : b ≡ false) {r : ℕ} (found : r ≡ pred (at ads (pred (old .page)))) where
@@ -182,11 +182,11 @@ module _ (z : Sizes) (fs : List Frame) (ac ws fq rl ads ss us : List ℕ) where
           abbrev nulledSt : State
           nulledSt = onHeld (λ h. setStates (set (h .states) (recordIn z st (looking z st .taken)) NULLED) h) looked
 
-          way-nulled : old .modified ≡ 1 → own z st claim ≡ done (looking z st .looks) (counted z (freeFrame (looking z st .taken) nulledSt))
+          way-nulled : old .modified ≡ 1 → own z st claim ≡ completed (looking z st .looks) (counted z (freeFrame (looking z st .taken) nulledSt))
           unfolding carried Stores.claim
           way-nulled m = by-way (freeFrame (looking z st .taken) nulledSt) (rw (begins ∙ v, eq-eqb _ _ (mod-is ∙ m)))
 
-          way-kept : ¬ (old .modified ≡ 1) → own z st claim ≡ done (looking z st .looks) (counted z (freeFrame (looking z st .taken) looked))
+          way-kept : ¬ (old .modified ≡ 1) → own z st claim ≡ completed (looking z st .looks) (counted z (freeFrame (looking z st .taken) looked))
           unfolding carried Stores.claim
           way-kept m = by-way (freeFrame (looking z st .taken) looked) (rw (begins ∙ v, ne-eqb _ _ (λ h. m (sym mod-is ∙ h))))
 

@@ -21,8 +21,8 @@ use Rattle.model.specs.Pages.{fresh}
 use Rattle.model.specs.Questions.{questions}
 use Rattle.model.specs.Stores
 use Rattle.model.specs.Step.{Outcome, carried, result}
-use Rattle.model.specs.Own.{own}
-use Rattle.stores.specs.Answered.{done, own-yes, own-no}
+use Rattle.model.specs.Own.{own, completed}
+use Rattle.model.specs.OwnLaws.{own-yes, own-no}
 use Rattle.stores.specs.Done.{pageDone, seen, InTransfer, DoneReady, DoneLeft}
 use Rattle.parts.specs.FrameLaws.{frame-take, take-frame}
 use Rattle.tables.specs.StoreLoops.{part-fits}
@@ -53,7 +53,7 @@ module _ (z : Sizes) (fs : List Frame) (rs ws fq rl ads ss : List ℕ) (f good :
 
   module _ {n : ℕ} (e : n ≡ firstNo (questions z st (pageDone f good))) where
     pub refused : ¬ (n ≡ 0) → {x : Framed} → x ≡ answered fs n 0 → Left x rs ws fq rl ss
-    refused d {x} y = left-by {x = x} (own-no z st (pageDone f good) e d)
+    refused d {x} y = left-by {x = x} (sym (own-no z st (pageDone f good) _ e d))
         (record { answer = ap (λ (a : Framed). a .answer) y; frames = ap (λ (a : Framed). take (z .frames) (a .frames)) y; records = refl; words = refl; free-queue = refl; removal-list = refl; states = refl })
 
     module _ (yes : n ≡ 0) where
@@ -106,9 +106,9 @@ module _ (z : Sizes) (fs : List Frame) (rs ws fq rl ads ss : List ℕ) (f good :
       abbrev Way : State → Type 0
       Way st' = carried z st (pageDone f good) ≡ counted z st'
 
-      by-way : (st' : State) → Way st' → out ≡ done 0 (counted z st')
+      by-way : (st' : State) → Way st' → out ≡ completed 0 (counted z st')
       unfolding result
-      by-way st' w = own-yes z st (pageDone f good) e yes ∙ ap (done 0) w
+      by-way st' w = sym (own-yes z st (pageDone f good) _ e yes) ∙ ap (completed 0) w
 
       module _ (reads : old .transfer ≡ READING) where
         t : frameAt (take (z .frames) fs) f .transfer ≡ READING

@@ -19,12 +19,12 @@ use Rattle.model.specs.Setters.{counted}
 use Rattle.model.specs.Questions.{questions}
 use Rattle.model.specs.Stores
 use Rattle.model.specs.Step.{Outcome, carried, result}
-use Rattle.model.specs.Own.{own}
+use Rattle.model.specs.Own.{own, completed}
 use Rattle.parts.specs.Counts.{free-same}
 use Rattle.parts.specs.FreeMap.{freeMap, free-map-same}
 use Rattle.parts.specs.Freed.{Freed, leaverOf}
 use Rattle.stores.specs.declared.map_done.Freed as Handed
-use Rattle.stores.specs.Answered.{done, own-yes, own-no}
+use Rattle.model.specs.OwnLaws.{own-yes, own-no}
 use Rattle.stores.specs.MapDone.{mapDone, seen, MapReady, MapLeft}
 use Rattle.tables.specs.StoreLoops.{part-fits}
 
@@ -53,7 +53,7 @@ module _ (z : Sizes) (pool : Pool) (ns ms ss os fm ac us is : List ℕ) (s good 
 
   module _ {n : ℕ} (e : n ≡ firstNo (questions z st (mapDone s good))) where
     pub refused : ¬ (n ≡ 0) → {x : Handed.Freed} → x ≡ handed pool (pool .free) n → Left x ms ss os fm us is
-    refused d {x} y = left-by {x = x} (own-no z st (mapDone s good) e d)
+    refused d {x} y = left-by {x = x} (sym (own-no z st (mapDone s good) _ e d))
         (record { answer = ap (λ (a : Handed.Freed). a .answer) y; pool = ap (λ (a : Handed.Freed). a .pool) y; maps = refl; states = refl; owners = refl; free-map = refl; updating = refl; images = refl })
 
     module _ (yes : n ≡ 0) where
@@ -73,7 +73,7 @@ module _ (z : Sizes) (pool : Pool) (ns ms ss os fm ac us is : List ℕ) (s good 
         pub good-left : good ≡ 1 → {ms' ss' os' fm' us' is' : List ℕ} {k : ℕ} {x : Handed.Freed} → us' ≡ set us s 0 → ms' ≡ store ms (λ i. same (i / z .pages) s) (at is)
             → is' ≡ store is (λ i. same (i / z .pages) s) (λ i. 0) → Freed z s ss os ss' os' fm' k → x ≡ handed pool k 0 → Left x ms' ss' os' fm' us' is'
         unfolding carried result Stores.mapDone Stores.storeImage Stores.updateOver counted
-        good-left g {x = x} a b d w y = left-by {x = x} (own-yes z st (mapDone s good) e yes ∙ ap (done 0) (ap (λ (m : ℕ). carried z st (mapDone s m)) g))
+        good-left g {x = x} a b d w y = left-by {x = x} (sym (own-yes z st (mapDone s good) _ e yes) ∙ ap (completed 0) (ap (λ (m : ℕ). carried z st (mapDone s m)) g))
             (record {
               answer = ap (λ (v : Handed.Freed). v .answer) y;
               pool = ap (λ (v : Handed.Freed). v .pool) y ∙ ap (λ (m : ℕ). record { hand = pool .hand; free = m }) (w .the-count ∙ ap (λ (l : List ℕ). freeCount z (at l)) (w .the-states));
@@ -88,7 +88,7 @@ module _ (z : Sizes) (pool : Pool) (ns ms ss os fm ac us is : List ℕ) (s good 
         pub failed-left : ¬ (good ≡ 1) → {ss' us' is' : List ℕ} {x : Handed.Freed} → us' ≡ set us s 0
             → is' ≡ store is (λ i. same (i / z .pages) s) (λ i. 0) → ss' ≡ store ss (leaverOf ss os s) (λ r. RELEASED) → x ≡ handed pool (pool .free) 0 → Left x ms ss' os fm us' is'
         unfolding carried result Stores.mapDone Stores.updateOver counted
-        failed-left g {x = x} a d w y = left-by {x = x} (own-yes z st (mapDone s good) e yes) (rw (ne-eqb good 1 g)
+        failed-left g {x = x} a d w y = left-by {x = x} (sym (own-yes z st (mapDone s good) _ e yes)) (rw (ne-eqb good 1 g)
             (record {
               answer = ap (λ (v : Handed.Freed). v .answer) y;
               pool = ap (λ (v : Handed.Freed). v .pool) y ∙ ap (λ (m : ℕ). record { hand = pool .hand; free = m }) (ready .counted ∙ free-same z (at ss) (at (store ss (leaverOf ss os s) (λ r. RELEASED))) taken);

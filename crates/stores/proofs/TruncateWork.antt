@@ -27,10 +27,10 @@ use Rattle.model.specs.Parts.{fromPage}
 use Rattle.model.specs.Questions.{questions}
 use Rattle.model.specs.Stores
 use Rattle.model.specs.Step.{Outcome, outcome, carried, result}
-use Rattle.model.specs.Own.{own}
+use Rattle.model.specs.Own.{own, completed}
 use Rattle.parts.specs.FrameLaws.{frame-take, frame-found}
 use Rattle.parts.specs.Released.{Releasing}
-use Rattle.stores.specs.Answered.{done, own-yes, own-no}
+use Rattle.model.specs.OwnLaws.{own-yes, own-no}
 use Rattle.stores.specs.Truncate.{truncate, quiet, allQuiet, chargedPage, number, cutUpTo, frameIn, cutList, Cutting, seen, usedThen, TruncateReady, TruncateLeft}
 use Rattle.stores.proofs.CutFrames.{without-alike}
 use Rattle.stores.proofs.DoneWork.{answered}
@@ -81,7 +81,7 @@ module _ (z : Sizes) (fs : List Frame) (ns ac fq rl ds ss act us : List ℕ) (s 
     }
       where
         no : out ≡ record { answer = record { refusal = n; result = 0 }; left = st }
-        no = own-no z st (truncate s k) e d
+        no = sym (own-no z st (truncate s k) _ e d)
 
         stays : (m : ℕ) → ¬ (m ≡ 0) → us ≡ outcome m 0 us (usedThen z st s k) .left
         stays zero d = absurd (d refl)
@@ -189,5 +189,5 @@ module _ (z : Sizes) (fs : List Frame) (ns ac fq rl ds ss act us : List ℕ) (s 
         used = u ∙ used-is q ∙ sym (ap (λ (m : ℕ). outcome m 0 us (usedThen z st s k) .left) (sym e ∙ yes));
       }
         where
-          way : out ≡ done 0 (carried z st (truncate s k))
-          way = own-yes z st (truncate s k) e yes
+          way : out ≡ completed 0 (carried z st (truncate s k))
+          way = sym (own-yes z st (truncate s k) _ e yes)

@@ -22,8 +22,9 @@ use Rattle.model.specs.Stores
 use Rattle.model.specs.Step.{Outcome, carried, result}
 use Rattle.model.specs.Own.{own}
 use Rattle.parts.specs.FrameLaws.{frame-take}
-use Rattle.stores.specs.Answered.{own-yes, own-no}
-use Rattle.stores.specs.Update.{update, seen, imageOf, leavesSlot, Leaving, UpdateReady, UpdateLeft}
+use Rattle.model.specs.OwnLaws.{own-yes, own-no}
+use Rattle.parts.specs.Addresses.{liveAddress}
+use Rattle.stores.specs.Update.{update, seen, leavesSlot, Leaving, UpdateReady, UpdateLeft}
 use Rattle.tables.specs.StoreLoops.{part-fits}
 use Rattle.stores.proofs.Named.{fits}
 
@@ -59,7 +60,7 @@ module _ (z : Sizes) (fs : List Frame) (ns ds ss os ac us is : List ℕ) (s : �
 
   module _ {n : ℕ} (e : n ≡ firstNo (questions z st (update s))) where
     pub refused : ¬ (n ≡ 0) → Left n ds ss us is
-    refused d = left-by (own-no z st (update s) e d) (record { answer = refl; addresses = refl; states = refl; updating = refl; images = refl })
+    refused d = left-by (sym (own-no z st (update s) _ e d)) (record { answer = refl; addresses = refl; states = refl; updating = refl; images = refl })
 
     module _ (yes : n ≡ 0) (ready : UpdateReady z ds ss os is) where
       inside : s < z .slots
@@ -86,10 +87,10 @@ module _ (z : Sizes) (fs : List Frame) (ns ds ss os ac us is : List ℕ) (s : �
       from r h (inl x) = inl (x .0, rw (ready .addresses-long) at (x .1), (to-model (x .0) (x .2 .0), x .2 .1))
       from r h (inr x) = elim (at-store ss paged (λ k. LEAVING) r h) [ inl y ↦ absurd (omega (arith, x .0, y .1)) | inr y ↦ inr (x .1, sym (y .1) ∙ x .0) ]
 
-      pub updated : {ds' ss₁ ss' us' is' : List ℕ} → us' ≡ set us s 1 → is' ≡ store is (λ i. same (i / z .pages) s) (imageOf ds ss) → ds' ≡ store ds (leavesSlot z fs ds ss s) (λ i. 0)
+      pub updated : {ds' ss₁ ss' us' is' : List ℕ} → us' ≡ set us s 1 → is' ≡ store is (λ i. same (i / z .pages) s) (liveAddress ds ss) → ds' ≡ store ds (leavesSlot z fs ds ss s) (λ i. 0)
           → ss₁ ≡ marked → ss' ≡ store ss₁ (λ r. same (at ss₁ r) RELEASED and same (at os r) s) (λ r. LEAVING) → Left 0 ds' ss' us' is'
       unfolding carried result Stores.update wouldStore counted
-      updated a b c d f = left-by (own-yes z st (update s) e yes) (record {
+      updated a b c d f = left-by (sym (own-yes z st (update s) _ e yes)) (record {
         answer = refl;
         addresses = c ∙ store-same ds (leavesSlot z fs ds ss s) (Stores.leavingPage z st s) (λ i. 0) (λ i. 0) (λ i h k. to-model i k) (λ i h k. from-model i k) (λ i h k. refl);
         states = f ∙ ap (λ (l : List ℕ). store l (λ r. same (at l r) RELEASED and same (at os r) s) (λ r. LEAVING)) d ∙ store-or ss paged released (Stores.leavingRecord z st s) (λ r. LEAVING) to from;

@@ -22,8 +22,7 @@ use Rattle.model.specs.Questions.{questions}
 use Rattle.model.specs.Stores.{look, looking, beginsWrite, recordIn}
 use Rattle.model.specs.Step.{outcome}
 use Rattle.model.specs.Own.{own}
-use Rattle.model.specs.Lent.{stateOf}
-use Rattle.stores.specs.Answered.{noPool}
+use Rattle.model.specs.Lent.{stateOf, noPool}
 
 abbrev pub claim : Event
 claim = Event.Store Claim
@@ -45,7 +44,7 @@ usedThen z st =
     (if (eqb (frames st .frame f .modified) 1 || eqb (files st .state (recordIn z st f)) NULLED) (set u (payerOf z st f) (at u (payerOf z st f) - 1)) u)
 
 -- the frames and the list as the looks leave them: the first entry is the one taken
-pub record Turned (fs : List Frame) (list : List ℕ) (kept : List Frame) (looks : ℕ) (list' : List ℕ) : Type 0 where
+pub record LooksLeft (fs : List Frame) (list : List ℕ) (kept : List Frame) (looks : ℕ) (list' : List ℕ) : Type 0 where
   pub the-looks : looks ≡ look (suc (size list)) 0 fs (members list) .looks
   pub the-frames : kept ≡ look (suc (size list)) 0 fs (members list) .frames
   pub the-taken : first list' ≡ look (suc (size list)) 0 fs (members list) .taken
@@ -54,7 +53,7 @@ pub record Turned (fs : List Frame) (list : List ℕ) (kept : List Frame) (looks
   pub taken-some : 0 < size list'
 
 -- a frame in the list: its page's record, who pays for it, and room for it in the free queue
-pub record Listed (z : Sizes) (page : ℕ) (accounts free-queue addresses states used : List ℕ) : Type 0 where
+pub record Claimable (z : Sizes) (page : ℕ) (accounts free-queue addresses states used : List ℕ) : Type 0 where
   pub item : ℕ
   pub named : 0 < page
   pub holds : at addresses (pred page) ≡ suc item
@@ -71,7 +70,7 @@ pub record ClaimReady (z : Sizes) (fs : List Frame) (accounts words free-queue r
   pub list-long : length removal-list ≡ z .frames
   pub queued : Holds (queue (z .frames) free-queue)
   pub listed : Holds (queue (z .frames) removal-list)
-  pub held : (f : ℕ) → f < z .frames → 0 < times (members removal-list) f → Listed z (frameAt fs f .page) accounts free-queue addresses states used
+  pub held : (f : ℕ) → f < z .frames → 0 < times (members removal-list) f → Claimable z (frameAt fs f .page) accounts free-queue addresses states used
 
 -- the answer and every table that claim changes, by the outcome
 pub record ClaimLeft (z : Sizes) (st : State) (fs : List Frame) (a : Answer) (fq rl ss us : List ℕ) : Type 0 where

@@ -16,8 +16,7 @@ use Rattle.model.specs.declared.event.Store.the-variants.{PageDone}
 use Rattle.model.specs.Lines.{NULLED, LIVE}
 use Rattle.model.specs.State.{State, NONE, frameAt}
 use Rattle.model.specs.Step.{Outcome}
-use Rattle.model.specs.Lent.{stateOf}
-use Rattle.stores.specs.Answered.{noPool}
+use Rattle.model.specs.Lent.{stateOf, noPool}
 
 abbrev pub pageDone : ℕ → ℕ → Event
 pageDone f good = Event.Store (PageDone f good)

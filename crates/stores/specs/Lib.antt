@@ -1,5 +1,4 @@
 -- What the events that free, cut and store see, need and leave.
-pub mod Answered
 pub mod ByPage
 pub mod Claim
 pub mod Done

@@ -12,9 +12,8 @@ use Rattle.model.specs.declared.event.Event.the-variants as Event
 use Rattle.model.specs.declared.event.Store.the-variants.{MapDone}
 use Rattle.model.specs.State.{State, allPages, freeCount}
 use Rattle.model.specs.Step.{Outcome}
-use Rattle.model.specs.Lent.{stateOf}
+use Rattle.model.specs.Lent.{stateOf, noPool}
 use Rattle.parts.specs.FreeMap.{freeMap}
-use Rattle.stores.specs.Answered.{noPool}
 
 abbrev pub mapDone : ℕ → ℕ → Event
 mapDone s good = Event.Store (MapDone s good)

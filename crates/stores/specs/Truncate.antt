@@ -22,8 +22,7 @@ use Rattle.model.specs.Rules.{once}
 use Rattle.model.specs.Questions.{questions}
 use Rattle.model.specs.Step.{outcome}
 use Rattle.model.specs.Own.{own}
-use Rattle.model.specs.Lent.{stateOf}
-use Rattle.stores.specs.Answered.{noPool}
+use Rattle.model.specs.Lent.{stateOf, noPool}
 
 abbrev pub truncate : ℕ → ℕ → Event
 truncate s k = Event.Store (Truncate s k)

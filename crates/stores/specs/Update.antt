@@ -3,20 +3,19 @@ use mathlib.Core.Path.{_≡_}
 use mathlib.Core.List.{List, []}
 use Prim.Native.Nat.{ℕ, suc, _+_, _*_, _/_, _<_, _≤_}
 use lib.ListN.{length, take}
-use Rattle.tables.specs.Base.{at, if}
-use Rattle.tables.specs.Rule.{Rule, Holds, same, non, some, names, _and_, test}
+use Rattle.tables.specs.Base.{at}
+use Rattle.tables.specs.Rule.{Rule, Holds, same, non, some, names, _and_}
 use Rattle.model.specs.declared.sizes.Sizes.{Sizes}
 use Rattle.model.specs.declared.frame.Frame.{Frame}
 use Rattle.model.specs.declared.event.Answer.{Answer}
 use Rattle.model.specs.declared.event.Event.{Event}
 use Rattle.model.specs.declared.event.Event.the-variants as Event
 use Rattle.model.specs.declared.event.Store.the-variants.{Update}
-use Rattle.model.specs.Lines.{NULLED, LIVE}
+use Rattle.model.specs.Lines.{NULLED}
 use Rattle.model.specs.State.{State, frameAt, allPages}
 use Rattle.model.specs.Rules.{once}
 use Rattle.model.specs.Step.{Outcome}
-use Rattle.model.specs.Lent.{stateOf}
-use Rattle.stores.specs.Answered.{noPool}
+use Rattle.model.specs.Lent.{stateOf, noPool}
 
 abbrev pub update : ℕ → Event
 update s = Event.Store (Update s)
@@ -29,10 +28,6 @@ seen z fs numbers addresses states owners active updating images =
 -- .. and its questions
 abbrev pub asked : List ℕ → List ℕ → List ℕ → State
 asked numbers active updating = stateOf [] noPool [] numbers [] [] [] [] [] [] [] [] [] [] active updating [] []
-
--- what an update stores for a page
-abbrev pub imageOf : List ℕ → List ℕ → ℕ → ℕ
-imageOf addresses states i = if (test (names (at addresses i) λ r. same (at states r) LIVE)) (at addresses i) 0
 
 -- the page's record is nulled, and the page is in no frame
 abbrev pub leaves : ℕ → List Frame → List ℕ → List ℕ → ℕ → Rule

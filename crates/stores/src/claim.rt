@@ -10,15 +10,15 @@ ghost use Rattle.tables.specs.Queue.{queue, size};
 ghost use Rattle.tables.specs.Rule.{Holds};
 ghost use Rattle.model.specs.Lines.{NULLED, LIVE};
 ghost use Rattle.model.specs.Stores.{warm};
-ghost use Rattle.stores.specs.Claim.{seen, Turned, ClaimReady, ClaimLeft};
-use crate::names::framed;
+ghost use Rattle.stores.specs.Claim.{seen, LooksLeft, ClaimReady, ClaimLeft};
 use crate::names::named;
 use crate::names::record_of;
 use crate::switches::cool;
-use crate::switches::empty;
 use crate::switches::writing;
 use model::applied::Framed;
+use model::applied::answered;
 use model::frame::Frame;
+use model::frame::no_frame;
 use model::lines::LIVE;
 use model::lines::NULLED;
 use model::sizes::Sizes;
@@ -53,7 +53,7 @@ fn is_warm(frame: Frame) -> bool
 // The first entry goes to the list's end, cooled, while it is warm; then it is the one to take.
 fn turn(frames: [Frame; 64], list: &mut [u16]) -> Looks
     requires { ⌜ Holds (queue (length (now list)) (now list)) × (0 < size (now list)) × (length (now list) < 65) ⌝ }
-    ensures { λ r. ⌜ Turned frames (now (list .entry)) (r .frames) (r .looks) (now (list .exit)) ⌝ }
+    ensures { λ r. ⌜ LooksLeft frames (now (list .entry)) (r .frames) (r .looks) (now (list .exit)) ⌝ }
 {
     let mut kept = frames;
     let mut looks = 1;
@@ -121,7 +121,7 @@ pub fn claim(
     ensures { λ r. ⌜ ClaimLeft sizes (seen sizes frames (now (accounts .entry)) (now (words .entry)) (now («free_queue» .entry)) (now («removal_list» .entry)) (now (addresses .entry)) (now (states .entry)) (now (used .entry))) (r .frames) (r .answer) (now («free_queue» .exit)) (now («removal_list» .exit)) (now (states .exit)) (now (used .exit)) ⌝ }
 {
     if at16(removal_list, 0) == 0 {
-        return framed(frames, 21, 0);
+        return answered(frames, 21, 0);
     }
     let looked = turn(frames, removal_list);
     let kept = looked.frames;
@@ -129,7 +129,7 @@ pub fn claim(
     pop(removal_list);
     let old = frame_at(frames, f);
     if begins(sizes.words, old.modified, words, f) {
-        return framed(
+        return answered(
             with_frame(kept, f, writing(frame_at(kept, f))),
             0,
             looked.looks,
@@ -139,5 +139,5 @@ pub fn claim(
     make_nulled(states, r, old.modified);
     uncharge(used, states, r, accounts, named(old.page) / sizes.pages);
     push_back(free_queue, f);
-    framed(with_frame(kept, f, empty()), 0, looked.looks)
+    answered(with_frame(kept, f, no_frame()), 0, looked.looks)
 }

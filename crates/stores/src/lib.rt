@@ -2,7 +2,7 @@
 mod by_page; // the frames of one slot's pages, as a table
 pub mod claim; // the removal list is looked through for a frame to free or to write
 pub mod map_done; // a map update is over
-mod names; // what entries name, and answers put together
+mod names; // what entries name
 pub mod page_done; // a transfer is over
 mod switches; // one frame as an event leaves it
 pub mod truncate; // the pages from k up become zeros

@@ -1,10 +1,7 @@
-// What entries name, and answers put together.
+// What entries name.
 ghost use mathlib.Core.Path.{_≡_};
 ghost use Prim.Native.Nat.{pred};
 ghost use Rattle.tables.specs.Base.{at};
-use model::applied::Framed;
-use model::event::Answer;
-use model::frame::Frame;
 use parts::cells::at16;
 
 // The number that an entry names.
@@ -22,13 +19,4 @@ pub fn record_of(addresses: &[u16], page: u16) -> usize
     ensures { λ r. ⌜ r ≡ pred (at (now (addresses .entry)) (pred page)) ⌝ }
 {
     named(at16(addresses, named(page)))
-}
-
-pub fn framed(frames: [Frame; 64], refusal: u32, result: u32) -> Framed
-    ensures { λ r. ⌜ r ≡ record { frames = frames; answer = record { refusal = refusal; result = result } } ⌝ }
-{
-    Framed {
-        frames,
-        answer: Answer { refusal, result },
-    }
 }

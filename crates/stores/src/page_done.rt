@@ -8,15 +8,15 @@ ghost use Rattle.model.specs.Lines.{NULLED, LIVE};
 ghost use Rattle.model.specs.Questions.{questions};
 ghost use Rattle.model.specs.Own.{own};
 ghost use Rattle.stores.specs.Done.{pageDone, asked, seen, DoneReady, DoneLeft};
-use crate::names::framed;
 use crate::names::record_of;
-use crate::switches::empty;
 use crate::switches::served;
 use crate::switches::unwritten;
 use model::applied::Framed;
+use model::applied::answered;
 use model::frame::Frame;
 use model::frame::NONE;
 use model::frame::READING;
+use model::frame::no_frame;
 use model::lines::LIVE;
 use model::lines::NULLED;
 use model::sizes::Sizes;
@@ -72,7 +72,7 @@ pub fn page_done(
 {
     let refusal = ask_done(sizes, frame, good, frames);
     if refusal != 0 {
-        return framed(frames, refusal, 0);
+        return answered(frames, refusal, 0);
     }
     let old = frame_at(frames, frame);
     let r = record_of(addresses, old.page);
@@ -80,17 +80,17 @@ pub fn page_done(
         if good == 1 {
             copy_part(records, r, words, frame, sizes.words);
             push_front(removal_list, frame);
-            return framed(with_frame(frames, frame, served(old)), 0, 0);
+            return answered(with_frame(frames, frame, served(old)), 0, 0);
         }
         push_back(free_queue, frame);
-        return framed(with_frame(frames, frame, empty()), 0, 0);
+        return answered(with_frame(frames, frame, no_frame()), 0, 0);
     }
     if good == 1 {
         copy_part(words, frame, records, r, sizes.words);
         make_live(states, r);
         push_back(free_queue, frame);
-        return framed(with_frame(frames, frame, empty()), 0, 0);
+        return answered(with_frame(frames, frame, no_frame()), 0, 0);
     }
     push_back(removal_list, frame);
-    framed(with_frame(frames, frame, unwritten(old)), 0, 0)
+    answered(with_frame(frames, frame, unwritten(old)), 0, 0)
 }

@@ -1,27 +1,13 @@
 // One frame as an event leaves it.
 ghost use mathlib.Core.Path.{_≡_};
 ghost use Prim.Native.Nat.{_<_, pred};
-ghost use Rattle.model.specs.State.{noFrame, NONE, WRITING};
+ghost use Rattle.model.specs.State.{NONE, WRITING};
 ghost use Rattle.model.specs.Setters.{setModified, setTransfer};
 ghost use Rattle.model.specs.Pages.{fresh};
 ghost use Rattle.model.specs.Stores.{cooled};
 use model::frame::Frame;
 use model::frame::NONE;
 use model::frame::WRITING;
-
-// No page, and no switch on.
-pub fn empty() -> Frame
-    ensures { λ r. ⌜ r ≡ noFrame ⌝ }
-{
-    Frame {
-        page: 0,
-        used: 0,
-        modified: 0,
-        wired: 0,
-        initial: 0,
-        transfer: NONE,
-    }
-}
 
 // The page is newly in service: initial on, used and modified off.
 pub fn served(frame: Frame) -> Frame

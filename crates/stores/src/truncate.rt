@@ -17,11 +17,11 @@ ghost use Rattle.model.specs.State.{frameAt, noFrame};
 ghost use Rattle.stores.specs.Truncate.{quiet, allQuiet, chargedPage, cutUpTo, cutList, Cutting, truncate, asked, seen, TruncateReady, TruncateLeft};
 use crate::by_page::by_page;
 use crate::by_page::wide;
-use crate::names::framed;
-use crate::switches::empty;
 use model::applied::Framed;
+use model::applied::answered;
 use model::frame::Frame;
 use model::frame::NONE;
+use model::frame::no_frame;
 use model::lines::LIVE;
 use model::sizes::Sizes;
 use parts::cells::at8;
@@ -131,7 +131,7 @@ fn clear_frames(
         let page = old.page as usize;
         if page > start + k {
             if page <= start + pages {
-                kept[f] = empty();
+                kept[f] = no_frame();
             }
         }
         f += 1;
@@ -226,7 +226,7 @@ pub fn truncate(
 {
     let refusal = ask_truncate(sizes, slot, k, frames, numbers, active);
     if refusal != 0 {
-        return framed(frames, refusal, 0);
+        return answered(frames, refusal, 0);
     }
     let count = sizes.frames;
     let pages = sizes.pages;
@@ -235,5 +235,5 @@ pub fn truncate(
     free_frames(count, pages, slot, k, frames, free_queue, removal_list);
     release_from(sizes, states, addresses, slot, k);
     clear_from(addresses, pages, slot, k);
-    framed(clear_frames(count, pages, slot, k, frames), 0, 0)
+    answered(clear_frames(count, pages, slot, k, frames), 0, 0)
 }

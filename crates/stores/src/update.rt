@@ -9,14 +9,15 @@ ghost use Rattle.tables.specs.Store.{store, Split};
 ghost use Rattle.model.specs.Lines.{LEAVING};
 ghost use Rattle.model.specs.Questions.{questions};
 ghost use Rattle.model.specs.Own.{own};
-ghost use Rattle.stores.specs.Update.{update, asked, seen, imageOf, leaves, leavesSlot, Leaving, UpdateReady, UpdateLeft};
+ghost use Rattle.parts.specs.Addresses.{liveAddress};
+ghost use Rattle.stores.specs.Update.{update, asked, seen, leaves, leavesSlot, Leaving, UpdateReady, UpdateLeft};
 use model::event::Answer;
 use model::frame::Frame;
 use model::lines::LEAVING;
-use model::lines::LIVE;
 use model::lines::NULLED;
 use model::lines::RELEASED;
 use model::sizes::Sizes;
+use parts::addresses::live_address;
 use parts::cells::at8;
 use parts::cells::at16;
 use parts::cells::at32;
@@ -44,29 +45,15 @@ fn ask_update(sizes: Sizes, slot: usize, numbers: &[u32], active: &[u8], updatin
     0
 }
 
-// What an update stores for a page: its address where it is live.
-fn image_of(addresses: &[u16], states: &[u8], i: usize) -> u16
-    ensures { λ r. ⌜ r ≡ imageOf (now (addresses .entry)) (now (states .entry)) i ⌝ }
-{
-    let address = at16(addresses, i);
-    if address == 0 {
-        return 0;
-    }
-    if at8(states, address as usize - 1) != LIVE {
-        return 0;
-    }
-    address
-}
-
 // The image lists the slot's live addresses, others 0.
 fn fill_image(pages: usize, slot: usize, addresses: &[u16], states: &[u8], images: &mut [u16])
     requires { ⌜ (0 < pages) × (slot * pages + pages ≤ length (now images)) ⌝ }
-    ensures { λ _. ⌜ now (images .exit) ≡ store (now (images .entry)) (λ i. same (i / pages) slot) (imageOf (now (addresses .entry)) (now (states .entry))) ⌝ }
+    ensures { λ _. ⌜ now (images .exit) ≡ store (now (images .entry)) (λ i. same (i / pages) slot) (liveAddress (now (addresses .entry)) (now (states .entry))) ⌝ }
 {
     let end = slot * pages + pages;
     let mut i = slot * pages;
     while i < end {
-        images[i] = image_of(addresses, states, i);
+        images[i] = live_address(addresses, states, i);
         i += 1;
     }
 }

@@ -1,8 +1,7 @@
 //! The lists that speed is measured over: every kind is there often, and the tables stay in use.
 
 use reference::bench::list::{list, List};
-use reference::bench::{FORMAT, RESTART, SIZES};
-use reference::drive::counts::KINDS;
+use reference::bench::{kinds, FORMAT, REFUSED, RESTART, SIZES};
 use reference::keeper::Keeper;
 use reference::queue;
 
@@ -25,8 +24,8 @@ fn in_use(keeper: &Keeper) -> [bool; 3] {
 fn every_kind_is_there_and_the_tables_are_in_use() {
     for (name, sizes) in SIZES {
         let list = list(sizes, 1000, 10);
-        for (kind, kind_name) in KINDS.iter().enumerate() {
-            let least = if kind == FORMAT || kind == RESTART { 10 } else { 40 };
+        for (kind, kind_name) in kinds() {
+            let least = if [FORMAT, RESTART, REFUSED].contains(&kind) { 10 } else { 40 };
             assert!(calls(&list, kind) >= least, "{name}: {kind_name}");
         }
         for keeper in [&list.start, &list.after_mixed] {

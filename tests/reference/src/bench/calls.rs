@@ -33,6 +33,12 @@ macro_rules! calls {
             calls!(one $subject, "format", $tables, |tables, _| $format(tables)),
             calls!(one $subject, "restart", $tables, |tables, _| $restart(tables)),
             calls!(one $subject, "page_look", $tables, |tables, values| start($look(tables, values[0], values[1]))),
+            calls!(one $subject, "refused", $tables, |tables, _| {
+                let words = std::mem::take(&mut tables.sizes.words);
+                let answer = $apply(tables, Request { kind: 0x0F, first: 0, second: 0, third: 0, fourth: 0 });
+                tables.sizes.words = words;
+                answer
+            }),
         ]
     };
     (request $subject:literal, $kind:literal, $tables:ty, $number:literal, $apply:expr) => {
@@ -50,15 +56,15 @@ macro_rules! calls {
     }};
 }
 
-pub const REFERENCE: [Made<Keeper>; 18] =
+pub const REFERENCE: [Made<Keeper>; 19] =
     calls!("reference", Keeper, Keeper::format, Keeper::restart, Keeper::apply, Keeper::page_look);
 
-pub fn c_port<'a>() -> [Made<Lent<'a>>; 18] {
+pub fn c_port<'a>() -> [Made<Lent<'a>>; 19] {
     calls!("C", Lent<'_>, Lent::format, Lent::restart, Lent::apply, Lent::page_look)
 }
 
 #[cfg(keeper)]
-pub const KEEPER: [Made<Keeper>; 18] = {
+pub const KEEPER: [Made<Keeper>; 19] = {
     use crate::linked::proved::{apply, format, page_look, restart};
     calls!("keeper", Keeper, format, restart, apply, page_look)
 };

@@ -1,7 +1,7 @@
 //! The list of a size, and the tables that it starts from.
 
 use super::mix::{Mix, Step};
-use super::{calls, disk, ACTIVATE, FAULT, FORMAT, PAGE_DONE, RESTART};
+use super::{calls, disk, ACTIVATE, FAULT, FORMAT, PAGE_DONE, REFUSED, RESTART};
 use crate::drive::random::Random;
 use crate::event::Answer;
 use crate::keeper::Keeper;
@@ -16,7 +16,7 @@ pub struct List {
     pub after_mixed: Keeper,
 }
 
-/// So many events of mixed kinds, then restarts and formats, so many each.
+/// So many events of mixed kinds, then restarts, formats and refused calls, so many each.
 pub fn list(sizes: Sizes, mixed: usize, last: usize) -> List {
     let mut mix = Mix::new(Random::new(1));
     let start = started(sizes, &mut mix);
@@ -27,9 +27,9 @@ pub fn list(sizes: Sizes, mixed: usize, last: usize) -> List {
         answers.push(carried_out(&mut keeper, &step));
         steps.push(step);
     }
-    for kind in [RESTART, FORMAT] {
+    for (kind, refusal) in [(RESTART, 0), (FORMAT, 0), (REFUSED, 1)] {
         steps.extend(vec![Step { kind, values: [0; 4] }; last]);
-        answers.extend(vec![Answer::done(0); last]);
+        answers.extend(vec![Answer { refusal, result: 0 }; last]);
     }
     List { start, steps, answers, mixed, after_mixed: keeper }
 }
@@ -53,7 +53,7 @@ fn started(sizes: Sizes, mix: &mut Mix) -> Keeper {
     keeper
 }
 
-/// The reference's answer. Every call of a list is carried out.
+/// The reference's answer to a call that is carried out, as all are but the refused ones at the end.
 fn carried_out(keeper: &mut Keeper, step: &Step) -> Answer {
     let answer = calls::REFERENCE[step.kind](keeper, &step.values);
     assert_eq!(answer.refusal, 0, "{step:?}");

@@ -9,6 +9,7 @@ pub mod replay; // a list replayed with a clock
 pub mod side; // the keepers side by side
 pub mod values; // likely values for an event
 
+use crate::drive::counts::KINDS;
 use crate::program;
 use crate::tables::Sizes;
 
@@ -26,3 +27,10 @@ pub const PAGE_DONE: usize = 12;
 pub const FORMAT: usize = 15;
 pub const RESTART: usize = 16;
 pub const LOOK: usize = 17;
+/// A call that question 1 refuses at once: what it takes to make a call and to be answered.
+pub const REFUSED: usize = 18;
+
+/// All kinds with their names.
+pub fn kinds() -> impl Iterator<Item = (usize, &'static str)> {
+    KINDS.into_iter().chain(["refused"]).enumerate()
+}

@@ -1,9 +1,9 @@
 //! The three keepers side by side over one list: timed, or for callgrind to count.
 
 use super::calls;
+use super::kinds;
 use super::list::List;
 use super::replay::{replay, Clock};
-use crate::drive::counts::KINDS;
 use crate::linked::c_port::Lent;
 use crate::tables::Sizes;
 use std::arch::asm;
@@ -25,7 +25,7 @@ pub fn time(list: &List, seconds: u64) {
     }
     let Sizes { words, records, frames, slots, pages, accounts } = list.start.sizes;
     println!("sizes\tW {words} R {records} F {frames} S {slots} N {pages} Q {accounts}\nrounds\t{rounds}");
-    for (kind, name) in KINDS.iter().enumerate() {
+    for (kind, name) in kinds() {
         let own = || (0..list.steps.len()).filter(|&at| list.steps[at].kind == kind);
         let calls = own().count();
         let total = |times: &[u64]| own().map(|at| clock.nanoseconds(times[at])).sum::<f64>();
@@ -58,7 +58,7 @@ pub fn count(list: &List) {
     callgrind(START);
     round(list, &mut least, 2);
     callgrind(STOP);
-    for (kind, name) in KINDS.iter().enumerate() {
+    for (kind, name) in kinds() {
         println!("{name}\t{}", list.steps.iter().filter(|step| step.kind == kind).count());
     }
 }

@@ -41,7 +41,7 @@ struct Memory {
 /// `struct keeper` of bench/keeper.h over a keeper's tables.
 #[repr(C)]
 pub struct Lent<'a> {
-    sizes: Sizes,
+    pub sizes: Sizes,
     disk: Disk,
     memory: Memory,
     tables: PhantomData<&'a mut Keeper>,

@@ -9,7 +9,7 @@ use Rattle.model.specs.OwnLaws.{own-no}
 use Rattle.tables.specs.Questions.{yes-all}
 use Rattle.tables.specs.Rule.{below, _and_}
 use Rattle.model.specs.Own.{first-no}
-use Rattle.designs.specs.Seen.{filed}
+use Rattle.designs.specs.Seen.{seenFiles}
 use Rattle.designs.proofs.Tests.{two-yes, two-no}
 use Rattle.designs.proofs.Carried.{carried-out, limit-limits}
 use Rattle.designs.proofs.files.limit.Statement.{statement}
@@ -18,7 +18,7 @@ use Rattle.designs.proofs.files.limit.Tie as tie
 returns : tie.Need-returns
 returns c =
     let a = c .before .before .before .args in
-    let o = own-no (a .sizes) (filed [] [] [] (a .limits .now) []) (Event.Design (Design.Limit (a .account) (a .pages))) 3 (sym (first-no 3 (below (a .account) (a .sizes .accounts) and below (a .pages) 65536) _ (two-no (a .account) (a .sizes .accounts) (a .pages) 65536 (c .if1 .left)))) (omega arith) in
+    let o = own-no (a .sizes) (seenFiles [] [] [] (a .limits .now) []) (Event.Design (Design.Limit (a .account) (a .pages))) 3 (sym (first-no 3 (below (a .account) (a .sizes .accounts) and below (a .pages) 65536) _ (two-no (a .account) (a .sizes .accounts) (a .pages) 65536 (c .if1 .left)))) (omega arith) in
     (λ i. o i .answer, λ i. o i .left .disk .limits)
 
 cast-put16 : tie.Need-cast-put16
@@ -30,8 +30,8 @@ returns-2 c =
     let u = c .before .before in
     let t = u .before .before in
     let a = t .before .before .before .args in
-    let o = carried-out (a .sizes) (filed [] [] [] (a .limits .now) []) (Design.Limit (a .account) (a .pages)) 0 (sym (yes-all _ (two-yes (a .account) (a .sizes .accounts) (a .pages) 65536 (t .if1 .taken), tt))) refl in
-    (λ i. o i .answer, u .put16 .ensures ∙ limit-limits (a .sizes) (filed [] [] [] (a .limits .now) []) (a .account) (a .pages) ∙ (λ i. o i .left .disk .limits))
+    let o = carried-out (a .sizes) (seenFiles [] [] [] (a .limits .now) []) (Design.Limit (a .account) (a .pages)) 0 (sym (yes-all _ (two-yes (a .account) (a .sizes .accounts) (a .pages) 65536 (t .if1 .taken), tt))) refl in
+    (λ i. o i .answer, u .put16 .ensures ∙ limit-limits (a .sizes) (seenFiles [] [] [] (a .limits .now) []) (a .account) (a .pages) ∙ (λ i. o i .left .disk .limits))
 
 pub limit-spec : {M : Type 1} → statement M
 limit-spec = tie.close (tie.spec returns cast-put16 (λ c κs. search needs) (λ c. search needs) returns-2)

@@ -53,10 +53,10 @@ use Rattle.keeper.proofs.Row.{F, size, vals, tells, makes, copy, typed,
 use Rattle.keeper.proofs.Row64.{F64, ty64, vals64, mach64, apart, makes64, typed64, take-apart, put-together}
 use Rattle.keeper.proofs.Copied.{copied-next, copied-length, capped-le, capped-64, left-next, left-all, goes-on, stops}
 use Rattle.keeper.proofs.Capped.{Cap, to-cap, goes-cap, cap-of, cited-cap}
-use Rattle.keeper.proofs.frames.blank as blank
-use Rattle.keeper.proofs.frames.blank.Symbol as blank-def
-use Rattle.keeper.proofs.frames.blank.Symbol.{name as #keeper·frames·blank}
-use Rattle.keeper.proofs.frames.blank.Met as blank-thm
+use Rattle.model.proofs.frame.no_frames as blank
+use Rattle.model.proofs.frame.no_frames.Symbol as blank-def
+use Rattle.model.proofs.frame.no_frames.Symbol.{name as #model·frame·no_frames}
+use Rattle.model.proofs.frame.no_frames.Met as blank-thm
 use Rattle.keeper.proofs.frames.capped as cap
 use Rattle.keeper.proofs.frames.capped.Symbol.{name as #keeper·frames·capped}
 use Rattle.keeper.proofs.frames.load.Key.{name as #key}
@@ -78,7 +78,7 @@ abbrev stayed : Stays (fn.ended .signature .params) (fn.ended .kept)
 stayed = (stay-none-slice (0 ∷ []) tt (plain (λ _. F)) yes, tt)
 
 module _ {M : Type 1} (𝓤 : URA M) (H : Heap 𝓤) (A : Atoms 𝓤) (mem : Memory → SProp 𝓤) (run : Routine → Fun 𝓤) where
-  -- `blank`'s contract, and of its `ensured` the clause alone
+  -- `no_frames`'s contract, and of its `ensured` the clause alone
   abbrev Blank : Contract 𝓤
   Blank = tripleOf 𝓤 H A blank.signature (blank.spec 𝓤 H A mem run)
 
@@ -225,14 +225,14 @@ module _ {M : Type 1} (𝓤 : URA M) (H : Heap 𝓤) (A : Atoms 𝓤) (W : Given
         first ! $ blocks ! $ subst (λ (j : ℕ). Sq W (At j) (runs C Λ En (loop mir.turn-1) (anyQ Left))) (left-all m)
         (use1 W (given (m ≤ m) (‵ (row F fullShare (zs (m - m)) l₂ 0))) (guardI 𝓤 (m ≤ m) (sem 𝓤 H A (row F fullShare (zs (m - m)) l₂ 0)) (omega arith)) $ loops ! 𝓣 _<_ (Nat·lt-wfRel .wf) Inv turns m)
 
-  -- what `blank`'s triple binds outside, and that it asks nothing
+  -- what `no_frames`'s triple binds outside, and that it asks nothing
   abbrev to-blank : Blank 𝓤 H A mem run .Ghost
   to-blank = ((tt, tt, tt, tt, tt), tt)
 
   goes-blank : ent 𝓤 (emp 𝓤) (Blank 𝓤 H A mem run .pre to-blank)
   goes-blank = qed W [] ∵ nothing ! $ nothing ! $ join ! $ frame ! $ done !
 
-  walk : (𝓣 : Tables 𝓤 H) → FmC 𝓤 H (W .laws) (𝓣 .C) → Triple 𝓤 (𝓣 .C #keeper·frames·blank) (Blank 𝓤 H A mem run) → Triple 𝓤 (𝓣 .C #keeper·frames·capped) (Cap 𝓤 H A mem run) → ent 𝓤 (onEntry 𝓤 H A fn.signature (κ, tt) (q, tt) (x, tt) at) (WpFn 𝓤 H (𝓣 .C) (𝓣 .Λ) code.function (s ∷ []) Post)
+  walk : (𝓣 : Tables 𝓤 H) → FmC 𝓤 H (W .laws) (𝓣 .C) → Triple 𝓤 (𝓣 .C #model·frame·no_frames) (Blank 𝓤 H A mem run) → Triple 𝓤 (𝓣 .C #keeper·frames·capped) (Cap 𝓤 H A mem run) → ent 𝓤 (onEntry 𝓤 H A fn.signature (κ, tt) (q, tt) (x, tt) at) (WpFn 𝓤 H (𝓣 .C) (𝓣 .Λ) code.function (s ∷ []) Post)
   walk 𝓣 fm known known-cap =
       qed W ((‵ (flft κ q) ⊛ ‵ ftrue) ∷ ‵ (owns (ShrSlice (named 0) κ F ∷ []) (x, tt) at) ∷ []) ∵ enter ! (𝓣 .C) (𝓣 .Λ) code.function (s ∷ []) _ $
       alloc1 ! (λ l₀. alloc1 ! (λ l₁. alloc1 ! (λ l₂. alloc1 ! (λ l₃. alloc1 ! (λ l₄. alloc1 ! (λ l₅. alloc1 ! (λ l₆. alloc1 ! (λ l₇. alloc1 ! (λ l₈. alloc1 ! (λ l₉. alloc1 ! (λ l₁₀. alloc1 ! (λ l₁₁. alloc1 ! (λ l₁₂. alloc1 ! (λ l₁₃. alloc0 ! $ params1 ! $
@@ -260,12 +260,12 @@ module _ {M : Type 1} (𝓤 : URA M) (H : Heap 𝓤) (A : Atoms 𝓤) (W : Given
       looped 𝓣 q′ v l₀ l₁ l₂ l₃ l₄ l₅ l₆ l₇ l₈ l₉ l₁₀ l₁₁ l₁₂ l₁₃)))))))))))))))))))))))
 
 module _ {M : Type 1} (𝓤 : URA M) (H : Heap 𝓤) (A : Atoms 𝓤) (W : Given 𝓤 H A) (mem : Memory → SProp 𝓤) (run : Routine → Fun 𝓤) where
-  walks : (𝓣 : Tables 𝓤 H) → Triple 𝓤 (𝓣 .C #keeper·frames·blank) (Blank 𝓤 H A mem run) → Triple 𝓤 (𝓣 .C #keeper·frames·capped) (Cap 𝓤 H A mem run) → Walks 𝓤 H A fn.ended stayed (WpFn 𝓤 H (𝓣 .C) (𝓣 .Λ) code.function) (fn.clauses 𝓤 H A mem run)
+  walks : (𝓣 : Tables 𝓤 H) → Triple 𝓤 (𝓣 .C #model·frame·no_frames) (Blank 𝓤 H A mem run) → Triple 𝓤 (𝓣 .C #keeper·frames·capped) (Cap 𝓤 H A mem run) → Walks 𝓤 H A fn.ended stayed (WpFn 𝓤 H (𝓣 .C) (𝓣 .Λ) code.function) (fn.clauses 𝓤 H A mem run)
   walks 𝓣 known known-cap = walked 𝓤 H A fn.ended stayed (fn.clauses 𝓤 H A mem run) (WpFn 𝓤 H (𝓣 .C) (𝓣 .Λ) code.function) (λ κs. (slice-vals, tt)) (λ κs. (shr-slice-tells (named 0) (κs .0) F, tt))
       (λ κs qs bounds a g are. via 𝓤 _ (fst∗ 𝓤 _ (emp 𝓤))
       (walk 𝓤 H A W mem run (κs .0) (qs .0) (a .0 .ptr .0) (a .0 .ptr .1) (a .0 .name) (a .0 .now) (are .0 .0 .1) 𝓣 (fmOf 𝓤 H (W .laws) 𝓣) known known-cap))
 
-meets : {M : Type 1} (𝓤 : URA M) (H : Heap 𝓤) (A : Atoms 𝓤) → Given 𝓤 H A → (mem : Memory → SProp 𝓤) (run : Routine → Fun 𝓤) (𝓣 : Tables 𝓤 H) → Triple 𝓤 (𝓣 .C #keeper·frames·blank) (Blank 𝓤 H A mem run) → Triple 𝓤 (𝓣 .C #keeper·frames·capped) (Cap 𝓤 H A mem run)
+meets : {M : Type 1} (𝓤 : URA M) (H : Heap 𝓤) (A : Atoms 𝓤) → Given 𝓤 H A → (mem : Memory → SProp 𝓤) (run : Routine → Fun 𝓤) (𝓣 : Tables 𝓤 H) → Triple 𝓤 (𝓣 .C #model·frame·no_frames) (Blank 𝓤 H A mem run) → Triple 𝓤 (𝓣 .C #keeper·frames·capped) (Cap 𝓤 H A mem run)
     → Meets 𝓤 H A fn.signature (WpFn 𝓤 H (𝓣 .C) (𝓣 .Λ) code.function) (fn.spec 𝓤 H A mem run)
 meets 𝓤 H A W mem run 𝓣 known known-cap =
     walk-meets 𝓤 H A fn.ended stayed W (goes-none-slice 𝓤 H A W 1 (0 ∷ []) tt (plain (λ _. F)) yes, tt) (fn.clauses 𝓤 H A mem run)
@@ -277,5 +277,5 @@ load-spec 𝓤 H 𝓜 𝓖 𝓡 =
     entered 𝓤 H (tripleOf 𝓤 H (𝓖 .A) fn.signature (fn.spec 𝓤 H (𝓖 .A) (𝓜 .mem) (𝓡 .run)))
     (tables 𝓤 H 𝓜 𝓡 code.env .C) (tables 𝓤 H 𝓜 𝓡 code.env .Λ) #key code.function (code.unfolded 𝓤 H 𝓜 𝓡)
     (meets 𝓤 H (𝓖 .A) (givenOf 𝓤 H 𝓜 𝓖) (𝓜 .mem) (𝓡 .run) (tablesOf 𝓤 H 𝓜 (tables 𝓤 H 𝓜 𝓡 code.env))
-    (cited 𝓤 H (Blank 𝓤 H (𝓖 .A) (𝓜 .mem) (𝓡 .run)) 𝓜 𝓡 code.env #keeper·frames·blank blank-def.routine code.calls-keeper·frames·blank (blank-thm.met 𝓤 H 𝓜 𝓖 𝓡))
+    (cited 𝓤 H (Blank 𝓤 H (𝓖 .A) (𝓜 .mem) (𝓡 .run)) 𝓜 𝓡 code.env #model·frame·no_frames blank-def.routine code.calls-model·frame·no-frames (blank-thm.met 𝓤 H 𝓜 𝓖 𝓡))
     (cited-cap 𝓤 H 𝓜 𝓖 𝓡 code.env code.calls-keeper·frames·capped))

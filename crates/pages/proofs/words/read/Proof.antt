@@ -18,11 +18,12 @@ ask-served-requires c κs = let s = c .before .before .before .before .before .b
 
 returns : tie.Need-returns
 returns c =
-    let k = c .before in
+    let x = c .answered .ensures in
+    let k = c .before .before in
     let a = k .before .before .before .before .before .before .before .args in
     let q = served-answer (a .sizes) (a .frames) (a .numbers .now) (a .words .now) [] (a .active .now) (wordRange (a .sizes) (a .slot) (a .page) (a .word)) (a .slot) (a .page) (k .ask-served .result) (wordTest (a .sizes) (a .slot) (a .page) (a .word)) (word-test (a .sizes) (a .slot) (a .page) (a .word)) (k .ask-served .ensures .0) in
-    let o = own-no (a .sizes) (seen (take (a .sizes .frames) (a .frames)) (a .numbers .now) (a .words .now) [] (a .active .now)) (Event.Page (Page.Read (a .slot) (a .page) (a .word))) (k .ask-served .result) q (c .if1 .taken) in
-    (λ i. o i .answer, λ i. o i .left .memory .core .frames)
+    let o = own-no (a .sizes) (seen (take (a .sizes .frames) (a .frames)) (a .numbers .now) (a .words .now) [] (a .active .now)) (Event.Page (Page.Read (a .slot) (a .page) (a .word))) (k .ask-served .result) q (c .before .if1 .taken) in
+    ((λ i. x i .answer) ∙ (λ i. o i .answer), (λ i. take (a .sizes .frames) (x i .frames)) ∙ (λ i. o i .left .memory .core .frames))
 
 seat-of-requires : tie.Need-seat-of-requires
 seat-of-requires c κs =
@@ -40,7 +41,9 @@ word-of-requires c κs =
 
 returns-2 : tie.Need-returns-2
 returns-2 c =
-    let w = c .before in
+    let x = c .answered2 .ensures in
+    let e = c .before in
+    let w = e .before in
     let l = w .before in
     let g = l .before in
     let f = g .before in
@@ -50,9 +53,9 @@ returns-2 c =
     let q = served-answer (a .sizes) (a .frames) (a .numbers .now) (a .words .now) [] (a .active .now) (wordRange (a .sizes) (a .slot) (a .page) (a .word)) (a .slot) (a .page) (k .ask-served .result) (wordTest (a .sizes) (a .slot) (a .page) (a .word)) (word-test (a .sizes) (a .slot) (a .page) (a .word)) (k .ask-served .ensures .0) in
     let h = k .ask-served .ensures .1 (f .before .if1 .left) .1 in
     let o = own-yes (a .sizes) (seen (take (a .sizes .frames) (a .frames)) (a .numbers .now) (a .words .now) [] (a .active .now)) (Event.Page (Page.Read (a .slot) (a .page) (a .word))) (k .ask-served .result) q (f .before .if1 .left) in (
-      read-answer (a .sizes) (a .frames) (a .numbers .now) (a .words .now) (a .active .now) (a .slot) (a .page) (a .word) h (f .seat-of .result) (g .frame-at .result) (l .with-frame .result) (f .seat-of .ensures) (g .frame-at .ensures) (w .word-of .result) (c .at32 .result) (w .word-of .ensures) (c .at32 .ensures) ∙ (λ i. o i .answer),
-      read-frames (a .sizes) (a .frames) (a .numbers .now) (a .words .now) (a .active .now) (a .slot) (a .page) (a .word) h (f .seat-of .result) (g .frame-at .result) (l .with-frame .result) (f .seat-of .ensures) (g .frame-at .ensures) (l .with-frame .ensures) ∙ (λ i. o i .left .memory .core .frames),
+      (λ i. x i .answer) ∙ read-answer (a .sizes) (a .frames) (a .numbers .now) (a .words .now) (a .active .now) (a .slot) (a .page) (a .word) h (f .seat-of .result) (g .frame-at .result) (l .with-frame .result) (f .seat-of .ensures) (g .frame-at .ensures) (w .word-of .result) (e .at32 .result) (w .word-of .ensures) (e .at32 .ensures) ∙ (λ i. o i .answer),
+      (λ i. take (a .sizes .frames) (x i .frames)) ∙ read-frames (a .sizes) (a .frames) (a .numbers .now) (a .words .now) (a .active .now) (a .slot) (a .page) (a .word) h (f .seat-of .result) (g .frame-at .result) (l .with-frame .result) (f .seat-of .ensures) (g .frame-at .ensures) (l .with-frame .ensures) ∙ (λ i. o i .left .memory .core .frames),
     )
 
 pub read-spec : {M : Type 1} → statement M
-read-spec = tie.close (tie.spec ask-served-requires returns seat-of-requires (λ c κs. search needs) (λ c κs. search needs) word-of-requires (λ c κs. search needs) returns-2)
+read-spec = tie.close (tie.spec ask-served-requires (λ c κs. search needs) returns seat-of-requires (λ c κs. search needs) (λ c κs. search needs) word-of-requires (λ c κs. search needs) (λ c κs. search needs) returns-2)

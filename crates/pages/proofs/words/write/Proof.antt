@@ -19,11 +19,12 @@ ask-served-requires c κs = let s = c .before .before .before .before .before .b
 
 returns : tie.Need-returns
 returns c =
-    let k = c .before in
+    let x = c .answered .ensures in
+    let k = c .before .before in
     let a = k .before .before .before .before .before .before .before .args in
     let q = served-answer (a .sizes) (a .frames) (a .numbers .now) (a .words .now) [] (a .active .now) (wordRange (a .sizes) (a .slot) (a .page) (a .word)) (a .slot) (a .page) (k .ask-served .result) (wordTest (a .sizes) (a .slot) (a .page) (a .word)) (word-test (a .sizes) (a .slot) (a .page) (a .word)) (k .ask-served .ensures .0) in
-    let o = own-no (a .sizes) (seen (take (a .sizes .frames) (a .frames)) (a .numbers .now) (a .words .now) [] (a .active .now)) (Event.Page (Page.Write (a .slot) (a .page) (a .word) (a .value))) (k .ask-served .result) q (c .if1 .taken) in
-    (λ i. o i .answer, (λ i. o i .left .memory .core .frames, λ i. o i .left .memory .core .words))
+    let o = own-no (a .sizes) (seen (take (a .sizes .frames) (a .frames)) (a .numbers .now) (a .words .now) [] (a .active .now)) (Event.Page (Page.Write (a .slot) (a .page) (a .word) (a .value))) (k .ask-served .result) q (c .before .if1 .taken) in
+    ((λ i. x i .answer) ∙ (λ i. o i .answer), ((λ i. take (a .sizes .frames) (x i .frames)) ∙ (λ i. o i .left .memory .core .frames), λ i. o i .left .memory .core .words))
 
 seat-of-requires : tie.Need-seat-of-requires
 seat-of-requires c κs =
@@ -42,7 +43,8 @@ word-of-requires c κs =
 returns-2 : tie.Need-returns-2
 unfolding result
 returns-2 c =
-    let u = c .before .before in
+    let x = c .answered2 .ensures in
+    let u = c .before .before .before in
     let w = u .before .before in
     let l = w .before in
     let g = l .before in
@@ -52,12 +54,12 @@ returns-2 c =
     let q = served-answer (a .sizes) (a .frames) (a .numbers .now) (a .words .now) [] (a .active .now) (wordRange (a .sizes) (a .slot) (a .page) (a .word)) (a .slot) (a .page) (k .ask-served .result) (wordTest (a .sizes) (a .slot) (a .page) (a .word)) (word-test (a .sizes) (a .slot) (a .page) (a .word)) (k .ask-served .ensures .0) in
     let h = k .ask-served .ensures .1 (f .before .if1 .left) .1 in
     let o = own-yes (a .sizes) (seen (take (a .sizes .frames) (a .frames)) (a .numbers .now) (a .words .now) [] (a .active .now)) (Event.Page (Page.Write (a .slot) (a .page) (a .word) (a .value))) (k .ask-served .result) q (f .before .if1 .left) in (
-      (λ i. o i .answer),
+      (λ i. x i .answer) ∙ (λ i. o i .answer),
       (
-        write-frames (a .sizes) (a .frames) (a .numbers .now) (a .words .now) (a .active .now) (a .slot) (a .page) (a .word) h (f .seat-of .result) (g .frame-at .result) (l .with-frame .result) (f .seat-of .ensures) (g .frame-at .ensures) (a .value) (l .with-frame .ensures) ∙ (λ i. o i .left .memory .core .frames),
+        (λ i. take (a .sizes .frames) (x i .frames)) ∙ write-frames (a .sizes) (a .frames) (a .numbers .now) (a .words .now) (a .active .now) (a .slot) (a .page) (a .word) h (f .seat-of .result) (g .frame-at .result) (l .with-frame .result) (f .seat-of .ensures) (g .frame-at .ensures) (a .value) (l .with-frame .ensures) ∙ (λ i. o i .left .memory .core .frames),
         write-words (a .sizes) (a .frames) (a .numbers .now) (a .words .now) (a .active .now) (a .slot) (a .page) (a .word) h (f .seat-of .result) (g .frame-at .result) (l .with-frame .result) (f .seat-of .ensures) (g .frame-at .ensures) (w .word-of .result) (a .value) _ (w .word-of .ensures) (u .put32 .ensures) ∙ (λ i. o i .left .memory .core .words),
       ),
     )
 
 pub write-spec : {M : Type 1} → statement M
-write-spec = tie.close (tie.spec ask-served-requires returns seat-of-requires (λ c κs. search needs) (λ c κs. search needs) word-of-requires (λ c κs. search needs) (λ c. search needs) returns-2)
+write-spec = tie.close (tie.spec ask-served-requires (λ c κs. search needs) returns seat-of-requires (λ c κs. search needs) (λ c κs. search needs) word-of-requires (λ c κs. search needs) (λ c κs. search needs) (λ c. search needs) returns-2)

@@ -25,8 +25,8 @@ returns c = turned-all 0 (turned-none _ _ _ 0 (λ i h. omega arith)) (λ i b h. 
 loop-holds : tie.Need-loop-holds Inv-loop μ-loop
 loop-holds c = turned-none _ _ _ _ (λ i h. omega arith)
 
-turned-requires : tie.Need-turned-requires Inv-loop μ-loop
-turned-requires c κs = c .before .before .before .before .before .before .before .pre .1
+moved-requires : tie.Need-moved-requires Inv-loop μ-loop
+moved-requires c κs = c .before .before .before .before .before .before .before .pre .1
 
 loop-again : tie.Need-loop-again Inv-loop μ-loop
 loop-again c =
@@ -35,10 +35,10 @@ loop-again c =
     ⊎-elim
     (λ w. turn-on (l .r) (l .inv) (omega arith) (sym old ∙ w .0 .1, eqb-true _ _ (w .0 .0)) _ (w .1))
     (λ w. turned-by _ (ap (set (l .states) (l .r)) (w .1) ∙ set-getD (l .states) (l .r) 0) (turn-off (l .r) (l .inv) (λ h. w .0 (eq-eqb _ _ (h .1), old ∙ h .0))))
-    (c .turned .ensures)
+    (c .moved .ensures)
 
 returns-2 : tie.Need-returns-2 Inv-loop μ-loop
 returns-2 c = turned-all _ (c .before .loop .inv) (λ i h k. omega arith)
 
 pub move-all-spec : {M : Type 1} → statement M
-move-all-spec = tie.close (tie.spec Inv-loop μ-loop returns (λ c. search needs) loop-holds (λ c. search needs) (λ c. search needs) turned-requires (λ c. search needs) (λ c. search needs) (λ c. search needs) loop-again (λ c. c .before .loop .inv .long) returns-2)
+move-all-spec = tie.close (tie.spec Inv-loop μ-loop returns (λ c. search needs) loop-holds (λ c. search needs) (λ c. search needs) moved-requires (λ c. search needs) (λ c. search needs) (λ c. search needs) loop-again (λ c. c .before .loop .inv .long) returns-2)

@@ -13,7 +13,7 @@ returns c =
 returns-2 : tie.Need-returns-2
 returns-2 c =
     let args = c .before .before .before .before .args in
-    c .zeros .ensures ∙ zero-words (args .w) (args .f) (args .r) (args .state) (args .words .now) (args .records .now) (c .before .if1 .left)
+    c .all-zero .ensures ∙ zero-words (args .w) (args .f) (args .r) (args .state) (args .words .now) (args .records .now) (c .before .if1 .left)
 
 pub content-ok-spec : {M : Type 1} → statement M
 content-ok-spec =
@@ -23,6 +23,5 @@ content-ok-spec =
     (λ c. search needs)
     (λ c κs. search needs)
     returns
-    (λ c. search needs)
     (λ c κs. search needs)
     returns-2)

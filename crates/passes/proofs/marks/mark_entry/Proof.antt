@@ -18,7 +18,7 @@ returns-2 : tie.Need-returns-2
 returns-2 c =
     let args = c .before .before .before .args in
     let if2 = c .if2 in
-    (not-so (unmarked (args .records) (args .marks .now) (args .entry)) (too-wide (args .records) (args .marks .now) (args .entry) (if2 .taken)), not-true)
+    (not-so (unmarked (args .most) (args .marks .now) (args .entry)) (too-wide (args .most) (args .marks .now) (args .entry) (if2 .taken)), not-true)
 
 is-marked-requires : tie.Need-is-marked-requires
 is-marked-requires c κs =
@@ -33,7 +33,7 @@ returns-3 c =
     let if1 = c .before .before .before .before .if1 in
     let is-marked = c .before .is-marked in
     let if3 = c .if3 in
-    (not-so (unmarked (args .records) (args .marks .now) (args .entry)) (is-on (args .records) (args .marks .now) (args .entry) (if1 .left) (eqb-true _ _ (sym (is-marked .ensures) ∙ if3 .taken))), not-true)
+    (not-so (unmarked (args .most) (args .marks .now) (args .entry)) (is-on (args .most) (args .marks .now) (args .entry) (if1 .left) (eqb-true _ _ (sym (is-marked .ensures) ∙ if3 .taken))), not-true)
 
 set-mark-requires : tie.Need-set-mark-requires
 set-mark-requires c κs =
@@ -53,7 +53,7 @@ returns-4 c =
     let is-marked = c .before .before .before .before .before .is-marked in
     let if3 = c .before .before .before .before .if3 in
     let set-mark = c .before .before .set-mark in
-    (yes-so (unmarked (args .records) (args .marks .now) (args .entry)) (is-off (args .records) (args .marks .now) (args .entry) (if1 .left) (omega (arith, if2 .left)) (off (args .marks .now) _ (eqb-false _ _ (sym (is-marked .ensures) ∙ if3 .left)))), λ e. set-mark .ensures ∙ sym (noted-one (args .marks .now) (args .entry) (if1 .left)))
+    (yes-so (unmarked (args .most) (args .marks .now) (args .entry)) (is-off (args .most) (args .marks .now) (args .entry) (if1 .left) (omega (arith, if2 .left)) (off (args .marks .now) _ (eqb-false _ _ (sym (is-marked .ensures) ∙ if3 .left)))), λ e. set-mark .ensures ∙ sym (noted-one (args .marks .now) (args .entry) (if1 .left)))
 
 pub mark-entry-spec : {M : Type 1} → statement M
 mark-entry-spec = tie.close (tie.spec returns returns-2 (λ c. search needs) is-marked-requires (λ c. search needs) returns-3 (λ c. search needs) set-mark-requires (λ c. search needs) returns-4)

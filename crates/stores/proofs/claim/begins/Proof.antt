@@ -3,10 +3,13 @@ use borrow.Author.Needs.{needs}
 use borrow.Author.Tests.{eq-eqb, ne-eqb}
 use mathlib.Core.Path.{ap}
 use mathlib.Core.Bool.{not}
+use Rattle.tables.specs.Base.{all}
+use Rattle.tables.specs.Rule.{test}
 use Rattle.stores.proofs.claim.begins.Statement.{statement}
 use Rattle.stores.proofs.claim.begins.Tie as tie
 
 returns : tie.Need-returns
+unfolding all test
 returns c = rw (eq-eqb _ _ (c .before .if1 .taken)) (ap not (c .all-zero .ensures))
 
 returns-2 : tie.Need-returns-2

@@ -14,7 +14,7 @@ use Rattle.stores.proofs.claim.claim.Statement.{statement}
 use Rattle.stores.proofs.claim.claim.Tie as tie
 
 returns : tie.Need-returns
-returns c = refused _ _ _ _ _ _ _ _ _ (c .before .before .at16 .ensures) (c .before .if1 .taken) (c .framed .ensures)
+returns c = refused _ _ _ _ _ _ _ _ _ (c .before .before .at16 .ensures) (c .before .if1 .taken) (c .answered .ensures)
 
 turn-requires : tie.Need-turn-requires
 turn-requires c κs = (
@@ -32,7 +32,7 @@ begins-requires c κs = words-fit _ _ _ _ _ _ _ _ _ (c .before .before .before .
 returns-2 : tie.Need-returns-2
 returns-2 c = write-begins _ _ _ _ _ _ _ _ _ (c .before .before .before .before .before .before .before .before .before .before .before .before .before .before .before .before .before .before .before .at16 .ensures) (c .before .before .before .before .before .before .before .before .before .before .before .before .before .before .before .before .before .before .if1 .left) (c .before .before .before .before .before .before .before .before .before .before .before .before .before .before .before .before .before .before .before .before .before .before .before .before .before .before .before .before .pre) (c .before .before .before .before .before .before .before .before .before .before .before .before .before .before .before .before .turn .ensures) (c .before .before .before .before .before .before .before .before .before .before .before .first .ensures)
     (c .before .before .before .before .before .begins .ensures ∙ rw (c .before .before .before .before .before .before .frame-at .ensures)) (c .before .before .before .before .if2 .taken) (c .before .before .before .before .before .before .before .before .before .pop .ensures) (c .before .before .before .frame-at2 .ensures)
-    (c .framed2 .ensures ∙ ap (λ (l : List Frame). answered l 0 (c .before .before .before .before .before .before .before .before .before .before .before .before .before .before .before .before .turn .result .looks)) (c .before .with-frame .ensures ∙ ap (set (c .before .before .before .before .before .before .before .before .before .before .before .before .before .before .before .before .turn .result .frames) (c .before .before .before .before .before .before .before .before .before .before .before .first .result)) (c .before .before .writing .ensures)))
+    (c .answered2 .ensures ∙ ap (λ (l : List Frame). answered l 0 (c .before .before .before .before .before .before .before .before .before .before .before .before .before .before .before .before .turn .result .looks)) (c .before .with-frame .ensures ∙ ap (set (c .before .before .before .before .before .before .before .before .before .before .before .before .before .before .before .before .turn .result .frames) (c .before .before .before .before .before .before .before .before .before .before .before .first .result)) (c .before .before .writing .ensures)))
 
 make-nulled-requires : tie.Need-make-nulled-requires
 make-nulled-requires c κs = moves _ _ _ _ _ _ _ _ _ (c .before .before .before .before .before .before .before .before .before .before .before .before .before .before .before .before .before .at16 .ensures) (c .before .before .before .before .before .before .before .before .before .before .before .before .before .before .before .before .if1 .left) (c .before .before .before .before .before .before .before .before .before .before .before .before .before .before .before .before .before .before .before .before .before .before .before .before .before .before .pre) (c .before .before .before .before .before .before .before .before .before .before .before .before .before .before .turn .ensures) (c .before .before .before .before .before .before .before .before .before .first .ensures) (c .before .record-of .ensures ∙ ap (λ (g : Frame). pred (at (c .before .before .before .before .before .before .before .before .before .before .before .before .before .before .before .before .before .before .before .before .before .before .before .before .before .before .args .addresses .now) (pred (g .page)))) (c .before .before .before .before .frame-at .ensures))
@@ -50,7 +50,7 @@ returns-3 : tie.Need-returns-3
 returns-3 c = freed _ _ _ _ _ _ _ _ _ (c .before .before .before .before .before .before .before .before .before .before .before .before .before .before .before .before .before .before .before .before .before .before .before .before .before .before .before .before .before .before .before .before .before .before .at16 .ensures) (c .before .before .before .before .before .before .before .before .before .before .before .before .before .before .before .before .before .before .before .before .before .before .before .before .before .before .before .before .before .before .before .before .before .if1 .left) (c .before .before .before .before .before .before .before .before .before .before .before .before .before .before .before .before .before .before .before .before .before .before .before .before .before .before .before .before .before .before .before .before .before .before .before .before .before .before .before .before .before .before .before .pre) (c .before .before .before .before .before .before .before .before .before .before .before .before .before .before .before .before .before .before .before .before .before .before .before .before .before .before .before .before .before .before .before .turn .ensures) (c .before .before .before .before .before .before .before .before .before .before .before .before .before .before .before .before .before .before .before .before .before .before .before .before .before .before .first .ensures)
     (c .before .before .before .before .before .before .before .before .before .before .before .before .before .before .before .before .before .before .before .before .begins .ensures ∙ rw (c .before .before .before .before .before .before .before .before .before .before .before .before .before .before .before .before .before .before .before .before .before .frame-at .ensures)) (c .before .before .before .before .before .before .before .before .before .before .before .before .before .before .before .before .before .before .before .if2 .left) (c .before .before .before .before .before .before .before .before .before .before .before .before .before .before .before .before .before .before .record-of .ensures ∙ ap (λ (g : Frame). pred (at (c .before .before .before .before .before .before .before .before .before .before .before .before .before .before .before .before .before .before .before .before .before .before .before .before .before .before .before .before .before .before .before .before .before .before .before .before .before .before .before .before .before .before .before .args .addresses .now) (pred (g .page)))) (c .before .before .before .before .before .before .before .before .before .before .before .before .before .before .before .before .before .before .before .before .before .frame-at .ensures)) (c .before .before .before .before .before .before .before .before .before .before .before .before .before .before .before .before .before .before .before .before .before .before .before .before .pop .ensures) (c .before .before .before .before .before .push-back .ensures)
     (c .before .before .before .before .before .before .before .before .before .uncharge .ensures ∙ rw (c .before .before .before .before .before .before .before .before .before .before .before .named .ensures ∙ ap (λ (g : Frame). pred (g .page)) (c .before .before .before .before .before .before .before .before .before .before .before .before .before .before .before .before .before .before .before .before .before .frame-at .ensures)))
-    (c .framed3 .ensures ∙ ap (λ (l : List Frame). answered l 0 (c .before .before .before .before .before .before .before .before .before .before .before .before .before .before .before .before .before .before .before .before .before .before .before .before .before .before .before .before .before .before .before .turn .result .looks)) (c .before .with-frame2 .ensures ∙ ap (set (c .before .before .before .before .before .before .before .before .before .before .before .before .before .before .before .before .before .before .before .before .before .before .before .before .before .before .before .before .before .before .before .turn .result .frames) (c .before .before .before .before .before .before .before .before .before .before .before .before .before .before .before .before .before .before .before .before .before .before .before .before .before .before .first .result)) (c .before .before .empty .ensures)))
+    (c .answered3 .ensures ∙ ap (λ (l : List Frame). answered l 0 (c .before .before .before .before .before .before .before .before .before .before .before .before .before .before .before .before .before .before .before .before .before .before .before .before .before .before .before .before .before .before .before .turn .result .looks)) (c .before .with-frame2 .ensures ∙ ap (set (c .before .before .before .before .before .before .before .before .before .before .before .before .before .before .before .before .before .before .before .before .before .before .before .before .before .before .before .before .before .before .before .turn .result .frames) (c .before .before .before .before .before .before .before .before .before .before .before .before .before .before .before .before .before .before .before .before .before .before .before .before .before .before .first .result)) (c .before .before .no-frame .ensures)))
     (c .before .before .before .before .before .before .before .before .before .before .before .before .before .before .before .before .make-nulled .ensures ∙ rw (c .before .before .before .before .before .before .before .before .before .before .before .before .before .before .before .before .before .before .before .before .before .frame-at .ensures))
 
 same-length-2 : tie.Need-same-length-2

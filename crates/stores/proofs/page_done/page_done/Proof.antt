@@ -13,7 +13,7 @@ use Rattle.stores.proofs.page_done.page_done.Statement.{statement}
 use Rattle.stores.proofs.page_done.page_done.Tie as tie
 
 returns : tie.Need-returns
-returns c = let a = c .before .before in refused _ _ _ _ _ _ _ _ _ _ (a .ask-done .ensures) (c .before .if1 .taken) (c .framed .ensures)
+returns c = let a = c .before .before in refused _ _ _ _ _ _ _ _ _ _ (a .ask-done .ensures) (c .before .if1 .taken) (c .answered .ensures)
 
 -- ── the places before a record is found ──
 abbrev passed : tie.After-record-of → tie.Else1
@@ -59,7 +59,7 @@ returns-2 c =
     let s = a .before .before .before .before .before .before .before in
     read-good _ _ _ _ _ _ _ _ _ _ (a .ask-done .ensures) (g .before .if1 .left) (ap (λ (x : Frame). x .transfer) (sym (g .frame-at .ensures)) ∙ t .before .if2 .taken) (t .if3 .taken)
     (k .copy-part .ensures ∙ rw (r .record-of .ensures ∙ ap (λ (x : Frame). pred (at (s .args .addresses .now) (pred (x .page)))) (g .frame-at .ensures))) (p .push-front .ensures)
-    (c .framed2 .ensures ∙ ap (λ (fs : List Frame). answered fs 0 0) (w .with-frame .ensures ∙ ap (set (s .args .frames) (s .args .frame)) (v .served .ensures ∙ ap (λ (x : Frame). fresh (pred (x .page))) (g .frame-at .ensures))))
+    (c .answered2 .ensures ∙ ap (λ (fs : List Frame). answered fs 0 0) (w .with-frame .ensures ∙ ap (set (s .args .frames) (s .args .frame)) (v .served .ensures ∙ ap (λ (x : Frame). fresh (pred (x .page))) (g .frame-at .ensures))))
 
 push-back-requires : tie.Need-push-back-requires
 push-back-requires c κs =
@@ -74,7 +74,7 @@ returns-3 c =
     let t = p .before .before in
     let r = t .before .before .before in
     read-failed _ _ _ _ _ _ _ _ _ _ (asked r .ask-done .ensures) (passed r .if1 .left) (ap (λ (x : Frame). x .transfer) (sym (r .before .frame-at .ensures)) ∙ t .before .if2 .taken) (t .if3 .left) (p .push-back .ensures)
-    (c .framed3 .ensures ∙ ap (λ (fs : List Frame). answered fs 0 0) (w .with-frame2 .ensures ∙ ap (set (start r .args .frames) (start r .args .frame)) (v .empty .ensures)))
+    (c .answered3 .ensures ∙ ap (λ (fs : List Frame). answered fs 0 0) (w .with-frame2 .ensures ∙ ap (set (start r .args .frames) (start r .args .frame)) (v .no-frame .ensures)))
 
 copy-part-requires-2 : tie.Need-copy-part-requires-2
 copy-part-requires-2 c κs =
@@ -107,7 +107,7 @@ returns-4 c =
     let s = a .before .before .before .before .before .before .before in
     write-good _ _ _ _ _ _ _ _ _ _ (a .ask-done .ensures) (g .before .if1 .left) (λ e. t .before .if2 .left (ap (λ (x : Frame). x .transfer) (g .frame-at .ensures) ∙ e)) (t .if4 .taken)
     (k .copy-part2 .ensures ∙ rw (r .record-of .ensures ∙ ap (λ (x : Frame). pred (at (s .args .addresses .now) (pred (x .page)))) (g .frame-at .ensures))) (m .make-live .ensures ∙ rw (r .record-of .ensures ∙ ap (λ (x : Frame). pred (at (s .args .addresses .now) (pred (x .page)))) (g .frame-at .ensures))) (p .push-back2 .ensures)
-    (c .framed4 .ensures ∙ ap (λ (fs : List Frame). answered fs 0 0) (w .with-frame3 .ensures ∙ ap (set (s .args .frames) (s .args .frame)) (v .empty2 .ensures)))
+    (c .answered4 .ensures ∙ ap (λ (fs : List Frame). answered fs 0 0) (w .with-frame3 .ensures ∙ ap (set (s .args .frames) (s .args .frame)) (v .no-frame2 .ensures)))
 
 push-back-requires-3 : tie.Need-push-back-requires-3
 push-back-requires-3 c κs =
@@ -122,7 +122,7 @@ returns-5 c =
     let t = p .before .before in
     let r = t .before .before .before in
     write-failed _ _ _ _ _ _ _ _ _ _ (asked r .ask-done .ensures) (passed r .if1 .left) (λ e. t .before .if2 .left (ap (λ (x : Frame). x .transfer) (r .before .frame-at .ensures) ∙ e)) (t .if4 .left) (p .push-back3 .ensures)
-    (c .framed5 .ensures ∙ ap (λ (fs : List Frame). answered fs 0 0) (w .with-frame4 .ensures ∙ ap (set (start r .args .frames) (start r .args .frame)) (v .unwritten .ensures ∙ ap unwritten (r .before .frame-at .ensures))))
+    (c .answered5 .ensures ∙ ap (λ (fs : List Frame). answered fs 0 0) (w .with-frame4 .ensures ∙ ap (set (start r .args .frames) (start r .args .frame)) (v .unwritten .ensures ∙ ap unwritten (r .before .frame-at .ensures))))
 
 pub page-done-spec : {M : Type 1} → statement M
 page-done-spec =

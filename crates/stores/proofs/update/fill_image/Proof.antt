@@ -4,13 +4,13 @@ use Prim.Native.Nat.{_+_, _-_, _*_, _/_, _≤_}
 use native.Mathlib.Omega.{arith}
 use Rattle.tables.specs.Rule.{same}
 use Rattle.tables.specs.StoreLoops.{Turned, turned-none, turn-on, turned-all, part-inside, inside-part}
-use Rattle.stores.specs.Update.{imageOf}
+use Rattle.parts.specs.Addresses.{liveAddress}
 use Rattle.stores.proofs.update.fill_image.Statement.{statement}
 use Rattle.stores.proofs.update.fill_image.Tie as tie
 
 abbrev Inv-loop : tie.InvT-loop
 Inv-loop pages slot addresses states images₀ end i₀ images i =
-    (slot * pages ≤ i) × (i ≤ slot * pages + pages) × Turned images₀ (λ k. same (k / pages) slot) (imageOf addresses states) i images
+    (slot * pages ≤ i) × (i ≤ slot * pages + pages) × Turned images₀ (λ k. same (k / pages) slot) (liveAddress addresses states) i images
 
 abbrev μ-loop : tie.MeasureT-loop
 μ-loop pages slot addresses states images₀ end i₀ images i = slot * pages + pages - i
@@ -23,7 +23,7 @@ loop-again c = (
   omega arith,
   omega arith,
   turn-on (c .before .before .loop .i) (c .before .before .loop .inv .2) (omega arith)
-      (inside-part (c .before .before .before .before .before .before .args .pages) (c .before .before .before .before .before .before .args .slot) (c .before .before .before .before .before .before .pre .0) (c .before .before .loop .i) (λ h. omega arith, omega arith)) _ (c .image-of .ensures),
+      (inside-part (c .before .before .before .before .before .before .args .pages) (c .before .before .before .before .before .before .args .slot) (c .before .before .before .before .before .before .pre .0) (c .before .before .loop .i) (λ h. omega arith, omega arith)) _ (c .live-address .ensures),
 )
 
 returns : tie.Need-returns Inv-loop μ-loop

@@ -1,8 +1,8 @@
 -- `live_address` meets its contract: the address, where its record is live.
 use borrow.Author.Needs.{needs}
-use Rattle.designs.proofs.Live.{live-none, live-on, live-off}
-use Rattle.designs.proofs.maps.live_address.Statement.{statement}
-use Rattle.designs.proofs.maps.live_address.Tie as tie
+use Rattle.parts.specs.Addresses.{live-none, live-on, live-off}
+use Rattle.parts.proofs.addresses.live_address.Statement.{statement}
+use Rattle.parts.proofs.addresses.live_address.Tie as tie
 
 returns : tie.Need-returns
 returns c = let k = c .before in let a = k .before .before .before .args in live-none (a .addresses .now) (a .states .now) (a .i) _ (k .at16 .ensures) (c .if1 .taken)

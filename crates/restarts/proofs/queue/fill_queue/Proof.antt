@@ -6,8 +6,8 @@ use lib.ListN.{length}
 use native.Mathlib.Numerals.{add-one}
 use Rattle.restarts.specs.Filled.{Begun, begun-none, begun-on, begun-all, filled-is}
 use Rattle.restarts.specs.Restarts.{queued-all}
-use Rattle.restarts.proofs.frames.fill_queue.Statement.{statement}
-use Rattle.restarts.proofs.frames.fill_queue.Tie as tie
+use Rattle.restarts.proofs.queue.fill_queue.Statement.{statement}
+use Rattle.restarts.proofs.queue.fill_queue.Tie as tie
 
 abbrev Inv-loop : tie.InvT-loop
 Inv-loop q₀ k₀ q k = Begun (length q₀) (λ i. suc i) k q

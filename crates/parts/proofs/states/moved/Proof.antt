@@ -1,10 +1,10 @@
--- `turned` meets its contract.
+-- `moved` meets its contract.
 use mathlib.Core.Path.{refl}
 use mathlib.Core.Logic.{inl, inr}
 use lib.Dec.{eqb, eqb→eq}
 use Rattle.tables.specs.Laws.{and-left, and-right, and-intro, eq→T, T→true}
-use Rattle.parts.proofs.states.turned.Statement.{statement}
-use Rattle.parts.proofs.states.turned.Tie as tie
+use Rattle.parts.proofs.states.moved.Statement.{statement}
+use Rattle.parts.proofs.states.moved.Tie as tie
 
 returns : tie.Need-returns
 returns c =
@@ -17,5 +17,5 @@ returns-2 c =
     let a = c .before .args in
     inr (λ h. rw (c .if1 .left) at (and-intro (a .own) (eqb (a .state) (a .from)) (rw (h .0) tt) (eq→T (h .1))), refl)
 
-pub turned-spec : {M : Type 1} → statement M
-turned-spec = tie.close (tie.spec returns returns-2)
+pub moved-spec : {M : Type 1} → statement M
+moved-spec = tie.close (tie.spec returns returns-2)

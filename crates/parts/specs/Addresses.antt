@@ -1,15 +1,17 @@
--- What an update now would store for a page, by the page's address and its record's state.
+-- What an update now would store for a page: its address, where its record is live.
 use mathlib.Core.Path.{_≡_, ap, sym, _∙_}
 use mathlib.Core.Logic.{inl, inr}
 use mathlib.Core.List.{List}
 use Prim.Native.Nat.{ℕ, suc, _-_}
 use native.Mathlib.Omega.{arith}
-use Rattle.tables.specs.Base.{at}
+use Rattle.tables.specs.Base.{at, if}
 use Rattle.tables.specs.Laws.{if-true, if-false}
 use Rattle.tables.specs.Rule.{Rule, same, names, sound, complete, decided, test}
 use Rattle.tables.specs.Store.{Split}
 use Rattle.model.specs.Lines.{LIVE}
-use Rattle.designs.specs.Asks.{liveAddress}
+
+abbrev pub liveAddress : List ℕ → List ℕ → ℕ → ℕ
+liveAddress addresses states i = if (test (names (at addresses i) λ r. same (at states r) LIVE)) (at addresses i) 0
 
 module _ (addresses states : List ℕ) (i : ℕ) where
   abbrev isLive : Rule
