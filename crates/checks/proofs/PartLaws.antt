@@ -7,17 +7,16 @@ use native.Mathlib.Omega.{arith}
 use lib.Dec.{eqb}
 use lib.ListN.{length}
 use Rattle.tables.specs.Base.{at}
-use Rattle.tables.specs.Queue.{members, times}
+use Rattle.tables.specs.Queue.{queue}
 use Rattle.tables.specs.Marks.{bitOf}
-use Rattle.tables.specs.Rule.{same, each, Holds, test, alike}
+use Rattle.tables.specs.Rule.{same, below, _and_, each, Holds, test, alike}
 use Rattle.model.specs.declared.frame.Frame.{Frame}
 use Rattle.model.specs.declared.sizes.Sizes.{Sizes}
 use Rattle.model.specs.State.{frameAt}
 use Rattle.model.specs.Rules.{fit}
 use Rattle.model.specs.Bounds.{pages-most}
-use Rattle.passes.specs.Passes.{marked, counted, frameRow, frameRows, recordRow, recordRows, HeldFit, ImagedFit}
-use Rattle.passes.proofs.Marked.{off}
-use Rattle.checks.specs.Parts.{recordHeld, recordsHeld, framePasses, FilesLong}
+use Rattle.passes.specs.Passes.{distinct, marked, counted, frameRows, recordRow, recordRows, HeldFit, ImagedFit, FramesFit}
+use Rattle.checks.specs.Parts.{recordHeld, recordsHeld, framePasses, FilesLong, FramesLong}
 use Rattle.checks.proofs.Shapes.{each-same}
 
 -- ── tests that came out true, or false ──
@@ -55,20 +54,12 @@ module _ (records slots : ℕ) (held listed maps addresses states owners updatin
       (λ x. (x .0, (x .1 .0, (λ e. marked-some records (length maps) (at addresses) held h r k (x .1 .1 .0 e), (λ e. marked-some records (length maps) (at maps) listed l r k (x .1 .1 .1 .0 e), x .1 .1 .1 .1)))))
       (λ x. (x .0, (x .1 .0, (λ e. some-marked records (length maps) (at addresses) held h r (x .1 .1 .0 e), (λ e. some-marked records (length maps) (at maps) listed l r (x .1 .1 .1 .0 e), x .1 .1 .1 .1))))))
 
--- a page with no address is in no frame, where each page in a frame has one
-pub framed-held : (count words pages total : ℕ) (frame : ℕ → Frame) (records word free-queue removal-list addresses states active marks : List ℕ)
-    → Holds (framePasses count words pages total frame records word free-queue removal-list addresses states active) → Holds (marked total count (λ f. frame f .page) marks)
-    → (i : ℕ) → i < total → at addresses i ≡ 0 → bitOf marks i ≡ 0
-framed-held count words pages total frame records word free-queue removal-list addresses states active marks p v i l none =
-    off marks i (λ on. let x = v .1 i l on in p .1 .0 (x .0) (x .1) .1 .1 .1 .1 .1 .1 i (x .2) .0 none)
-
 -- ── what the pass over pages needs of the lengths ──
 module _ (z : Sizes) (numbers account maps addresses states owners active updating images : List ℕ) (long : FilesLong z numbers account maps addresses states owners active updating images) where
-  pub held-fit : (inFrames : List ℕ) → Holds (fit (length maps) (z .records) (at maps)) → z .slots * z .pages ≤ 32 * length inFrames → HeldFit (z .records) maps addresses inFrames states owners
-  held-fit inFrames m room = record {
+  pub held-fit : Holds (fit (length maps) (z .records) (at maps)) → HeldFit (z .records) maps addresses states owners
+  held-fit m = record {
     addresses-long = long .addresses-long ∙ sym (long .maps-long);
     few = omega (arith, pages-most z (long .within), long .maps-long);
-    marks-long = omega (arith, room, long .maps-long);
     states-long = long .states-long;
     owners-long = long .owners-long;
     maps-fit = m;
@@ -77,10 +68,29 @@ module _ (z : Sizes) (numbers account maps addresses states owners active updati
   pub imaged-fit : ImagedFit (z .records) addresses images states owners
   imaged-fit = record { images-long = long .images-long ∙ sym (long .addresses-long); states-long = long .states-long; owners-long = long .owners-long }
 
--- ── frames by the tables of their places ──
-pub rows-placed : (n pages : ℕ) (frames : List Frame) (active addresses states free removal queued removing : List ℕ) → n ≤ 64 → Holds (counted 64 free queued) → Holds (counted 64 removal removing)
-    → test (frameRows n pages frames active addresses states queued removing) ≡ test (each n λ f. frameRow pages active addresses states (times (members free) f) (times (members removal) f) (frameAt frames f))
-rows-placed n pages frames active addresses states free removal queued removing h a b = each-same n _ _ (λ f l. rw (a f (omega arith), b f (omega arith)))
+-- ── what the pass over frames needs, and frames by the tables of their places ──
+module _ (z : Sizes) (account records words free removal addresses states active : List ℕ) (long : FramesLong z account records words free removal addresses states active) where
+  pub frames-fit : Holds (fit (length addresses) (z .records) (at addresses)) → Holds (each (z .slots) λ s. below (at account s) (z .accounts)) → FramesFit z account active addresses states words records
+  frames-fit a q = record {
+    few = omega (arith, long .within .frames-most);
+    pages = long .within .pages;
+    accounts-long = long .accounts-long ∙ sym (long .active-long);
+    accounts-fit = λ s h. omega (arith, q s (omega (arith, h, long .accounts-long)), long .within .accounts-most);
+    addresses-long = rw (long .active-long) (long .addresses-long);
+    addresses-fit = rw (long .states-long) a;
+    words-long = omega (arith, long .words-long);
+    records-long = rw (long .states-long) (omega (arith, long .records-long));
+  }
+
+  -- where both queues are queues, the pass over the frames decides
+  pub frames-decide : (frames : List Frame) (queued removing : List ℕ) → Holds (counted 64 free queued) → Holds (counted 64 removal removing) → Holds (queue (z .frames) free) → Holds (queue (z .frames) removal)
+      → test (distinct (z .frames) (length addresses) (λ f. frameAt frames f .page) and frameRows (z .frames) (z .words) (z .pages) frames words records active addresses states queued removing)
+      ≡ test (framePasses (z .frames) (z .words) (z .pages) (z .slots * z .pages) (frameAt frames) records words free removal addresses states active)
+  frames-decide frames queued removing a b q p = alike
+      (distinct (z .frames) (length addresses) (λ f. frameAt frames f .page) and frameRows (z .frames) (z .words) (z .pages) frames words records active addresses states queued removing)
+      (framePasses (z .frames) (z .words) (z .pages) (z .slots * z .pages) (frameAt frames) records words free removal addresses states active)
+      (λ h. ((rw (long .addresses-long) at (h .0), (q, p)), λ f l. rw (a f (omega (arith, l, long .within .frames-most)), b f (omega (arith, l, long .within .frames-most))) at (h .1 f l)))
+      (λ h. (rw (long .addresses-long) (h .0 .0), λ f l. rw (a f (omega (arith, l, long .within .frames-most)), b f (omega (arith, l, long .within .frames-most))) (h .1 f l)))
 
 -- twelve tests, joined from the left or from the right
 pub twelve : (a b c d e f g h i j k l : Bool) → ((((((((((a && b) && c) && d) && e) && f) && g) && h) && i) && j) && k) && l ≡ a && (b && (c && (d && (e && (f && (g && (h && (i && (j && (k && l))))))))))

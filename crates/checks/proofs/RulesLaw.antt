@@ -1,14 +1,15 @@
 -- All passes together are all rules.
-use mathlib.Core.Path.{_≡_, sym, _∙_}
-use mathlib.Core.Bool.{Bool, false}
+use mathlib.Core.Path.{_≡_, ap, sym, _∙_}
+use mathlib.Core.Bool.{Bool, false, _&&_}
 use mathlib.Core.List.{List, [], _∷_}
-use Prim.Native.Nat.{ℕ, zero, suc, _*_, _<_, _≤_}
+use Prim.Native.Nat.{ℕ, zero, suc, _+_, _*_, _/_, _<_, _≤_}
 use native.Mathlib.Omega.{arith}
+use lib.Dec.{eqb}
 use lib.ListN.{length, take}
 use lib.Seq.{getD-take}
 use Rattle.tables.specs.Base.{at}
-use Rattle.tables.specs.Marks.{bitOf}
-use Rattle.tables.specs.Rule.{Rule, Holds, test, alike}
+use Rattle.tables.specs.Laws.{count-same, count-bound}
+use Rattle.tables.specs.Rule.{Rule, below, each, Holds, test, alike}
 use Rattle.tables.specs.Turn.{not-so, unlearn}
 use Rattle.model.specs.declared.frame.Frame.{Frame}
 use Rattle.model.specs.declared.sizes.Sizes.{Sizes}
@@ -16,13 +17,12 @@ use Rattle.model.specs.State.{State, files, frames, frameAt, noFrame}
 use Rattle.model.specs.Fit.{Fit}
 use Rattle.model.specs.Rules.{allRules}
 use Rattle.model.specs.Ruled.{OfFrames, OfQueues, ruled, rules}
-use Rattle.passes.specs.Passes.{distinct, marked, usedTable}
+use Rattle.passes.specs.Passes.{usedPage, usedTable, framedPage, framedTable}
 use Rattle.checks.specs.Parts.{diskPasses, filePasses, framePasses, countPasses, DiskLong, FilesLong, FramesLong, CountsLong}
 use Rattle.checks.proofs.DiskLaw.{on-disk, disk-on}
 use Rattle.checks.proofs.FileLaw.{of-files, files-of}
-use Rattle.checks.proofs.FrameLaw.{passes-same, marked-same, of-frames, frames-of}
+use Rattle.checks.proofs.FrameLaw.{passes-same, of-frames, frames-of}
 use Rattle.checks.proofs.CountLaw.{of-counts, counts-of}
-use Rattle.checks.proofs.PartLaws.{framed-held}
 
 -- question 1 gives each subject its lengths
 module _ (z : Sizes) (st : State) (fit : Fit z st) where
@@ -43,9 +43,10 @@ module _ (z : Sizes) (st : State) (fit : Fit z st) where
     images-long = fit .memory .images;
   }
 
-  pub frames-long : FramesLong z (st .disk .records) (st .memory .core .words) (st .memory .core .free-queue) (st .memory .core .removal-list) (st .memory .held .addresses) (st .memory .held .states) (st .memory .slots .active)
+  pub frames-long : FramesLong z (st .disk .accounts) (st .disk .records) (st .memory .core .words) (st .memory .core .free-queue) (st .memory .core .removal-list) (st .memory .held .addresses) (st .memory .held .states) (st .memory .slots .active)
   frames-long = record {
     within = fit .sizes;
+    accounts-long = fit .disk .accounts;
     records-long = fit .disk .records;
     words-long = fit .memory .words;
     free-long = fit .memory .free-queue;
@@ -83,33 +84,29 @@ module _ (z : Sizes) (st : State) (fit : Fit z st) where
     no-frames e = not-so (allRules z st) (λ h. unlearn frame-passes e
         (passes-same (z .frames) (z .words) (z .pages) (z .slots * z .pages) (frames st .frame) frame (λ f l. sym (same f l)) (st .disk .records) (st .memory .core .words) (st .memory .core .free-queue) (st .memory .core .removal-list) (st .memory .held .addresses) (st .memory .held .states) (st .memory .slots .active) (frames-of z st (ruled z st h .frames) (ruled z st h .queues))))
 
-    -- a page is in two frames
-    pub no-framed : false ≡ test (distinct (z .frames) (z .slots * z .pages) (λ f. frame f .page)) → false ≡ test (allRules z st)
-    no-framed e = no-frames (not-so frame-passes (λ h. unlearn (distinct (z .frames) (z .slots * z .pages) (λ f. frame f .page)) e (h .0 .0)))
-
     -- all others hold: the counts decide
-    pub counts-decide : (t totals : List ℕ) (b : Bool) → Holds (marked (z .slots * z .pages) (z .frames) (λ f. frame f .page) t)
+    pub counts-decide : (sums totals : List ℕ) (b : Bool)
         → Holds (diskPasses (z .slots) (z .pages) (z .records) (z .accounts) (st .disk .numbers) (st .disk .accounts) (st .disk .maps))
         → Holds (filePasses (z .slots) (z .pages) (z .records) (st .disk .numbers) (st .disk .maps) (st .memory .held .addresses) (st .memory .held .states) (st .memory .held .owners) (st .memory .slots .active)
         (st .memory .slots .updating) (st .memory .slots .images))
         → Holds (framePasses (z .frames) (z .words) (z .pages) (z .slots * z .pages) frame (st .disk .records) (st .memory .core .words) (st .memory .core .free-queue) (st .memory .core .removal-list)
         (st .memory .held .addresses) (st .memory .held .states) (st .memory .slots .active))
-        → Holds (usedTable (z .slots) (z .pages) (st .disk .accounts) (st .memory .slots .active) (st .disk .maps) (st .memory .held .addresses) t (st .memory .held .states) totals)
+        → Holds (usedTable (z .slots) (z .pages) (st .disk .accounts) (st .memory .slots .active) (st .disk .maps) (st .memory .held .addresses) (st .memory .held .states) sums)
+        → Holds (framedTable (z .frames) (z .pages) (λ f. frame f .page) (st .disk .accounts) (st .memory .held .addresses) (st .memory .held .states) sums totals)
         → b ≡ test (countPasses (z .records) (z .accounts) (st .memory .held .pool .hand) (st .memory .held .pool .free) (st .memory .held .states) (st .memory .held .free-map) (st .memory .used) totals)
         → b ≡ test (allRules z st)
-    counts-decide t totals b v d f c sum e = e ∙ alike count-passes (allRules z st)
-        (λ h. rules z st (record { disk = on-disk z st disk-long d; records = of-files z st files-long f; queues = fq .1; frames = fq .0; counts = of-counts z st t w held totals (omega (arith, fit .sizes .accounts-most)) sum h }))
-        (λ h. counts-of z st t w held totals (omega (arith, fit .sizes .accounts-most)) sum (ruled z st h .counts))
+    counts-decide sums totals b d f c sum more e = e ∙ alike count-passes (allRules z st)
+        (λ h. rules z st (record { disk = on-disk z st disk-long d; records = of-files z st files-long f; queues = fq .1; frames = fq .0; counts = of-counts z st (fq .0) sums totals few sum own h }))
+        (λ h. counts-of z st (fq .0) sums totals few sum own (ruled z st h .counts))
       where
-        w : Holds (marked (z .slots * z .pages) (z .frames) (λ f. frames st .frame f .page) t)
-        w = marked-same (z .frames) (z .words) (z .pages) (z .slots * z .pages) frame (frames st .frame) same t v
+        few : z .accounts ≤ 16
+        few = omega (arith, fit .sizes .accounts-most)
 
         fq : OfFrames z (files st) (frames st) (at (st .disk .records)) × OfQueues z st
         fq = of-frames z st (passes-same (z .frames) (z .words) (z .pages) (z .slots * z .pages) frame (frames st .frame) same (st .disk .records) (st .memory .core .words) (st .memory .core .free-queue) (st .memory .core .removal-list) (st .memory .held .addresses) (st .memory .held .states) (st .memory .slots .active) c)
 
-        held : (i : ℕ) → i < z .slots * z .pages → at (st .memory .held .addresses) i ≡ 0 → bitOf t i ≡ 0
-        held = framed-held (z .frames) (z .words) (z .pages) (z .slots * z .pages) frame (st .disk .records) (st .memory .core .words) (st .memory .core .free-queue) (st .memory .core .removal-list)
-            (st .memory .held .addresses) (st .memory .held .states) (st .memory .slots .active) t c v
+        own : Holds (framedTable (z .frames) (z .pages) (λ f. frames st .frame f .page) (st .disk .accounts) (st .memory .held .addresses) (st .memory .held .states) sums totals)
+        own q h = more q h ∙ ap (λ (n : ℕ). at sums q + n) (count-same (z .frames) _ _ (λ f l. ap (λ (x : Frame). test (framedPage (z .pages) q (x .page) (at (st .disk .accounts)) (at (st .memory .held .addresses)) (at (st .memory .held .states)))) (same f l)))
 
         count-passes : Rule
         count-passes = countPasses (z .records) (z .accounts) (st .memory .held .pool .hand) (st .memory .held .pool .free) (st .memory .held .states) (st .memory .held .free-map) (st .memory .used) totals
@@ -122,3 +119,7 @@ frames-taken n count fs e f h = sym (getD-take count fs f noFrame (omega (arith,
     take-short zero l = omega arith
     take-short (suc m) [] = omega arith
     take-short (suc m) (x ∷ l) = omega (arith, take-short m l)
+
+-- what is counted is at most all pages
+pub sums-small : (slots pages : ℕ) (account active maps addresses states sums : List ℕ) → slots * pages ≤ 16384 → Holds (usedTable slots pages account active maps addresses states sums) → Holds (each 16 λ q. below (at sums q) 32768)
+sums-small slots pages account active maps addresses states sums few h q l = omega (arith, h q l, few, count-bound (slots * pages) (λ i. eqb (at account (i / pages)) q && usedPage (at active (i / pages)) (at maps i) (at addresses i) (at states)))

@@ -34,8 +34,7 @@ filePasses slots pages records numbers maps addresses states owners active updat
 abbrev pub framePasses : (count words pages total : ℕ) (frame : ℕ → Frame) (records word free-queue removal-list addresses states active : List ℕ) → Rule
 framePasses count words pages total frame records word free-queue removal-list addresses states active =
     (distinct count total (λ f. frame f .page) and queue count free-queue and queue count removal-list)
-    and (each count λ f. frameRow pages active addresses states (times (members free-queue) f) (times (members removal-list) f) (frame f))
-    and each count λ f. cleanFrame words (frame f) f word records addresses states
+    and each count λ f. frameRow pages active addresses states (times (members free-queue) f) (times (members removal-list) f) (frame f) and cleanFrame words (frame f) f word records addresses states
 
 -- totals: each account's used pages, as counted
 abbrev pub countPasses : (records accounts hand free : ℕ) (states free-map used totals : List ℕ) → Rule
@@ -61,8 +60,9 @@ pub record FilesLong (z : Sizes) (numbers account maps addresses states owners a
   pub updating-long : length updating ≡ z .slots
   pub images-long : length images ≡ z .slots * z .pages
 
-pub record FramesLong (z : Sizes) (records words free-queue removal-list addresses states active : List ℕ) : Type 0 where
+pub record FramesLong (z : Sizes) (account records words free-queue removal-list addresses states active : List ℕ) : Type 0 where
   pub within : Within z
+  pub accounts-long : length account ≡ z .slots
   pub records-long : length records ≡ z .records * z .words
   pub words-long : length words ≡ z .frames * z .words
   pub free-long : length free-queue ≡ z .frames

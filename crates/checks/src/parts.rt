@@ -7,7 +7,7 @@ ghost use Rattle.tables.specs.Base.{at};
 ghost use Rattle.tables.specs.Rule.{same, below, each, test, Holds};
 ghost use Rattle.model.specs.State.{frameAt};
 ghost use Rattle.model.specs.Rules.{fit};
-ghost use Rattle.passes.specs.Passes.{distinct, marked, usedTable};
+ghost use Rattle.passes.specs.Passes.{marked, usedTable, framedTable};
 ghost use Rattle.checks.specs.Parts.{diskPasses, filePasses, framePasses, countPasses, DiskLong, FilesLong, FramesLong, CountsLong};
 use model::frame::Frame;
 use model::frame::Pool;
@@ -24,13 +24,12 @@ pub fn disk(z: Sizes, numbers: &[u32], accounts: &[u16], maps: &[u16], listed: &
         & passes::pages::empty_maps_ok(z.slots, z.pages, numbers, maps)
 }
 
-// The memory rules of pages, records and slots; listed, in_frames: the marks of the listed records and of the pages in frames.
-// Each account's used pages are counted, from a table of zeros.
+// The memory rules of pages, records and slots; listed: the marks of the listed records. Each account's pages that count as
+// used by address or map are counted, from a table of zeros.
 pub fn files(
     z: Sizes,
     totals: &mut [usize],
     listed: &[u32],
-    in_frames: &[u32],
     numbers: &[u32],
     accounts: &[u16],
     maps: &[u16],
@@ -41,8 +40,8 @@ pub fn files(
     updating: &[u8],
     images: &[u16],
 ) -> bool
-    requires { ⌜ FilesLong z (now numbers) (now accounts) (now maps) (now addresses) (now states) (now owners) (now active) (now updating) (now images) × Holds (fit (length (now maps)) (z .records) (at (now maps))) × (z .records ≤ 32 * length (now listed)) × Holds (marked (z .records) (length (now maps)) (at (now maps)) (now listed)) × (z .slots * z .pages ≤ 32 * length (now «in_frames»)) × Holds (each (z .slots) (λ s. below (at (now accounts) s) (z .accounts))) × (length (now totals) ≡ 16) × Holds (each 16 (λ q. same (at (now totals) q) 0)) ⌝ }
-    ensures { λ r. ⌜ (r ≡ test (filePasses (z .slots) (z .pages) (z .records) (now (numbers .entry)) (now (maps .entry)) (now (addresses .entry)) (now (states .entry)) (now (owners .entry)) (now (active .entry)) (now (updating .entry)) (now (images .entry)))) × (r ≡ true → Holds (usedTable (z .slots) (z .pages) (now (accounts .entry)) (now (active .entry)) (now (maps .entry)) (now (addresses .entry)) (now («in_frames» .entry)) (now (states .entry)) (now (totals .exit)))) ⌝ }
+    requires { ⌜ FilesLong z (now numbers) (now accounts) (now maps) (now addresses) (now states) (now owners) (now active) (now updating) (now images) × Holds (fit (length (now maps)) (z .records) (at (now maps))) × (z .records ≤ 32 * length (now listed)) × Holds (marked (z .records) (length (now maps)) (at (now maps)) (now listed)) × Holds (each (z .slots) (λ s. below (at (now accounts) s) (z .accounts))) × (length (now totals) ≡ 16) × Holds (each 16 (λ q. same (at (now totals) q) 0)) ⌝ }
+    ensures { λ r. ⌜ (r ≡ test (filePasses (z .slots) (z .pages) (z .records) (now (numbers .entry)) (now (maps .entry)) (now (addresses .entry)) (now (states .entry)) (now (owners .entry)) (now (active .entry)) (now (updating .entry)) (now (images .entry)))) × (r ≡ true → Holds (usedTable (z .slots) (z .pages) (now (accounts .entry)) (now (active .entry)) (now (maps .entry)) (now (addresses .entry)) (now (states .entry)) (now (totals .exit)))) ⌝ }
 {
     let mut held: [u32; 128] = [0; 128];
     let mut imaged: [u32; 128] = [0; 128];
@@ -53,7 +52,6 @@ pub fn files(
         &mut held,
         &mut imaged,
         totals,
-        in_frames,
         accounts,
         active,
         updating,
@@ -69,10 +67,12 @@ pub fn files(
         & passes::records::records_ok(z.records, z.slots, &held, listed, states, owners, updating)
 }
 
-// The memory rules of frames and of their queues, but for that no page is in two.
+// The memory rules of frames and of their queues. The pages that count as used by their frames are counted too.
 pub fn frames(
     z: Sizes,
     frames: [Frame; 64],
+    totals: &mut [usize],
+    accounts: &[u16],
     records: &[u32],
     words: &[u32],
     free_queue: &[u16],
@@ -81,8 +81,8 @@ pub fn frames(
     states: &[u8],
     active: &[u8],
 ) -> bool
-    requires { ⌜ FramesLong z (now records) (now words) (now «free_queue») (now «removal_list») (now addresses) (now states) (now active) × Holds (fit (length (now addresses)) (z .records) (at (now addresses))) × Holds (distinct (z .frames) (z .slots * z .pages) (λ f. frameAt frames f .page)) ⌝ }
-    ensures { λ r. ⌜ r ≡ test (framePasses (z .frames) (z .words) (z .pages) (z .slots * z .pages) (frameAt frames) (now (records .entry)) (now (words .entry)) (now («free_queue» .entry)) (now («removal_list» .entry)) (now (addresses .entry)) (now (states .entry)) (now (active .entry))) ⌝ }
+    requires { ⌜ FramesLong z (now accounts) (now records) (now words) (now «free_queue») (now «removal_list») (now addresses) (now states) (now active) × Holds (fit (length (now addresses)) (z .records) (at (now addresses))) × Holds (each (z .slots) (λ s. below (at (now accounts) s) (z .accounts))) × (length (now totals) ≡ 16) × Holds (each 16 (λ q. below (at (now totals) q) 32768)) ⌝ }
+    ensures { λ r. ⌜ (r ≡ test (framePasses (z .frames) (z .words) (z .pages) (z .slots * z .pages) (frameAt frames) (now (records .entry)) (now (words .entry)) (now («free_queue» .entry)) (now («removal_list» .entry)) (now (addresses .entry)) (now (states .entry)) (now (active .entry)))) × (r ≡ true → Holds (framedTable (z .frames) (z .pages) (λ f. frameAt frames f .page) (now (accounts .entry)) (now (addresses .entry)) (now (states .entry)) (now (totals .entry)) (now (totals .exit)))) ⌝ }
 {
     if passes::queues::queue(z.frames, free_queue)
         & passes::queues::queue(z.frames, removal_list)
@@ -91,17 +91,21 @@ pub fn frames(
     }
     let queued = passes::queues::places(free_queue, [0; 64]);
     let removing = passes::queues::places(removal_list, [0; 64]);
+    let mut in_frames: [u32; 512] = [0; 512];
     passes::frames::frames_ok(
-        z.frames,
-        z.pages,
+        z,
         frames,
         queued,
         removing,
+        &mut in_frames,
+        totals,
+        accounts,
         active,
         addresses,
         states,
+        words,
+        records,
     )
-        & passes::clean::all_clean(z.words, z.frames, frames, words, records, addresses, states)
 }
 
 // The hand is below R; the free map and count agree with the states; used counts are the totals.

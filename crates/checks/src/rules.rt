@@ -57,16 +57,11 @@ pub fn all_rules(
     if crate::parts::disk(z, numbers, accounts, maps, &mut listed) {} else {
         return false;
     }
-    let mut in_frames: [u32; 512] = [0; 512];
-    if passes::frames::framed_once(z.frames, z.slots * z.pages, frames, &mut in_frames) {} else {
-        return false;
-    }
     let mut totals: [usize; 16] = [0; 16];
     if crate::parts::files(
         z,
         &mut totals,
         &listed,
-        &in_frames,
         numbers,
         accounts,
         maps,
@@ -82,6 +77,8 @@ pub fn all_rules(
     if crate::parts::frames(
         z,
         frames,
+        &mut totals,
+        accounts,
         records,
         words,
         free_queue,

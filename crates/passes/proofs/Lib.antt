@@ -6,3 +6,4 @@ pub mod FrameTests
 pub mod Words
 pub mod Places
 pub mod Tally
+pub mod Charges

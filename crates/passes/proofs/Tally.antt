@@ -1,7 +1,6 @@
 -- Counting along a loop: one more number, one more bit, one more row.
 use mathlib.Core.Path.{_≡_, refl, ap, sym, _∙_}
 use mathlib.Core.Bool.{Bool, true, false, _&&_}
-use mathlib.Core.Logic.{inl, inr}
 use mathlib.Core.List.{List}
 use Prim.Native.Nat.{ℕ, zero, suc, _+_, _-_, _*_, _/_, _^_, _<_, _≤_}
 use native.Mathlib.Nat.{mul-add-div-right, div-eq-of-lt, pow-le-pow-right}
@@ -14,14 +13,12 @@ use lib.Seq.{getD-set-same, getD-set-other}
 use borrow.Author.Tests.{eq-eqb, ne-eqb, lt-ltb, le-ltb}
 use Rattle.tables.specs.Base.{at, if, count}
 use Rattle.tables.specs.Bits.{bits}
-use Rattle.tables.specs.Marks.{bitOf}
 use Rattle.tables.specs.BitLaws.{bits-none, bits-suc, bits-lt}
 use Rattle.tables.specs.Laws.{count-same, count-bound}
 use Rattle.tables.specs.CountLaws.{count-none, count-row}
-use Rattle.tables.specs.Rule.{same, each, Holds, test, alike}
-use Rattle.model.specs.Lines.{FREE}
-use Rattle.tables.specs.Turn.{yes-so, not-so}
-use Rattle.passes.specs.Passes.{chargedPage, usedPage, usedPages, usedTable, freeRecord}
+use Rattle.tables.specs.Rule.{same, each, Holds, test, told, untold}
+use Rattle.model.specs.Lines.{FREE, LIVE}
+use Rattle.passes.specs.Passes.{livePage, usedPage, usedPages, usedTable, freeRecord}
 
 pub one-le : (b : Bool) → if b 1 0 ≤ 1
 one-le true = omega arith
@@ -92,35 +89,28 @@ module _ (records from : ℕ) (states : List ℕ) where
       let e : records - from + (32 - (records - from)) ≡ 32 = omega arith in
       bits-same (records - from) (λ r. eqb (at states r) FREE) (freeRecord records states) from (λ r a b. there r (omega arith)) ∙ sym (rw e at (bits-cut (records - from) (32 - (records - from)) (freeRecord records states) from (λ r a. past r (omega arith))))
 
--- ── a charged page ──
-module _ (a f : ℕ) (state : ℕ → ℕ) where
-  pub no-address : a ≡ 0 → false ≡ test (chargedPage a f state)
-  no-address z = not-so (chargedPage a f state) (λ h. omega (arith, z, h .1))
+-- ── a page with a live address ──
+module _ (a : ℕ) (state : ℕ → ℕ) where
+  pub no-address : a ≡ 0 → _≡_ {A = ℕ} 0 (if (test (livePage a state)) 1 0)
+  no-address z = rw (untold (livePage a state) (λ h. omega (arith, z, h .1)))
 
   module _ (some : ¬ (a ≡ 0)) where
-    pub is-live : state (a - 1) ≡ 3 → true ≡ test (chargedPage a f state)
-    is-live h = yes-so (chargedPage a f state) (a - 1, omega arith, inl h)
+    pub is-live : state (a - 1) ≡ LIVE → _≡_ {A = ℕ} 1 (if (test (livePage a state)) 1 0)
+    is-live h = rw (told (livePage a state) (a - 1, omega arith, h))
 
-    pub by-frame : f ≤ 1 → ¬ (state (a - 1) ≡ 3) → eqb f 1 ≡ test (chargedPage a f state)
-    unfolding test
-    by-frame le d = told ∙ alike (same f 1) (chargedPage a f state) (λ h. (a - 1, omega arith, inr (λ z. omega (arith, h, z)))) (λ h. elim (h .2) [
-      | inl x ↦ absurd (d (let e : a ≡ suc (h .0) = h .1 in let q : a - 1 ≡ h .0 = omega arith in rw q x))
-      | inr x ↦ omega (arith, x)
-    ])
-      where
-        told : eqb f 1 ≡ test (same f 1)
-        told = refl
+    pub not-live : ¬ (state (a - 1) ≡ LIVE) → _≡_ {A = ℕ} 0 (if (test (livePage a state)) 1 0)
+    not-live d = rw (untold (livePage a state) (λ h. d (let e : a ≡ suc (h .0) = h .1 in let q : a - 1 ≡ h .0 = omega arith in rw q (h .2))))
 
 -- ── each account's used pages, slot by slot ──
-module _ (pages : ℕ) (account active maps addresses inFrames states : List ℕ) where
+module _ (pages : ℕ) (account active maps addresses states : List ℕ) where
   -- the first s slots are counted
   pub record Totals (slots : ℕ) (t : List ℕ) (s : ℕ) : Type 0 where
     pub within : s ≤ slots
     pub sized : length t ≡ 16
-    pub counted : (q : ℕ) → q < 16 → at t q ≡ usedPages pages (s * pages) q account active maps addresses inFrames states
+    pub counted : (q : ℕ) → q < 16 → at t q ≡ usedPages pages (s * pages) q account active maps addresses states
 
   abbrev used : ℕ → ℕ → Bool
-  used s i = usedPage (at active s) (at maps i) (at addresses i) (bitOf inFrames i) (at states)
+  used s i = usedPage (at active s) (at maps i) (at addresses i) (at states)
 
   abbrev counts : ℕ → ℕ → Bool
   counts q i = eqb (at account (i / pages)) q && used (i / pages) i
@@ -148,7 +138,7 @@ module _ (pages : ℕ) (account active maps addresses inFrames states : List ℕ
     others : (q : ℕ) → ¬ (at account s ≡ q) → count pages (λ i. eqb (at account s) q && used s (s * pages + i)) ≡ 0
     others q e = rw (ne-eqb (at account s) q e) (count-none pages (λ i. false) (λ i h x. x))
 
-    pub totals-next : (x : ℕ) → at account s < 16 → x ≡ count pages (λ i. usedPage (at active s) (at maps (s * pages + i)) (at addresses (s * pages + i)) (bitOf inFrames (s * pages + i)) (at states))
+    pub totals-next : (x : ℕ) → at account s < 16 → x ≡ count pages (λ i. usedPage (at active s) (at maps (s * pages + i)) (at addresses (s * pages + i)) (at states))
         → Totals slots (set t (at account s) (at t (at account s) + x)) (s + 1)
     totals-next x h e = record {
       within = omega arith;
@@ -162,5 +152,5 @@ module _ (pages : ℕ) (account active maps addresses inFrames states : List ℕ
         a : ℕ
         a = at account s
 
-  pub totals-end : (slots : ℕ) (t : List ℕ) (s : ℕ) → Totals slots t s → slots ≤ s → Holds (usedTable slots pages account active maps addresses inFrames states t)
+  pub totals-end : (slots : ℕ) (t : List ℕ) (s : ℕ) → Totals slots t s → slots ≤ s → Holds (usedTable slots pages account active maps addresses states t)
   totals-end slots t s p l q h = let e : s ≡ slots = omega (arith, p .within) in rw e at (p .counted q h)

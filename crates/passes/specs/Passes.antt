@@ -10,6 +10,7 @@ use Rattle.tables.specs.Bits.{bits}
 use Rattle.tables.specs.Marks.{bitOf, mark}
 use Rattle.tables.specs.Queue.{members, times}
 use Rattle.tables.specs.Rule.{Rule, same, below, non, _and_, _or_, _then_, each, some, named, names, Holds, test}
+use Rattle.model.specs.declared.sizes.Sizes.{Sizes}
 use Rattle.model.specs.declared.frame.Frame.{Frame}
 use Rattle.model.specs.Lines.{FREE, FILED, NULLED, LIVE, RELEASED, LEAVING}
 use Rattle.model.specs.State.{NONE, READING, WRITING, frameAt}
@@ -105,11 +106,10 @@ recordRow slots held listed state owner updating = below owner slots and below s
 abbrev pub recordRows : (records slots : ℕ) (held listed : ℕ → ℕ) (states owners updating : List ℕ) → Rule
 recordRows records slots held listed states owners updating = each records λ r. recordRow slots (held r) (listed r) (at states r) (at owners r) (at updating)
 
--- ── the tables of pages are of one length, the map names records that there are, and there are marks for all pages in frames ──
-pub record HeldFit (records : ℕ) (maps addresses inFrames states owners : List ℕ) : Type 0 where
+-- ── the tables of pages are of one length, and the map names records that there are ──
+pub record HeldFit (records : ℕ) (maps addresses states owners : List ℕ) : Type 0 where
   pub addresses-long : length addresses ≡ length maps
   pub few : length maps ≤ 16384
-  pub marks-long : length maps ≤ 32 * length inFrames
   pub states-long : length states ≡ records
   pub owners-long : length owners ≡ records
   pub maps-fit : Holds (fit (length maps) records (at maps))
@@ -148,9 +148,6 @@ abbrev pub frameRow : (pages : ℕ) (active addresses states : List ℕ) (queued
 frameRow pages active addresses states queued removing x = switches x and onePlace queued removing x and (same (x .transfer) WRITING then same (x .modified) 1)
     and (non (same queued 0) then bare x) and (same queued 0 then non (same (x .page) 0)) and activePage pages (at active) (x .page) and heldPage (at addresses) (at states) (x .transfer) (x .page)
 
-abbrev pub frameRows : (count pages : ℕ) (frames : List Frame) (active addresses states queued removing : List ℕ) → Rule
-frameRows count pages frames active addresses states queued removing = each count λ f. frameRow pages active addresses states (at queued f) (at removing f) (frameAt frames f)
-
 -- ── the words of a frame ──
 abbrev pub content : (w f r state : ℕ) (words records : List ℕ) → Rule
 content w f r state words records = each w λ k. same (at words (f * w + k)) (if (eqb state LIVE) (at records (r * w + k)) 0)
@@ -158,23 +155,46 @@ content w f r state words records = each w λ k. same (at words (f * w + k)) (if
 abbrev pub cleanFrame : (w : ℕ) → Frame → (f : ℕ) (words records addresses states : List ℕ) → Rule
 cleanFrame w x f words records addresses states = named (x .page) λ i. same (x .transfer) NONE then same (x .modified) 0 then named (at addresses i) λ r. content w f r (at states r) words records
 
-abbrev pub cleanFrames : (w count : ℕ) (frames : List Frame) (words records addresses states : List ℕ) → Rule
-cleanFrames w count frames words records addresses states = each count λ f. cleanFrame w (frameAt frames f) f words records addresses states
+-- ── each frame: its own rules, and its words ──
+abbrev pub frameRows : (n w pages : ℕ) (frames : List Frame) (words records active addresses states queued removing : List ℕ) → Rule
+frameRows n w pages frames words records active addresses states queued removing = each n λ f. frameRow pages active addresses states (at queued f) (at removing f) (frameAt frames f)
+    and cleanFrame w (frameAt frames f) f words records addresses states
+
+-- what the pass over the frames needs of the tables
+pub record FramesFit (z : Sizes) (account active addresses states words records : List ℕ) : Type 0 where
+  pub few : z .frames ≤ 64
+  pub pages : 0 < z .pages
+  pub accounts-long : length account ≡ length active
+  pub accounts-fit : Holds (each (length account) λ s. below (at account s) 16)
+  pub addresses-long : length addresses ≡ length active * z .pages
+  pub addresses-fit : Holds (fit (length addresses) (length states) (at addresses))
+  pub words-long : z .frames * z .words ≤ length words
+  pub records-long : length states * z .words ≤ length records
 
 -- ── counts ──
--- what is said of a page that counts as used: its address is live, or it has one and is in a frame
-abbrev pub chargedPage : (address inFrame : ℕ) (state : ℕ → ℕ) → Rule
-chargedPage address inFrame state = names address λ r. same (state r) LIVE or non (same inFrame 0)
+abbrev pub livePage : (address : ℕ) (state : ℕ → ℕ) → Rule
+livePage address state = names address λ r. same (state r) LIVE
 
-abbrev pub usedPage : (active map address inFrame : ℕ) (state : ℕ → ℕ) → Bool
-usedPage active map address inFrame state = if (eqb active 1) (test (chargedPage address inFrame state)) (ltb 0 map)
+-- a page counts as used by its address or its map alone: that is live, or its design is inactive and lists it
+abbrev pub usedPage : (active map address : ℕ) (state : ℕ → ℕ) → Bool
+usedPage active map address state = if (eqb active 1) (test (livePage address state)) (ltb 0 map)
 
-abbrev pub usedPages : (pages n q : ℕ) (account active maps addresses inFrames states : List ℕ) → ℕ
-usedPages pages n q account active maps addresses inFrames states =
-    count n λ i. eqb (at account (i / pages)) q && usedPage (at active (i / pages)) (at maps i) (at addresses i) (bitOf inFrames i) (at states)
+abbrev pub usedPages : (pages n q : ℕ) (account active maps addresses states : List ℕ) → ℕ
+usedPages pages n q account active maps addresses states = count n λ i. eqb (at account (i / pages)) q && usedPage (at active (i / pages)) (at maps i) (at addresses i) (at states)
 
-abbrev pub usedTable : (slots pages : ℕ) (account active maps addresses inFrames states t : List ℕ) → Rule
-usedTable slots pages account active maps addresses inFrames states t = each 16 λ q. same (at t q) (usedPages pages (slots * pages) q account active maps addresses inFrames states)
+abbrev pub usedTable : (slots pages : ℕ) (account active maps addresses states t : List ℕ) → Rule
+usedTable slots pages account active maps addresses states t = each 16 λ q. same (at t q) (usedPages pages (slots * pages) q account active maps addresses states)
+
+-- .. or by its frame alone: its address is not live
+abbrev pub framedPage : (pages q page : ℕ) (account address state : ℕ → ℕ) → Rule
+framedPage pages q page account address state = names page λ i. same (account (i / pages)) q and non (livePage (address i) state)
+
+abbrev pub framedPages : (count pages q : ℕ) (page : ℕ → ℕ) (account addresses states : List ℕ) → ℕ
+framedPages n pages q page account addresses states = count n λ f. test (framedPage pages q (page f) (at account) (at addresses) (at states))
+
+-- table t with those of the first n frames counted too
+abbrev pub framedTable : (n pages : ℕ) (page : ℕ → ℕ) (account addresses states t t' : List ℕ) → Rule
+framedTable n pages page account addresses states t t' = each 16 λ q. same (at t' q) (at t q + framedPages n pages q page account addresses states)
 
 abbrev pub freeRecord : (records : ℕ) (states : List ℕ) → ℕ → Bool
 freeRecord records states r = ltb r records && eqb (at states r) FREE

@@ -4,9 +4,8 @@ ghost use Prim.Native.Nat.{_+_, _*_, _≤_, _<_};
 ghost use lib.ListN.{length};
 ghost use Rattle.tables.specs.Base.{at};
 ghost use Rattle.tables.specs.Rule.{same, each, test, Holds};
-ghost use Rattle.model.specs.State.{frameAt};
 ghost use Rattle.model.specs.Rules.{fit};
-ghost use Rattle.passes.specs.Passes.{content, cleanFrame, cleanFrames};
+ghost use Rattle.passes.specs.Passes.{content, cleanFrame};
 use model::frame::Frame;
 use model::frame::NONE;
 use model::lines::LIVE;
@@ -37,7 +36,7 @@ fn content_ok(w: usize, f: usize, r: usize, state: u8, words: &[u32], records: &
 }
 
 // An unmodified frame in service equals its live record, or is zeros if its address is nulled.
-fn clean(
+pub fn clean(
     w: usize,
     x: Frame,
     f: usize,
@@ -65,27 +64,4 @@ fn clean(
     }
     let r = a - 1;
     content_ok(w, f, r, states[r], words, records)
-}
-
-pub fn all_clean(
-    w: usize,
-    count: usize,
-    frames: [Frame; 64],
-    words: &[u32],
-    records: &[u32],
-    addresses: &[u16],
-    states: &[u8],
-) -> bool
-    requires { ⌜ (count ≤ 64) × (count * w ≤ length (now words)) × (length (now states) * w ≤ length (now records)) × Holds (fit count (length (now addresses)) (λ f. frameAt frames f .page)) × Holds (fit (length (now addresses)) (length (now states)) (at (now addresses))) ⌝ }
-    ensures { λ r. ⌜ r ≡ test (cleanFrames w count frames (now (words .entry)) (now (records .entry)) (now (addresses .entry)) (now (states .entry))) ⌝ }
-{
-    let mut f = 0;
-    while f < count {
-        let x = frames[f];
-        if clean(w, x, f, words, records, addresses, states) {} else {
-            return false;
-        }
-        f += 1;
-    }
-    true
 }

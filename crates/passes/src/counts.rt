@@ -5,13 +5,11 @@ ghost use lib.Dec.{eqb, ltb};
 ghost use lib.ListN.{length};
 ghost use Rattle.tables.specs.Base.{at, if, count};
 ghost use Rattle.tables.specs.Bits.{bits};
-ghost use Rattle.tables.specs.Marks.{bitOf};
 ghost use Rattle.tables.specs.Rule.{same, below, each, test};
 ghost use Rattle.model.specs.Lines.{FREE};
-ghost use Rattle.passes.specs.Passes.{chargedPage, freeRecord, freeWords};
+ghost use Rattle.passes.specs.Passes.{livePage, freeRecord, freeWords};
 use model::lines::FREE;
 use model::lines::LIVE;
-use parts::marks::is_marked;
 
 // The hand is below R.
 pub fn hand_fit(records: usize, hand: u32) -> bool
@@ -84,26 +82,15 @@ pub fn free_map_ok(records: usize, n: usize, map: &[u32], states: &[u8]) -> bool
     true
 }
 
-// A page is charged if its address is live, or it has an address and is in a frame.
-fn charged(i: usize, address: u16, in_frames: &[u32], states: &[u8]) -> bool
-    requires { ⌜ (address ≤ length (now states)) × (i / 32 < length (now «in_frames»)) ⌝ }
-    ensures { λ r. ⌜ r ≡ test (chargedPage address (bitOf (now («in_frames» .entry)) i) (at (now (states .entry)))) ⌝ }
+// 1 where a page of an active design counts as used by its address: that is live.
+pub fn live_one(address: u16, states: &[u8]) -> usize
+    requires { ⌜ address ≤ length (now states) ⌝ }
+    ensures { λ r. ⌜ r ≡ if (test (livePage address (at (now (states .entry))))) 1 0 ⌝ }
 {
     if address == 0 {
-        return false;
+        return 0;
     }
     if states[address as usize - 1] == LIVE {
-        return true;
-    }
-    is_marked(in_frames, i)
-}
-
-// 1 where a page of an active design counts as used: it is charged.
-pub fn charged_one(i: usize, address: u16, in_frames: &[u32], states: &[u8]) -> usize
-    requires { ⌜ (address ≤ length (now states)) × (i / 32 < length (now «in_frames»)) ⌝ }
-    ensures { λ r. ⌜ r ≡ if (test (chargedPage address (bitOf (now («in_frames» .entry)) i) (at (now (states .entry))))) 1 0 ⌝ }
-{
-    if charged(i, address, in_frames, states) {
         return 1;
     }
     0

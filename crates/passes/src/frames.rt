@@ -4,34 +4,20 @@ ghost use mathlib.Core.Bool.{true};
 ghost use Prim.Native.Nat.{_+_, _*_, _≤_, _<_};
 ghost use lib.ListN.{length};
 ghost use Rattle.tables.specs.Base.{at, if};
-ghost use Rattle.tables.specs.Rule.{same, non, _then_, each, test, Holds};
+ghost use Rattle.tables.specs.Rule.{same, below, non, _and_, _then_, each, test, Holds};
 ghost use lib.Dec.{eqb};
 ghost use Rattle.model.specs.State.{NONE, WRITING, frameAt};
 ghost use Rattle.model.specs.Rules.{fit};
-ghost use Rattle.passes.specs.Passes.{distinct, marked, switches, onePlace, bare, activePage, heldPage, frameRow, frameRows};
+ghost use Rattle.passes.specs.Passes.{distinct, switches, onePlace, bare, activePage, heldPage, frameRow, frameRows, framedPage, framedTable, FramesFit};
+use crate::clean::clean;
+use crate::counts::live_one;
 use crate::marks::mark_entry;
 use model::frame::Frame;
 use model::frame::NONE;
 use model::frame::READING;
 use model::frame::WRITING;
 use model::lines::LIVE;
-
-// A frame's page is at most S · N, and no page is in two frames; each page that is in one is marked, from marks that are
-// off.
-pub fn framed_once(count: usize, pages: usize, frames: [Frame; 64], marks: &mut [u32]) -> bool
-    requires { ⌜ (count ≤ 64) × (pages ≤ 32 * length (now marks)) × Holds (each (length (now marks)) (λ k. same (at (now marks) k) 0)) ⌝ }
-    ensures { λ x. ⌜ (x ≡ test (distinct count pages (λ f. frameAt frames f .page))) × (x ≡ true → Holds (marked pages count (λ f. frameAt frames f .page) (now (marks .exit)))) ⌝ }
-{
-    let mut f = 0;
-    while f < count {
-        let x = frames[f];
-        if mark_entry(x.page, pages, marks) {} else {
-            return false;
-        }
-        f += 1;
-    }
-    true
-}
+use model::sizes::Sizes;
 
 // A frame's switches are 0 or 1, its transfer is one of three.
 fn frame_fit(x: Frame) -> bool
@@ -131,25 +117,68 @@ fn frame_ok(
         & framed_held(x.page, x.transfer, addresses, states)
 }
 
-pub fn frames_ok(
-    count: usize,
+// The page of a frame counts as used by that where its address is not live: one more for its account.
+fn charge(
+    page: u16,
     pages: usize,
+    totals: &mut [usize],
+    accounts: &[u16],
+    addresses: &[u16],
+    states: &[u8],
+)
+    requires { ⌜ (0 < pages) × (page ≤ length (now accounts) * pages) × (page ≤ length (now addresses)) × Holds (fit (length (now addresses)) (length (now states)) (at (now addresses))) × Holds (each (length (now accounts)) (λ s. below (at (now accounts) s) 16)) × (length (now totals) ≡ 16) × Holds (each 16 (λ q. below (at (now totals) q) 65536)) ⌝ }
+    ensures { λ _. ⌜ Holds (each 16 (λ q. same (at (now (totals .exit)) q) (at (now (totals .entry)) q + if (test (framedPage pages q page (at (now (accounts .entry))) (at (now (addresses .entry))) (at (now (states .entry))))) 1 0))) ⌝ }
+{
+    if page == 0 {
+        return;
+    }
+    let i = page as usize - 1;
+    if live_one(addresses[i], states) == 0 {
+        let q = accounts[i / pages] as usize;
+        totals[q] += 1;
+    }
+}
+
+// Every frame. The pages in frames are marked, from marks that are off, so that none is in two; those that count as used by
+// their frames are counted.
+pub fn frames_ok(
+    z: Sizes,
     frames: [Frame; 64],
     queued: [u8; 64],
     removing: [u8; 64],
+    marks: &mut [u32],
+    totals: &mut [usize],
+    accounts: &[u16],
     active: &[u8],
     addresses: &[u16],
     states: &[u8],
+    words: &[u32],
+    records: &[u32],
 ) -> bool
-    requires { ⌜ (count ≤ 64) × (0 < pages) × (length (now addresses) ≡ length (now active) * pages) × Holds (fit count (length (now addresses)) (λ f. frameAt frames f .page)) × Holds (fit (length (now addresses)) (length (now states)) (at (now addresses))) ⌝ }
-    ensures { λ r. ⌜ r ≡ test (frameRows count pages frames (now (active .entry)) (now (addresses .entry)) (now (states .entry)) queued removing) ⌝ }
+    requires { ⌜ FramesFit z (now accounts) (now active) (now addresses) (now states) (now words) (now records) × (length (now addresses) ≤ 32 * length (now marks)) × Holds (each (length (now marks)) (λ k. same (at (now marks) k) 0)) × (length (now totals) ≡ 16) × Holds (each 16 (λ q. below (at (now totals) q) 32768)) ⌝ }
+    ensures { λ r. ⌜ (r ≡ test (distinct (z .frames) (length (now (addresses .entry))) (λ f. frameAt frames f .page) and frameRows (z .frames) (z .words) (z .pages) frames (now (words .entry)) (now (records .entry)) (now (active .entry)) (now (addresses .entry)) (now (states .entry)) queued removing)) × (r ≡ true → Holds (framedTable (z .frames) (z .pages) (λ f. frameAt frames f .page) (now (accounts .entry)) (now (addresses .entry)) (now (states .entry)) (now (totals .entry)) (now (totals .exit)))) ⌝ }
 {
+    let n = addresses.len();
     let mut f = 0;
-    while f < count {
+    while f < z.frames {
         let x = frames[f];
-        if frame_ok(pages, x, queued[f], removing[f], active, addresses, states) {} else {
+        if mark_entry(x.page, n, marks) {} else {
             return false;
         }
+        if frame_ok(
+            z.pages,
+            x,
+            queued[f],
+            removing[f],
+            active,
+            addresses,
+            states,
+        )
+            & clean(z.words, x, f, words, records, addresses, states)
+        {} else {
+            return false;
+        }
+        charge(x.page, z.pages, totals, accounts, addresses, states);
         f += 1;
     }
     true

@@ -6,12 +6,11 @@ ghost use Prim.Native.Nat.{_+_, _*_, _≤_, _<_};
 ghost use lib.Dec.{ltb};
 ghost use lib.ListN.{length};
 ghost use Rattle.tables.specs.Base.{at, count};
-ghost use Rattle.tables.specs.Marks.{bitOf};
 ghost use Rattle.tables.specs.Rule.{same, below, _and_, each, test, Holds};
 ghost use Rattle.model.specs.Rules.{fit};
-ghost use Rattle.passes.specs.Passes.{Prefix, distinct, marked, heldRow, imagedRow, allEntries, HeldFit, ImagedFit, chargedPage, usedPage, usedTable};
-use crate::counts::charged_one;
+ghost use Rattle.passes.specs.Passes.{Prefix, distinct, marked, heldRow, imagedRow, allEntries, HeldFit, ImagedFit, livePage, usedPage, usedTable};
 use crate::counts::listed_one;
+use crate::counts::live_one;
 use crate::marks::mark_entry;
 use crate::pages::address_active;
 use crate::pages::filed;
@@ -33,14 +32,13 @@ fn active_row(
     active: u8,
     records: usize,
     marks: &mut [u32],
-    in_frames: &[u32],
     maps: &[u16],
     addresses: &[u16],
     states: &[u8],
     owners: &[u8],
 ) -> Row
-    requires { ⌜ (active ≡ 1) × (s * pages + pages ≤ length (now maps)) × HeldFit records (now maps) (now addresses) (now «in_frames») (now states) (now owners) × Prefix records (length (now maps)) (at (now addresses)) (length (now marks)) (now marks) (s * pages) ⌝ }
-    ensures { λ r. ⌜ (r .ok ≡ test (heldRow pages s active (now (maps .entry)) (now (addresses .entry)) (now (states .entry)) (now (owners .entry)) and distinct (s * pages + pages) records (at (now (addresses .entry))))) × (r .ok ≡ true → Prefix records (length (now (maps .entry))) (at (now (addresses .entry))) (length (now (marks .entry))) (now (marks .exit)) (s * pages + pages) × (r .used ≡ count pages (λ p. test (chargedPage (at (now (addresses .entry)) (s * pages + p)) (bitOf (now («in_frames» .entry)) (s * pages + p)) (at (now (states .entry))))))) ⌝ }
+    requires { ⌜ (active ≡ 1) × (s * pages + pages ≤ length (now maps)) × HeldFit records (now maps) (now addresses) (now states) (now owners) × Prefix records (length (now maps)) (at (now addresses)) (length (now marks)) (now marks) (s * pages) ⌝ }
+    ensures { λ r. ⌜ (r .ok ≡ test (heldRow pages s active (now (maps .entry)) (now (addresses .entry)) (now (states .entry)) (now (owners .entry)) and distinct (s * pages + pages) records (at (now (addresses .entry))))) × (r .ok ≡ true → Prefix records (length (now (maps .entry))) (at (now (addresses .entry))) (length (now (marks .entry))) (now (marks .exit)) (s * pages + pages) × (r .used ≡ count pages (λ p. test (livePage (at (now (addresses .entry)) (s * pages + p)) (at (now (states .entry))))))) ⌝ }
 {
     let base = s * pages;
     let mut used = 0;
@@ -54,7 +52,7 @@ fn active_row(
         if held(s, a, states, owners) & mapped(s, active, maps[i], a, states, owners) {} else {
             return Row { ok: false, used: 0 };
         }
-        used += charged_one(i, a, in_frames, states);
+        used += live_one(a, states);
         p += 1;
     }
     Row { ok: true, used }
@@ -96,14 +94,13 @@ fn row_ok(
     active: u8,
     records: usize,
     marks: &mut [u32],
-    in_frames: &[u32],
     maps: &[u16],
     addresses: &[u16],
     states: &[u8],
     owners: &[u8],
 ) -> Row
-    requires { ⌜ (s * pages + pages ≤ length (now maps)) × HeldFit records (now maps) (now addresses) (now «in_frames») (now states) (now owners) × Prefix records (length (now maps)) (at (now addresses)) (length (now marks)) (now marks) (s * pages) ⌝ }
-    ensures { λ r. ⌜ (r .ok ≡ test (heldRow pages s active (now (maps .entry)) (now (addresses .entry)) (now (states .entry)) (now (owners .entry)) and distinct (s * pages + pages) records (at (now (addresses .entry))))) × (r .ok ≡ true → Prefix records (length (now (maps .entry))) (at (now (addresses .entry))) (length (now (marks .entry))) (now (marks .exit)) (s * pages + pages) × (r .used ≡ count pages (λ p. usedPage active (at (now (maps .entry)) (s * pages + p)) (at (now (addresses .entry)) (s * pages + p)) (bitOf (now («in_frames» .entry)) (s * pages + p)) (at (now (states .entry)))))) ⌝ }
+    requires { ⌜ (s * pages + pages ≤ length (now maps)) × HeldFit records (now maps) (now addresses) (now states) (now owners) × Prefix records (length (now maps)) (at (now addresses)) (length (now marks)) (now marks) (s * pages) ⌝ }
+    ensures { λ r. ⌜ (r .ok ≡ test (heldRow pages s active (now (maps .entry)) (now (addresses .entry)) (now (states .entry)) (now (owners .entry)) and distinct (s * pages + pages) records (at (now (addresses .entry))))) × (r .ok ≡ true → Prefix records (length (now (maps .entry))) (at (now (addresses .entry))) (length (now (marks .entry))) (now (marks .exit)) (s * pages + pages) × (r .used ≡ count pages (λ p. usedPage active (at (now (maps .entry)) (s * pages + p)) (at (now (addresses .entry)) (s * pages + p)) (at (now (states .entry)))))) ⌝ }
 {
     if active == 1 {
         return active_row(
@@ -112,7 +109,6 @@ fn row_ok(
             active,
             records,
             marks,
-            in_frames,
             maps,
             addresses,
             states,
@@ -192,7 +188,6 @@ pub fn pages_ok(
     marks: &mut [u32],
     image_marks: &mut [u32],
     totals: &mut [usize],
-    in_frames: &[u32],
     accounts: &[u16],
     active: &[u8],
     updating: &[u8],
@@ -202,8 +197,8 @@ pub fn pages_ok(
     states: &[u8],
     owners: &[u8],
 ) -> bool
-    requires { ⌜ (0 < pages) × (slots ≤ length (now accounts)) × (slots ≤ length (now active)) × (slots ≤ length (now updating)) × (length (now maps) ≡ slots * pages) × HeldFit records (now maps) (now addresses) (now «in_frames») (now states) (now owners) × ImagedFit records (now addresses) (now images) (now states) (now owners) × Holds (each slots (λ s. below (at (now accounts) s) 16)) × (length (now totals) ≡ 16) × Holds (each 16 (λ q. same (at (now totals) q) 0)) × (records ≤ 32 * length (now marks)) × Holds (each (length (now marks)) (λ k. same (at (now marks) k) 0)) × (records ≤ 32 * length (now «image_marks»)) × Holds (each (length (now «image_marks»)) (λ k. same (at (now «image_marks») k) 0)) ⌝ }
-    ensures { λ r. ⌜ (r ≡ test (allEntries slots pages (now (active .entry)) (now (updating .entry)) (now (maps .entry)) (now (addresses .entry)) (now (images .entry)) (now (states .entry)) (now (owners .entry)) and distinct (slots * pages) records (at (now (addresses .entry))) and distinct (slots * pages) records (at (now (images .entry))))) × (r ≡ true → Holds (marked records (slots * pages) (at (now (addresses .entry))) (now (marks .exit))) × Holds (usedTable slots pages (now (accounts .entry)) (now (active .entry)) (now (maps .entry)) (now (addresses .entry)) (now («in_frames» .entry)) (now (states .entry)) (now (totals .exit)))) ⌝ }
+    requires { ⌜ (0 < pages) × (slots ≤ length (now accounts)) × (slots ≤ length (now active)) × (slots ≤ length (now updating)) × (length (now maps) ≡ slots * pages) × HeldFit records (now maps) (now addresses) (now states) (now owners) × ImagedFit records (now addresses) (now images) (now states) (now owners) × Holds (each slots (λ s. below (at (now accounts) s) 16)) × (length (now totals) ≡ 16) × Holds (each 16 (λ q. same (at (now totals) q) 0)) × (records ≤ 32 * length (now marks)) × Holds (each (length (now marks)) (λ k. same (at (now marks) k) 0)) × (records ≤ 32 * length (now «image_marks»)) × Holds (each (length (now «image_marks»)) (λ k. same (at (now «image_marks») k) 0)) ⌝ }
+    ensures { λ r. ⌜ (r ≡ test (allEntries slots pages (now (active .entry)) (now (updating .entry)) (now (maps .entry)) (now (addresses .entry)) (now (images .entry)) (now (states .entry)) (now (owners .entry)) and distinct (slots * pages) records (at (now (addresses .entry))) and distinct (slots * pages) records (at (now (images .entry))))) × (r ≡ true → Holds (marked records (slots * pages) (at (now (addresses .entry))) (now (marks .exit))) × Holds (usedTable slots pages (now (accounts .entry)) (now (active .entry)) (now (maps .entry)) (now (addresses .entry)) (now (states .entry)) (now (totals .exit)))) ⌝ }
 {
     let mut s = 0;
     while s < slots {
@@ -213,7 +208,6 @@ pub fn pages_ok(
             active[s],
             records,
             marks,
-            in_frames,
             maps,
             addresses,
             states,

@@ -12,9 +12,9 @@ use Rattle.checks.proofs.parts.files.Tie as tie
 
 pages-ok-requires : tie.Need-pages-ok-requires
 pages-ok-requires c κs =
-    let pre = c .before .before .before .before .before .before .before .before .before .before .before .before .before .before .before .pre in
-    let args = c .before .before .before .before .before .before .before .before .before .before .before .before .before .before .before .args in
-    (pre .0 .within .pages, omega (arith, pre .0 .accounts-long), omega (arith, pre .0 .active-long), omega (arith, pre .0 .updating-long), pre .0 .maps-long, held-fit (args .z) (args .numbers .now) (args .accounts .now) (args .maps .now) (args .addresses .now) (args .states .now) (args .owners .now) (args .active .now) (args .updating .now) (args .images .now) (pre .0) (args .in-frames .now) (pre .1) (pre .4), imaged-fit (args .z) (args .numbers .now) (args .accounts .now) (args .maps .now) (args .addresses .now) (args .states .now) (args .owners .now) (args .active .now) (args .updating .now) (args .images .now) (pre .0), λ s h. omega (arith, pre .5 s h, pre .0 .within .accounts-most), pre .6, pre .7, omega (arith, length-replicate {A = ℕ} 128 0, pre .0 .within .records-most), λ k h. zeros 128 k, omega (arith, length-replicate {A = ℕ} 128 0, pre .0 .within .records-most), λ k h. zeros 128 k)
+    let pre = c .before .before .before .before .before .before .before .before .before .before .before .before .before .before .pre in
+    let args = c .before .before .before .before .before .before .before .before .before .before .before .before .before .before .args in
+    (pre .0 .within .pages, omega (arith, pre .0 .accounts-long), omega (arith, pre .0 .active-long), omega (arith, pre .0 .updating-long), pre .0 .maps-long, held-fit (args .z) (args .numbers .now) (args .accounts .now) (args .maps .now) (args .addresses .now) (args .states .now) (args .owners .now) (args .active .now) (args .updating .now) (args .images .now) (pre .0) (pre .1), imaged-fit (args .z) (args .numbers .now) (args .accounts .now) (args .maps .now) (args .addresses .now) (args .states .now) (args .owners .now) (args .active .now) (args .updating .now) (args .images .now) (pre .0), λ s h. omega (arith, pre .4 s h, pre .0 .within .accounts-most), pre .5, pre .6, omega (arith, length-replicate {A = ℕ} 128 0, pre .0 .within .records-most), λ k h. zeros 128 k, omega (arith, length-replicate {A = ℕ} 128 0, pre .0 .within .records-most), λ k h. zeros 128 k)
 
 returns : tie.Need-returns
 returns c =
@@ -24,7 +24,7 @@ returns c =
 
 records-ok-requires : tie.Need-records-ok-requires
 records-ok-requires c κs =
-    let pre = c .before .before .before .before .before .before .before .before .before .before .before .before .before .before .before .before .before .before .before .before .before .before .before .pre in
+    let pre = c .before .before .before .before .before .before .before .before .before .before .before .before .before .before .before .before .before .before .before .before .before .before .pre in
     (omega (arith, pre .0 .within .records-most), pre .2, omega (arith, pre .0 .states-long), omega (arith, pre .0 .owners-long), omega (arith, pre .0 .updating-long))
 
 returns-2 : tie.Need-returns-2
@@ -33,8 +33,8 @@ returns-2 c =
     let pages-ok = c .before .before .before .before .before .before .before .before .pages-ok in
     let memory-slots-ok = c .before .before .memory-slots-ok in
     let records-ok = c .records-ok in
-    let args = c .before .before .before .before .before .before .before .before .before .before .before .before .before .before .before .before .before .before .before .before .before .before .before .before .args in
-    let pre = c .before .before .before .before .before .before .before .before .before .before .before .before .before .before .before .before .before .before .before .before .before .before .before .before .pre in
+    let args = c .before .before .before .before .before .before .before .before .before .before .before .before .before .before .before .before .before .before .before .before .before .before .before .args in
+    let pre = c .before .before .before .before .before .before .before .before .before .before .before .before .before .before .before .before .before .before .before .before .before .before .before .pre in
     (second-told _ _ _ (learn _ (sym (if1 .taken) ∙ pages-ok .ensures .0)) (both _ _ _ _ (memory-slots-ok .ensures) (records-ok .ensures ∙ rows-held (args .z .records) (args .z .slots) (pages-ok .last .1 .1 .1 .0) (args .listed .now) (args .maps .now) (args .addresses .now) (args .states .now) (args .owners .now) (args .updating .now) (rw (← pre .0 .maps-long) at (pages-ok .ensures .1 (if1 .taken) .0)) (pre .3))), λ e. pages-ok .ensures .1 (if1 .taken) .1)
 
 pub files-spec : {M : Type 1} → statement M
