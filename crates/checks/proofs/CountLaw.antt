@@ -1,6 +1,6 @@
 -- The passes that count are the rules of the hand, the free map and the counts. A page counts as used by its address or map, or by its frame, and by one of these alone.
 use mathlib.Core.Path.{_≡_, refl, ap, sym, _∙_}
-use mathlib.Core.Bool.{Bool, true, false, _&&_}
+use mathlib.Core.Bool.{Bool, _&&_}
 use mathlib.Core.Logic.{inl, inr}
 use mathlib.Core.List.{List}
 use Prim.Native.Nat.{ℕ, zero, suc, _+_, _-_, _*_, _<_, _≤_}
@@ -13,7 +13,7 @@ use Rattle.tables.specs.Base.{at, if, count}
 use Rattle.tables.specs.Laws.{count-same, count-more}
 use Rattle.tables.specs.Rule.{Rule, same, _or_, some, Holds, test, told, untold, decided, alike}
 use Rattle.model.specs.declared.sizes.Sizes.{Sizes}
-use Rattle.model.specs.State.{State, Files, files, frames, allPages, slotOf, live, framed, charged, payer, usedOf, freeCount, freeWord}
+use Rattle.model.specs.State.{State, Files, files, frames, allPages, slotOf, live, charged, payer, usedOf, freeCount, freeWord}
 use Rattle.model.specs.Ruled.{OfFrames, OfCounts}
 use Rattle.passes.specs.Passes.{usedPages, usedTable, framedPage, framedPages, framedTable}
 use Rattle.checks.specs.Parts.{countPasses}

@@ -1,5 +1,5 @@
 -- The passes over frames and queues are the memory rules of frames and queues.
-use mathlib.Core.Path.{_≡_, ap, sym, _∙_, subst}
+use mathlib.Core.Path.{_≡_, ap, _∙_, subst}
 use mathlib.Core.List.{List}
 use Prim.Native.Nat.{ℕ, _*_, _<_}
 use Rattle.tables.specs.Base.{at}

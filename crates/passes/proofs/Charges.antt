@@ -2,7 +2,7 @@
 use mathlib.Core.Path.{_≡_, refl, sym, _∙_}
 use mathlib.Core.Bool.{Bool}
 use mathlib.Core.List.{List}
-use Prim.Native.Nat.{ℕ, suc, _+_, _-_, _*_, _/_, _<_, _≤_}
+use Prim.Native.Nat.{ℕ, _+_, _-_, _*_, _/_, _<_, _≤_}
 use native.Mathlib.Nat.{div-lt-iff-lt-mul}
 use native.Mathlib.Omega.{arith}
 use native.Mathlib.Decide.{ℕ-discrete}
@@ -17,10 +17,6 @@ use Rattle.passes.proofs.Tally.{count-start, count-next}
 module _ (pages page : ℕ) (account address state : ℕ → ℕ) (t : List ℕ) where
   abbrev charges : ℕ → Rule
   charges q = framedPage pages q page account address state
-
-  -- every account's count is t's, and one more where the page is charged to it
-  abbrev Charged : List ℕ → Type 0
-  Charged t' = Holds (each 16 λ q. same (at t' q) (at t q + if (test (charges q)) 1 0))
 
   same-as : (q : ℕ) → ¬ (Holds (charges q)) → at t q ≡ at t q + if (test (charges q)) 1 0
   same-as q d = rw (untold (charges q) d) (omega arith)

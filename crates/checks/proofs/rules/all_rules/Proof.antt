@@ -1,7 +1,7 @@
 -- Subject by subject; the counts decide at the end.
 use borrow.Author.Needs.{needs}
 use mathlib.Core.Path.{_≡_, sym, _∙_}
-use Prim.Native.Nat.{ℕ, _*_, _<_}
+use Prim.Native.Nat.{ℕ, _<_}
 use native.Mathlib.Omega.{arith}
 use lib.ListN.{take, length-replicate}
 use Rattle.tables.specs.Turn.{learn}

@@ -1,5 +1,4 @@
 -- The invariant: each frame before f keeps its rules and is clean, their pages are marked, each once, and those that count as used by their frames are counted.
-use borrow.Author.Needs.{needs}
 use mathlib.Core.Path.{refl, sym, _∙_}
 use Prim.Native.Nat.{_-_, _<_, _≤_}
 use native.Mathlib.Omega.{arith}
