@@ -138,11 +138,15 @@ onePlace queued removing x = same (queued + removing + x .wired + if (eqb (x .tr
 abbrev pub bare : Frame → Rule
 bare x = same (x .page) 0 and same (x .used) 0 and same (x .modified) 0 and same (x .wired) 0 and same (x .initial) 0
 
+-- the page with this address has a live one
+abbrev pub livePage : (address : ℕ) (state : ℕ → ℕ) → Rule
+livePage address state = names address λ r. same (state r) LIVE
+
 abbrev pub activePage : (pages : ℕ) (active : ℕ → ℕ) (page : ℕ) → Rule
 activePage pages active page = named page λ i. same (active (i / pages)) 1
 
 abbrev pub heldPage : (address state : ℕ → ℕ) (transfer page : ℕ) → Rule
-heldPage address state transfer page = named page λ i. non (same (address i) 0) and (same transfer READING then names (address i) λ r. same (state r) LIVE)
+heldPage address state transfer page = named page λ i. non (same (address i) 0) and (same transfer READING then livePage (address i) state)
 
 abbrev pub frameRow : (pages : ℕ) (active addresses states : List ℕ) (queued removing : ℕ) → Frame → Rule
 frameRow pages active addresses states queued removing x = switches x and onePlace queued removing x and (same (x .transfer) WRITING then same (x .modified) 1)
@@ -172,9 +176,6 @@ pub record FramesFit (z : Sizes) (account active addresses states words records 
   pub records-long : length states * z .words ≤ length records
 
 -- ── counts ──
-abbrev pub livePage : (address : ℕ) (state : ℕ → ℕ) → Rule
-livePage address state = names address λ r. same (state r) LIVE
-
 -- a page counts as used by its address or its map alone: that is live, or its design is inactive and lists it
 abbrev pub usedPage : (active map address : ℕ) (state : ℕ → ℕ) → Bool
 usedPage active map address state = if (eqb active 1) (test (livePage address state)) (ltb 0 map)
