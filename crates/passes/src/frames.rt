@@ -8,7 +8,7 @@ ghost use Rattle.tables.specs.Rule.{same, below, non, _and_, _then_, each, test
 ghost use lib.Dec.{eqb};
 ghost use Rattle.model.specs.State.{NONE, WRITING, frameAt};
 ghost use Rattle.model.specs.Rules.{fit};
-ghost use Rattle.passes.specs.Passes.{distinct, switches, onePlace, bare, activePage, heldPage, frameRow, frameRows, framedPage, framedTable, FramesFit};
+ghost use Rattle.passes.specs.Passes.{distinct, marked, switches, onePlace, bare, activePage, heldPage, frameRow, frameRows, framedPage, framedTable, FramesFit};
 use crate::clean::clean;
 use crate::counts::live_one;
 use crate::marks::mark_entry;
@@ -156,7 +156,7 @@ pub fn frames_ok(
     records: &[u32],
 ) -> bool
     requires { ⌜ FramesFit z (now accounts) (now active) (now addresses) (now states) (now words) (now records) × (length (now addresses) ≤ 32 * length (now marks)) × Holds (each (length (now marks)) (λ k. same (at (now marks) k) 0)) × (length (now totals) ≡ 16) × Holds (each 16 (λ q. below (at (now totals) q) 32768)) ⌝ }
-    ensures { λ r. ⌜ (r ≡ test (distinct (z .frames) (length (now (addresses .entry))) (λ f. frameAt frames f .page) and frameRows (z .frames) (z .words) (z .pages) frames (now (words .entry)) (now (records .entry)) (now (active .entry)) (now (addresses .entry)) (now (states .entry)) queued removing)) × (r ≡ true → Holds (framedTable (z .frames) (z .pages) (λ f. frameAt frames f .page) (now (accounts .entry)) (now (addresses .entry)) (now (states .entry)) (now (totals .entry)) (now (totals .exit)))) ⌝ }
+    ensures { λ r. ⌜ (r ≡ test (distinct (z .frames) (length (now (addresses .entry))) (λ f. frameAt frames f .page) and frameRows (z .frames) (z .words) (z .pages) frames (now (words .entry)) (now (records .entry)) (now (active .entry)) (now (addresses .entry)) (now (states .entry)) queued removing)) × (r ≡ true → Holds (marked (length (now (addresses .entry))) (z .frames) (λ f. frameAt frames f .page) (now (marks .exit))) × Holds (framedTable (z .frames) (z .pages) (λ f. frameAt frames f .page) (now (accounts .entry)) (now (addresses .entry)) (now (states .entry)) (now (totals .entry)) (now (totals .exit)))) ⌝ }
 {
     let n = addresses.len();
     let mut f = 0;

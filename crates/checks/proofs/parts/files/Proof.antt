@@ -35,7 +35,7 @@ returns-2 c =
     let records-ok = c .records-ok in
     let args = c .before .before .before .before .before .before .before .before .before .before .before .before .before .before .before .before .before .before .before .before .before .before .before .args in
     let pre = c .before .before .before .before .before .before .before .before .before .before .before .before .before .before .before .before .before .before .before .before .before .before .before .pre in
-    (second-told _ _ _ (learn _ (sym (if1 .taken) ∙ pages-ok .ensures .0)) (both _ _ _ _ (memory-slots-ok .ensures) (records-ok .ensures ∙ rows-held (args .z .records) (args .z .slots) (pages-ok .last .1 .1 .1 .0) (args .listed .now) (args .maps .now) (args .addresses .now) (args .states .now) (args .owners .now) (args .updating .now) (rw (← pre .0 .maps-long) at (pages-ok .ensures .1 (if1 .taken) .0)) (pre .3))), λ e. pages-ok .ensures .1 (if1 .taken) .1)
+    (second-told _ _ _ (learn _ (sym (if1 .taken) ∙ pages-ok .ensures .0)) (both _ _ _ _ (memory-slots-ok .ensures) (records-ok .ensures ∙ rows-held (args .z .records) (args .z .slots) (pages-ok .last .1 .1 .1 .0) (args .listed .now) (args .maps .now) (args .addresses .now) (args .states .now) (args .owners .now) (args .updating .now) (rw (← pre .0 .maps-long) at (pages-ok .ensures .1 (if1 .taken) .0)) (pre .3))), λ e. pages-ok .ensures .1 (if1 .taken) .2)
 
 pub files-spec : {M : Type 1} → statement M
 files-spec = tie.close (tie.spec (λ c. search needs) (λ c. search needs) pages-ok-requires (λ c. search needs) returns (λ c κs. search needs) (λ c. search needs) records-ok-requires (λ c. search needs) returns-2)

@@ -57,7 +57,7 @@ returns-2 c =
     let t = c .before .before .before .before .before .before .before .before in
     let s = begun t in
     let a = s .args in
-    (frames-ok .ensures .0 ∙ frames-decide (a .z) (a .accounts .now) (a .records .now) (a .words .now) (a .free-queue .now) (a .removal-list .now) (a .addresses .now) (a .states .now) (a .active .now) (s .pre .0) (a .frames) (c .before .before .before .before .before .before .before .places .result) (c .before .before .before .before .before .before .places2 .result) (c .before .before .before .before .before .before .before .places .ensures) (c .before .before .before .before .before .before .places2 .ensures) (free-queued t) (list-queued t), frames-ok .ensures .1)
+    (frames-ok .ensures .0 ∙ frames-decide (a .z) (a .accounts .now) (a .records .now) (a .words .now) (a .free-queue .now) (a .removal-list .now) (a .addresses .now) (a .states .now) (a .active .now) (s .pre .0) (a .frames) (c .before .before .before .before .before .before .before .places .result) (c .before .before .before .before .before .before .places2 .result) (c .before .before .before .before .before .before .before .places .ensures) (c .before .before .before .before .before .before .places2 .ensures) (free-queued t) (list-queued t), λ e. frames-ok .ensures .1 e .1)
 
 pub frames-spec : {M : Type 1} → statement M
 frames-spec = tie.close (tie.spec (λ c κs. search needs) (λ c κs. search needs) returns places-requires places-requires-2 (λ c. search needs) frames-ok-requires (λ c. search needs) returns-2)

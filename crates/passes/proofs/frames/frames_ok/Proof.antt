@@ -95,7 +95,7 @@ returns-3 : tie.Need-returns-3 Inv-loop μ-loop
 returns-3 c =
     let loop = c .before .before .loop in
     let w = ended _ _ _ _ _ _ (loop .inv .1) (c .if1 .left) in
-    (yes-so _ (w .0, learn _ (done _ _ _ (loop .inv .0) (c .if1 .left))), λ e. tallied-all _ _ _ _ _ _ _ _ (loop .inv .2) _ (loop .inv .1 .room) (c .if1 .left))
+    (yes-so _ (w .0, learn _ (done _ _ _ (loop .inv .0) (c .if1 .left))), λ e. (w .1, tallied-all _ _ _ _ _ _ _ _ (loop .inv .2) _ (loop .inv .1 .room) (c .if1 .left)))
 
 -- no table changes its length
 same-length : tie.Need-same-length Inv-loop μ-loop

@@ -187,7 +187,7 @@ returns-3 c =
     let args = c .before .before .before .before .before .before .before .before .before .before .before .before .before .args in
     let loop = c .before .loop in
     let loop-test = c .loop-test in
-    (rows-done (args .slots) (args .pages) (args .records) (args .active .now) (args .updating .now) (args .maps .now) (args .addresses .now) (args .images .now) (args .states .now) (args .owners .now) (loop .s) (loop .inv .0) (loop .inv .1) (loop .inv .2) (loop-test .left) (loop .inv .3 .within), λ e. (let q : loop .s ≡ args .slots = omega (arith, loop-test .left, loop .inv .3 .within) in ended (args .records) (args .slots * args .pages) (at (args .addresses .now)) (length (args .marks .now)) (loop .marks) (args .slots * args .pages) (among (args .records) (length (args .maps .now)) (at (args .addresses .now)) (length (args .marks .now)) (loop .marks) (args .slots * args .pages) (rw q at (loop .inv .1)) (args .slots * args .pages) (omega arith)) (omega arith) .1, totals-end (args .pages) (args .accounts .now) (args .active .now) (args .maps .now) (args .addresses .now) (args .states .now) _ _ _ (loop .inv .3) (loop-test .left)))
+    (rows-done (args .slots) (args .pages) (args .records) (args .active .now) (args .updating .now) (args .maps .now) (args .addresses .now) (args .images .now) (args .states .now) (args .owners .now) (loop .s) (loop .inv .0) (loop .inv .1) (loop .inv .2) (loop-test .left) (loop .inv .3 .within), λ e. (let q : loop .s ≡ args .slots = omega (arith, loop-test .left, loop .inv .3 .within) in ended (args .records) (args .slots * args .pages) (at (args .addresses .now)) (length (args .marks .now)) (loop .marks) (args .slots * args .pages) (among (args .records) (length (args .maps .now)) (at (args .addresses .now)) (length (args .marks .now)) (loop .marks) (args .slots * args .pages) (rw q at (loop .inv .1)) (args .slots * args .pages) (omega arith)) (omega arith) .1, let q : loop .s ≡ args .slots = omega (arith, loop-test .left, loop .inv .3 .within) in ended (args .records) (args .slots * args .pages) (at (args .images .now)) (length (args .image-marks .now)) (loop .image-marks) (args .slots * args .pages) (among (args .records) (length (args .addresses .now)) (at (args .images .now)) (length (args .image-marks .now)) (loop .image-marks) (args .slots * args .pages) (rw q at (loop .inv .2)) (args .slots * args .pages) (omega arith)) (omega arith) .1, totals-end (args .pages) (args .accounts .now) (args .active .now) (args .maps .now) (args .addresses .now) (args .states .now) _ _ _ (loop .inv .3) (loop-test .left)))
 
 pub pages-ok-spec : {M : Type 1} → statement M
 pages-ok-spec = tie.close (tie.spec Inv-loop μ-loop loop-holds (λ c. search needs) row-ok-requires same-length same-length-2 same-length-3 returns (λ c. search needs) image-ok-requires same-length-4 same-length-5 same-length-6 returns-2 mul-q (λ c. search needs) cast-q mul-totals slice-read-totals add-totals slice-write-totals add-s loop-less loop-again same-length-7 same-length-8 same-length-9 returns-3)
