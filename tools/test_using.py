@@ -76,7 +76,7 @@ class Requests(unittest.TestCase):
         self.assertEqual([row[1] for row in table], values)
 
     def test_refusals(self):
-        asked = dict(re.findall(r"^  (?:design|page|store)Questions \(?([A-Za-z]+).*? = (.*)$", QUESTIONS, re.M))
+        asked = dict(re.findall(r"^  (?:design|page|writeback)Questions \(?([A-Za-z]+).*? = (.*)$", QUESTIONS, re.M))
         served = re.search(r"^  served range s p = (.*)$", QUESTIONS, re.M).group(1)
         for name, _, _, refusals in rows("kind")[1:]:
             event = name.strip("`").replace("KEEPER_", "").title().replace("_", "")

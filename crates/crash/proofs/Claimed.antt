@@ -17,14 +17,14 @@ use Rattle.tables.specs.QueueLaws.{members-within}
 use Rattle.tables.specs.Store.{Split}
 use Rattle.model.specs.declared.frame.Frame.{Frame}
 use Rattle.model.specs.declared.sizes.Sizes.{Sizes}
-use Rattle.model.specs.declared.event.Store.the-variants.{Claim}
+use Rattle.model.specs.declared.event.Writeback.the-variants.{Claim}
 use Rattle.model.specs.declared.event.Event.the-variants as Event
 use Rattle.model.specs.Lines.{NULLED, LIVE}
 use Rattle.model.specs.State.{State, noFrame, frameAt, NONE, WRITING, allPages}
 use Rattle.model.specs.Setters.{onCore, onHeld, setFrames, setRemovalList, setStates, setTransfer, counted}
 use Rattle.model.specs.Pages.{onFrame}
-use Rattle.model.specs.Stores as Stores
-use Rattle.model.specs.Stores.{looking, zeros, recordIn, beginsWrite, freeFrame}
+use Rattle.model.specs.Writeback as Writeback
+use Rattle.model.specs.Writeback.{looking, zeros, recordIn, beginsWrite, freeFrame}
 use Rattle.model.specs.Step.{carried}
 use Rattle.model.specs.Ledger.{Ledger, note, put, claimed, opened, voided, setLive}
 use Rattle.model.specs.Acts.{fed}
@@ -37,7 +37,7 @@ use Rattle.crash.proofs.Link.{Away, Lives, Holding, Tied}
 use Rattle.crash.proofs.Steps.{Before, tied-at}
 use Rattle.crash.proofs.OneFrame.{Alike, alike-trans, one-frame, other-frame, away-but, Elsewhere, Out}
 
-module _ (z : Sizes) (st : State) (l : Ledger) (b : Before z st l (Event.Store Claim)) where
+module _ (z : Sizes) (st : State) (l : Ledger) (b : Before z st l (Event.Writeback Claim)) where
   abbrev f : ℕ
   f = looking z st .taken
 
@@ -225,10 +225,10 @@ module _ (z : Sizes) (st : State) (l : Ledger) (b : Before z st l (Event.Store C
   unfolding beginsWrite
   begins m em zs ez = rw (em, ez)
 
-  pub claim : Tied z (carried z st (Event.Store Claim)) (note z l (fed z st (Event.Store Claim)))
-  unfolding carried fed Stores.claim
+  pub claim : Tied z (carried z st (Event.Writeback Claim)) (note z l (fed z st (Event.Writeback Claim)))
+  unfolding carried fed Writeback.claim
   claim = elim (ℕ-discrete (old .modified) 1) [ yes e ↦ go (zeros z st f) refl e | no e ↦ let q = ne-eqb (old .modified) 1 e in tied-at (rw (begins false q (zeros z st f) refl, q)) (rw (begins false q (zeros z st f) refl)) (unmodified e) ]
     where
-      go : (zs : Bool) → zeros z st f ≡ zs → old .modified ≡ 1 → Tied z (carried z st (Event.Store Claim)) (note z l (fed z st (Event.Store Claim)))
+      go : (zs : Bool) → zeros z st f ≡ zs → old .modified ≡ 1 → Tied z (carried z st (Event.Writeback Claim)) (note z l (fed z st (Event.Writeback Claim)))
       go true ez e = let q = eq-eqb (old .modified) 1 e in tied-at (rw (begins true q true ez, q)) (rw (begins true q true ez)) (nulled e (rw ez tt))
       go false ez e = let q = eq-eqb (old .modified) 1 e in tied-at (rw (begins true q false ez)) (rw (begins true q false ez)) (begun e)

@@ -17,7 +17,7 @@ use Rattle.tables.specs.Store.{store, choose, at-choose, length-choose, choose-
 use mathlib.Core.List.{List}
 use Rattle.model.specs.declared.sizes.Sizes.{Sizes}
 use Rattle.model.specs.declared.frame.Frame.{Frame}
-use Rattle.model.specs.declared.event.Store.the-variants.{PageDone, MapDone}
+use Rattle.model.specs.declared.event.Writeback.the-variants.{PageDone, MapDone}
 use Rattle.model.specs.declared.event.Event.{Event}
 use Rattle.model.specs.declared.event.Event.the-variants as Event
 use Rattle.model.specs.Lines.{LEAVING}
@@ -26,7 +26,7 @@ use Rattle.model.specs.Ruled.{Ruled}
 use Rattle.model.specs.Setters.{counted}
 use Rattle.model.specs.Parts.{ofSlot}
 use Rattle.model.specs.Questions.{questions}
-use Rattle.model.specs.Stores as Stores
+use Rattle.model.specs.Writeback as Writeback
 use Rattle.model.specs.Step.{carried}
 use Rattle.model.specs.Fit.{Fit}
 use Rattle.model.specs.Ledger.{Ledger, note, finishWrite, finishUpdate, finishWrites, finishUpdates}
@@ -43,8 +43,8 @@ store-same xs t g h e = choose-ext (choose (length xs) t g (at xs)) (length xs) 
     (λ i l. elim (at-choose (length xs) t g (at xs) i l) [ inl x ↦ inl (x .0, x .1 ∙ e i l (x .0)) | inr x ↦ inr x ])
 
 -- a good done of a write under way
-write-good : (z : Sizes) (st : State) (f : ℕ) → frames st .frame f .transfer ≡ WRITING → carried z st (Event.Store (PageDone f 1)) ≡ counted z (Stores.writeGood z st f)
-unfolding carried Stores.pageDone
+write-good : (z : Sizes) (st : State) (f : ℕ) → frames st .frame f .transfer ≡ WRITING → carried z st (Event.Writeback (PageDone f 1)) ≡ counted z (Writeback.writeGood z st f)
+unfolding carried Writeback.pageDone
 write-good z st f e = rw (ne-eqb (frames st .frame f .transfer) READING (λ x. omega (arith, x, e)))
 
 module _ (z : Sizes) (st₀ : State) where
@@ -70,13 +70,13 @@ module _ (z : Sizes) (st₀ : State) where
   more : {n : ℕ} {d : Disk} {l : Ledger} → Wrote n d l → Wrote (suc n) d l
   more k = record { state = k .state; led = k .led; disk = k .disk; words = k .words; addresses = k .addresses; slots = k .slots; frame = λ g h. k .frame g (omega arith) }
 
-  one-write : (f : ℕ) → f < z .frames → (d : Disk) (l : Ledger) → frames st₀ .frame f .transfer ≡ WRITING → Wrote f d l → Wrote (suc f) (Stores.storeFrame z st₀ f d) (finishWrite f l)
-  unfolding counted Stores.writeGood Stores.freeFrame Stores.storeFrame fed note
+  one-write : (f : ℕ) → f < z .frames → (d : Disk) (l : Ledger) → frames st₀ .frame f .transfer ≡ WRITING → Wrote f d l → Wrote (suc f) (Writeback.storeFrame z st₀ f d) (finishWrite f l)
+  unfolding counted Writeback.writeGood Writeback.freeFrame Writeback.storeFrame fed note
   one-write f h d l e k =
       let e′ : frames (k .state) .frame f .transfer ≡ WRITING = ap (λ (g : Frame). g .transfer) (k .frame f (omega arith)) ∙ e in
       record {
-        state = counted z (Stores.writeGood z (k .state) f);
-        led = subst (λ (s : State). Led s (finishWrite f l)) (write-good z (k .state) f e′) (led (k .state) l (Event.Store (PageDone f 1)) ((h, omega arith), (λ x. omega (arith, x, e′), tt)) (k .led));
+        state = counted z (Writeback.writeGood z (k .state) f);
+        led = subst (λ (s : State). Led s (finishWrite f l)) (write-good z (k .state) f e′) (led (k .state) l (Event.Writeback (PageDone f 1)) ((h, omega arith), (λ x. omega (arith, x, e′), tt)) (k .led));
         disk = rw (k .disk, k .words, k .addresses, k .frame f (omega arith));
         words = k .words;
         addresses = k .addresses;
@@ -90,7 +90,7 @@ module _ (z : Sizes) (st₀ : State) where
   wrote lands l k (suc f) h = go (lands f) (ℕ-discrete (frames st₀ .frame f .transfer) WRITING) (wrote lands l k f (omega arith))
     where
       go : (b : Bool) → Dec (frames st₀ .frame f .transfer ≡ WRITING) → Wrote f (landWrites z st₀ lands f (st₀ .disk)) (finishWrites f lands l)
-          → Wrote (suc f) (if (b && eqb (frames st₀ .frame f .transfer) WRITING) (Stores.storeFrame z st₀ f (landWrites z st₀ lands f (st₀ .disk))) (landWrites z st₀ lands f (st₀ .disk))) (if b (finishWrite f (finishWrites f lands l)) (finishWrites f lands l))
+          → Wrote (suc f) (if (b && eqb (frames st₀ .frame f .transfer) WRITING) (Writeback.storeFrame z st₀ f (landWrites z st₀ lands f (st₀ .disk))) (landWrites z st₀ lands f (st₀ .disk))) (if b (finishWrite f (finishWrites f lands l)) (finishWrites f lands l))
       go true (yes e) r = rw (eq-eqb (frames st₀ .frame f .transfer) WRITING e) (one-write f h _ _ e r)
       go true (no e) r = rw (ne-eqb (frames st₀ .frame f .transfer) WRITING e) (subst (λ (x : Ledger). Wrote (suc f) (landWrites z st₀ lands f (st₀ .disk)) x) (sym (no-write f (finishWrites f lands l) (λ t. e (sym (ap (λ (g : Frame). g .transfer) (r .frame f (omega arith))) ∙ r .led .tied .memory .framed f h .only t)))) (more r))
       go false e r = more r
@@ -107,7 +107,7 @@ module _ (z : Sizes) (st₀ : State) where
   more-slots k = record { state = k .state; led = k .led; disk = k .disk; updating = λ s h. k .updating s (omega arith); image = λ i l h. k .image i l (omega arith) }
 
   -- a good done of an update under way is not refused
-  may-end : (s : ℕ) → s < z .slots → (st : State) (l : Ledger) → Led st l → files st .updating s ≡ 1 → Asked (questions z st (Event.Store (MapDone s 1)))
+  may-end : (s : ℕ) → s < z .slots → (st : State) (l : Ledger) → Led st l → files st .updating s ≡ 1 → Asked (questions z st (Event.Writeback (MapDone s 1)))
   may-end s h st l k e = let r = k .ruled .records in let on = r .update-active s h e in ((h, omega arith), (λ x. omega (arith, x, r .active-filled s h on), (on, (e, (λ x p g n q y. not-leaving (pageOf z s p) (digits-lt h g) n q y, tt)))))
     where
       not-leaving : (i : ℕ) → i < allPages z → (n : ℕ) → files st .image i ≡ suc n → ¬ (files st .state n ≡ LEAVING)
@@ -116,14 +116,14 @@ module _ (z : Sizes) (st₀ : State) where
         | inr a ↦ omega (arith, a .1, y)
       ]
 
-  one-update : (s : ℕ) → s < z .slots → (d : Disk) (l : Ledger) → files st₀ .updating s ≡ 1 → Stored s d l → Stored (suc s) (Stores.storeImage z st₀ s d) (finishUpdate s l)
-  unfolding carried counted Stores.mapDone Stores.storeImage Stores.updateOver fed note
+  one-update : (s : ℕ) → s < z .slots → (d : Disk) (l : Ledger) → files st₀ .updating s ≡ 1 → Stored s d l → Stored (suc s) (Writeback.storeImage z st₀ s d) (finishUpdate s l)
+  unfolding carried counted Writeback.mapDone Writeback.storeImage Writeback.updateOver fed note
   one-update s h d l e k =
       let e′ : files (k .state) .updating s ≡ 1 = k .updating s (omega arith) ∙ e in
       record {
-        state = carried z (k .state) (Event.Store (MapDone s 1));
-        led = led (k .state) l (Event.Store (MapDone s 1)) (may-end s h (k .state) l (k .led) e′) (k .led);
-        disk = subst (λ (x : Disk). Stores.storeImage z (k .state) s (k .state .disk) ≡ Stores.storeImage z st₀ s x) (k .disk) (ap (λ (x : List ℕ). record { records = k .state .disk .records; numbers = k .state .disk .numbers; accounts = k .state .disk .accounts; maps = x; limits = k .state .disk .limits })
+        state = carried z (k .state) (Event.Writeback (MapDone s 1));
+        led = led (k .state) l (Event.Writeback (MapDone s 1)) (may-end s h (k .state) l (k .led) e′) (k .led);
+        disk = subst (λ (x : Disk). Writeback.storeImage z (k .state) s (k .state .disk) ≡ Writeback.storeImage z st₀ s x) (k .disk) (ap (λ (x : List ℕ). record { records = k .state .disk .records; numbers = k .state .disk .numbers; accounts = k .state .disk .accounts; maps = x; limits = k .state .disk .limits })
             (store-same (k .state .disk .maps) (ofSlot z s) (files (k .state) .image) (files st₀ .image) (λ i g o. k .image i (rw (← k .led .fit .disk .maps) g) (omega (arith, o)))));
         updating = λ t g. getD-set-other (k .state .memory .slots .updating) s t 0 0 (λ x. omega (arith, x, g)) ∙ k .updating t (omega arith);
         image = λ i g n. elim (at-store (k .state .memory .slots .images) (ofSlot z s) (λ j. 0) i (rw (k .led .fit .memory .images) g)) [ inl x ↦ absurd (omega (arith, x .0, n)) | inr x ↦ x .1 ∙ k .image i g (omega arith) ];
@@ -135,7 +135,7 @@ module _ (z : Sizes) (st₀ : State) where
   stored lands d l k (suc s) h = go (lands s) (ℕ-discrete (files st₀ .updating s) 1) (stored lands d l k s (omega arith))
     where
       go : (b : Bool) → Dec (files st₀ .updating s ≡ 1) → Stored s (landUpdates z st₀ lands s d) (finishUpdates s lands l)
-          → Stored (suc s) (if (b && eqb (files st₀ .updating s) 1) (Stores.storeImage z st₀ s (landUpdates z st₀ lands s d)) (landUpdates z st₀ lands s d)) (if b (finishUpdate s (finishUpdates s lands l)) (finishUpdates s lands l))
+          → Stored (suc s) (if (b && eqb (files st₀ .updating s) 1) (Writeback.storeImage z st₀ s (landUpdates z st₀ lands s d)) (landUpdates z st₀ lands s d)) (if b (finishUpdate s (finishUpdates s lands l)) (finishUpdates s lands l))
       go true (yes e) r = rw (eq-eqb (files st₀ .updating s) 1 e) (one-update s h _ _ e r)
       go true (no e) r = rw (ne-eqb (files st₀ .updating s) 1 e) (subst (λ (x : Ledger). Stored (suc s) (landUpdates z st₀ lands s d) x) (sym (no-update s (finishUpdates s lands l) (λ t. e (sym (r .updating s (omega arith)) ∙ r .led .tied .memory .begun .only s h t)))) (more-slots r))
       go false e r = more-slots r

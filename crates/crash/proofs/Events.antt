@@ -2,7 +2,7 @@
 use Rattle.model.specs.declared.sizes.Sizes.{Sizes}
 use Rattle.model.specs.declared.event.Design.the-variants.{Limit, Create, Delete, Activate, Deactivate}
 use Rattle.model.specs.declared.event.Page.the-variants.{Fault, Read, Write, Wire, Unwire}
-use Rattle.model.specs.declared.event.Store.the-variants.{Claim, Truncate, Update, PageDone, MapDone}
+use Rattle.model.specs.declared.event.Writeback.the-variants.{Claim, Truncate, Update, PageDone, MapDone}
 use Rattle.model.specs.declared.event.Event.{Event}
 use Rattle.model.specs.declared.event.Event.the-variants as Event
 use Rattle.crash.proofs.Steps.{Step}
@@ -29,8 +29,8 @@ steps z (Event.Page (Read s p n)) = read z s p n
 steps z (Event.Page (Write s p n x)) = write z s p n x
 steps z (Event.Page (Wire s p)) = wire z s p
 steps z (Event.Page (Unwire s p)) = unwire z s p
-steps z (Event.Store Claim) = claim z
-steps z (Event.Store (Truncate s k)) = truncate z s k
-steps z (Event.Store (Update s)) = update z s
-steps z (Event.Store (PageDone f good)) = pageDone z f good
-steps z (Event.Store (MapDone s good)) = mapDone z s good
+steps z (Event.Writeback Claim) = claim z
+steps z (Event.Writeback (Truncate s k)) = truncate z s k
+steps z (Event.Writeback (Update s)) = update z s
+steps z (Event.Writeback (PageDone f good)) = pageDone z f good
+steps z (Event.Writeback (MapDone s good)) = mapDone z s good

@@ -19,7 +19,7 @@ use Rattle.model.specs.State.{State, Files, files, noFrame, frameAt, WRITING, a
 use Rattle.model.specs.Ruled.{Ruled, OfRecords}
 use Rattle.model.specs.Setters.{counted}
 use Rattle.model.specs.Parts.{setPart, wordAt}
-use Rattle.model.specs.Stores.{recordIn, freeFrame, storeFrame, writeGood}
+use Rattle.model.specs.Writeback.{recordIn, freeFrame, storeFrame, writeGood}
 use Rattle.model.specs.Fit.{Fit}
 use Rattle.model.specs.Ledger.{Ledger, Write, ended, put, finishWrite, setFinished, setLive, setWrite}
 use Rattle.model.specs.Demand3.{lastInto}

@@ -11,13 +11,13 @@ use Rattle.tables.specs.Base.{at}
 use Rattle.tables.specs.Laws.{if-true}
 use Rattle.tables.specs.Store.{Split, store, at-store}
 use Rattle.model.specs.declared.sizes.Sizes.{Sizes}
-use Rattle.model.specs.declared.event.Store.the-variants.{MapDone}
+use Rattle.model.specs.declared.event.Writeback.the-variants.{MapDone}
 use Rattle.model.specs.declared.event.Event.the-variants as Event
 use Rattle.model.specs.Lines.{FREE, LIVE, RELEASED, LEAVING}
 use Rattle.model.specs.State.{State, allPages, slotOf}
 use Rattle.model.specs.Setters.{onDisk, onHeld, onSlots, setMaps, setStates, setOwners, counted}
 use Rattle.model.specs.Parts.{ofSlot}
-use Rattle.model.specs.Stores as Stores
+use Rattle.model.specs.Writeback as Writeback
 use Rattle.model.specs.Step.{carried}
 use Rattle.model.specs.Ledger.{Ledger, Update, note, put, finishUpdate, strikeUpdate, setStored, setUpdate}
 use Rattle.model.specs.Acts.{fed}
@@ -27,7 +27,7 @@ use Rattle.crash.proofs.Writes.{split-put, split-update, put-other}
 use Rattle.crash.proofs.Link.{Newest, OnDisk, InMemory, Tied}
 use Rattle.crash.proofs.Steps.{Step, Before}
 
-module _ (z : Sizes) (s good : ℕ) (st : State) (l : Ledger) (b : Before z st l (Event.Store (MapDone s good))) where
+module _ (z : Sizes) (s good : ℕ) (st : State) (l : Ledger) (b : Before z st l (Event.Writeback (MapDone s good))) where
   abbrev image : ℕ → ℕ
   image = at (st .memory .slots .images)
 
@@ -68,8 +68,8 @@ module _ (z : Sizes) (s good : ℕ) (st : State) (l : Ledger) (b : Before z st l
   -- ── the memory ──
   module _ (maps′ states′ owners′ : List ℕ) (stored′ : List Update) (other-map : (i : ℕ) → i < allPages z → ¬ (slotOf z i ≡ s) → at maps′ i ≡ map i)
       (mapped : (i : ℕ) → i < allPages z → (r : ℕ) → at maps′ i ≡ suc r → (map i ≡ suc r) ⊎ (image i ≡ suc r)) (was : (r : ℕ) → r < z .records → at states′ r ≡ LIVE → state r ≡ LIVE) (stays : (r : ℕ) → r < z .records → state r ≡ LIVE → at states′ r ≡ LIVE) where
-    ended : InMemory z (counted z (onDisk (λ d. setMaps maps′ d) (onSlots (Stores.updateOver z st s) (onHeld (λ h. setStates states′ (setOwners owners′ h)) st)))) (setStored stored′ (setUpdate (put (l .pending .updating) s false) (l .pending .update) l))
-    unfolding counted Stores.updateOver
+    ended : InMemory z (counted z (onDisk (λ d. setMaps maps′ d) (onSlots (Writeback.updateOver z st s) (onHeld (λ h. setStates states′ (setOwners owners′ h)) st)))) (setStored stored′ (setUpdate (put (l .pending .updating) s false) (l .pending .update) l))
+    unfolding counted Writeback.updateOver
     ended = let m = b .tied .memory in let fit = b .ruled .records .address-fit in record {
       named = record {
         imaged = λ i h r p. m .named .imaged i h r (elsewhere i h r p);
@@ -118,11 +118,11 @@ module _ (z : Sizes) (s good : ℕ) (st : State) (l : Ledger) (b : Before z st l
       go zero e p = absurd (omega (arith, born, e))
       go (suc n) e p = b .tied .disk .designs .distinct t h s hs n (p ∙ e) e
 
-  states-good : (r : ℕ) → r < z .records → Split ((state r ≡ LEAVING) × (at (st .memory .held .owners) r ≡ s)) (at (store (st .memory .held .states) (Stores.leaver z st s) (λ r. FREE)) r) FREE (state r)
-  states-good r h = at-store (st .memory .held .states) (Stores.leaver z st s) (λ r. FREE) r (rw (b .fit .memory .states) h)
+  states-good : (r : ℕ) → r < z .records → Split ((state r ≡ LEAVING) × (at (st .memory .held .owners) r ≡ s)) (at (store (st .memory .held .states) (Writeback.leaver z st s) (λ r. FREE)) r) FREE (state r)
+  states-good r h = at-store (st .memory .held .states) (Writeback.leaver z st s) (λ r. FREE) r (rw (b .fit .memory .states) h)
 
-  good-disk : OnDisk z (counted z (onDisk (Stores.storeImage z st s) st)) (setStored (open-s ∷ l .stored) (setUpdate (put (l .pending .updating) s false) (l .pending .update) l))
-  unfolding counted Stores.storeImage
+  good-disk : OnDisk z (counted z (onDisk (Writeback.storeImage z st s) st)) (setStored (open-s ∷ l .stored) (setUpdate (put (l .pending .updating) s false) (l .pending .update) l))
+  unfolding counted Writeback.storeImage
   good-disk = let k = b .tied .disk in let u = b .tied .memory .begun in record {
     designs = record {
       born = k .designs .born;
@@ -147,23 +147,23 @@ module _ (z : Sizes) (s good : ℕ) (st : State) (l : Ledger) (b : Before z st l
     };
   }
 
-  states-failed : (r : ℕ) → r < z .records → Split ((state r ≡ LEAVING) × (at (st .memory .held .owners) r ≡ s)) (at (store (st .memory .held .states) (Stores.leaver z st s) (λ r. RELEASED)) r) RELEASED (state r)
-  states-failed r h = at-store (st .memory .held .states) (Stores.leaver z st s) (λ r. RELEASED) r (rw (b .fit .memory .states) h)
+  states-failed : (r : ℕ) → r < z .records → Split ((state r ≡ LEAVING) × (at (st .memory .held .owners) r ≡ s)) (at (store (st .memory .held .states) (Writeback.leaver z st s) (λ r. RELEASED)) r) RELEASED (state r)
+  states-failed r h = at-store (st .memory .held .states) (Writeback.leaver z st s) (λ r. RELEASED) r (rw (b .fit .memory .states) h)
 
 -- by the two cases
-pub mapDone : (z : Sizes) (s good : ℕ) → Step z (Event.Store (MapDone s good))
-unfolding carried fed note counted Stores.mapDone Stores.storeImage Stores.updateOver finishUpdate strikeUpdate
+pub mapDone : (z : Sizes) (s good : ℕ) → Step z (Event.Writeback (MapDone s good))
+unfolding carried fed note counted Writeback.mapDone Writeback.storeImage Writeback.updateOver finishUpdate strikeUpdate
 mapDone z s good st l b = go good b
   where
-    go : (good : ℕ) → (b : Before z st l (Event.Store (MapDone s good))) → Tied z (carried z st (Event.Store (MapDone s good))) (note z l (fed z st (Event.Store (MapDone s good))))
+    go : (good : ℕ) → (b : Before z st l (Event.Writeback (MapDone s good))) → Tied z (carried z st (Event.Writeback (MapDone s good))) (note z l (fed z st (Event.Writeback (MapDone s good))))
     go zero b = record {
       disk = record { designs = b .tied .disk .designs; listing = b .tied .disk .listing };
-      memory = ended z s 0 st l b (st .disk .maps) (store (st .memory .held .states) (Stores.leaver z st s) (λ r. RELEASED)) (st .memory .held .owners) (l .stored) (λ i h e. refl) (λ i h r p. inl p)
+      memory = ended z s 0 st l b (st .disk .maps) (store (st .memory .held .states) (Writeback.leaver z st s) (λ r. RELEASED)) (st .memory .held .owners) (l .stored) (λ i h e. refl) (λ i h r p. inl p)
           (λ r h e. elim (states-failed z s 0 st l b r h) [ inl x ↦ absurd (omega (arith, x .1, e)) | inr x ↦ sym (x .1) ∙ e ]) (λ r h e. elim (states-failed z s 0 st l b r h) [ inl x ↦ absurd (omega (arith, x .0 .0, e)) | inr x ↦ x .1 ∙ e ]);
     }
-    go (suc zero) b = subst (λ (x : Ledger). Tied z (carried z st (Event.Store (MapDone s 1))) x) (sym (if-true (l .pending .updating s) _ l (b .tied .memory .begun .opened s (b .asked .0 .0) (b .asked .1 .1 .1 .0)))) (record {
+    go (suc zero) b = subst (λ (x : Ledger). Tied z (carried z st (Event.Writeback (MapDone s 1))) x) (sym (if-true (l .pending .updating s) _ l (b .tied .memory .begun .opened s (b .asked .0 .0) (b .asked .1 .1 .1 .0)))) (record {
       disk = (let d = good-disk z s 1 st l b in record { designs = d .designs; listing = d .listing });
-      memory = ended z s 1 st l b (maps′ z s 1 st l b) (store (st .memory .held .states) (Stores.leaver z st s) (λ r. FREE)) (store (st .memory .held .owners) (Stores.leaver z st s) (λ r. 0)) (l .pending .update s ∷ l .stored)
+      memory = ended z s 1 st l b (maps′ z s 1 st l b) (store (st .memory .held .states) (Writeback.leaver z st s) (λ r. FREE)) (store (st .memory .held .owners) (Writeback.leaver z st s) (λ r. 0)) (l .pending .update s ∷ l .stored)
           (λ i h e. elim (map-split z s 1 st l b i h) [ inl x ↦ absurd (e (x .0)) | inr x ↦ x .1 ]) (λ i h r p. elim (map-split z s 1 st l b i h) [ inl x ↦ inr (sym (x .1) ∙ p) | inr x ↦ inl (sym (x .1) ∙ p) ])
           (λ r h e. elim (states-good z s 1 st l b r h) [ inl x ↦ absurd (omega (arith, x .1, e)) | inr x ↦ sym (x .1) ∙ e ]) (λ r h e. elim (states-good z s 1 st l b r h) [ inl x ↦ absurd (omega (arith, x .0 .0, e)) | inr x ↦ x .1 ∙ e ]);
     })

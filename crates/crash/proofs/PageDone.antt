@@ -17,7 +17,7 @@ use Rattle.model.specs.Ruled.{Ruled}
 use Rattle.model.specs.Setters.{counted, setTransfer, setModified}
 use Rattle.model.specs.Parts.{setPart, wordAt}
 use Rattle.model.specs.Pages.{fresh}
-use Rattle.model.specs.Stores.{cooled, recordIn, freeFrame, readGood, readFailed, writeFailed}
+use Rattle.model.specs.Writeback.{cooled, recordIn, freeFrame, readGood, readFailed, writeFailed}
 use Rattle.model.specs.Fit.{Fit}
 use Rattle.model.specs.Ledger.{Ledger, put, strikeWrite}
 use Rattle.invariant.proofs.Stands.{seat-at, moving-place}

@@ -6,10 +6,10 @@ use native.Mathlib.Omega.{arith}
 use native.Mathlib.Decide.{ℕ-discrete}
 use borrow.Author.Tests.{eq-eqb, ne-eqb}
 use Rattle.model.specs.declared.sizes.Sizes.{Sizes}
-use Rattle.model.specs.declared.event.Store.the-variants.{PageDone}
+use Rattle.model.specs.declared.event.Writeback.the-variants.{PageDone}
 use Rattle.model.specs.declared.event.Event.the-variants as Event
 use Rattle.model.specs.State.{frames, NONE, READING, WRITING}
-use Rattle.model.specs.Stores as Stores
+use Rattle.model.specs.Writeback as Writeback
 use Rattle.model.specs.Step.{carried}
 use Rattle.model.specs.Ledger.{note}
 use Rattle.model.specs.Acts.{fed}
@@ -23,14 +23,14 @@ use Rattle.crash.proofs.Finished.{good-write}
 kind : (t : ℕ) → t < 3 → ¬ (t ≡ NONE) → (t ≡ READING) ⊎ (t ≡ WRITING)
 kind t h n = elim (ℕ-discrete t READING) [ yes e ↦ inl e | no e ↦ inr (omega (arith, h, n, e)) ]
 
-pub pageDone : (z : Sizes) (f good : ℕ) → Step z (Event.Store (PageDone f good))
-unfolding carried fed note Stores.pageDone
+pub pageDone : (z : Sizes) (f good : ℕ) → Step z (Event.Writeback (PageDone f good))
+unfolding carried fed note Writeback.pageDone
 pageDone z f good st l b = go good b
   where
     t : ℕ
     t = frames st .frame f .transfer
 
-    go : (good : ℕ) → (b : Before z st l (Event.Store (PageDone f good))) → Tied z (carried z st (Event.Store (PageDone f good))) (note z l (fed z st (Event.Store (PageDone f good))))
+    go : (good : ℕ) → (b : Before z st l (Event.Writeback (PageDone f good))) → Tied z (carried z st (Event.Writeback (PageDone f good))) (note z l (fed z st (Event.Writeback (PageDone f good))))
     go zero b = elim (kind t (b .ruled .frames .fit f (b .asked .0 .0) .1 .1 .1 .1 .1) (b .asked .1 .0)) [
       | inl e ↦ tied-at (rw (eq-eqb t READING e)) refl (failed-read z st l (b .fit) (b .ruled) (b .tied) f (b .asked .0 .0) e)
       | inr e ↦ tied-at (rw (ne-eqb t READING (λ x. omega (arith, x, e)))) refl (failed-write z st l (b .fit) (b .ruled) (b .tied) f (b .asked .0 .0) e)

@@ -13,14 +13,14 @@ use Rattle.tables.specs.Rule.{Holds, test, decided, told, untold}
 use Rattle.tables.specs.Store.{Split, store, at-store}
 use Rattle.model.specs.declared.frame.Frame.{Frame}
 use Rattle.model.specs.declared.sizes.Sizes.{Sizes}
-use Rattle.model.specs.declared.event.Store.the-variants.{Truncate}
+use Rattle.model.specs.declared.event.Writeback.the-variants.{Truncate}
 use Rattle.model.specs.declared.event.Event.the-variants as Event
 use Rattle.model.specs.Lines.{LIVE, RELEASED}
 use Rattle.model.specs.State.{State, noFrame, frameAt, NONE, allPages}
 use Rattle.model.specs.Setters.{counted}
 use Rattle.model.specs.Parts.{fromPage}
-use Rattle.model.specs.Stores as Stores
-use Rattle.model.specs.Stores.{cutFrame, cutRecord}
+use Rattle.model.specs.Writeback as Writeback
+use Rattle.model.specs.Writeback.{cutFrame, cutRecord}
 use Rattle.model.specs.Step.{carried}
 use Rattle.model.specs.Ledger.{Ledger, note, over}
 use Rattle.model.specs.Acts.{fed}
@@ -31,7 +31,7 @@ use Rattle.crash.proofs.Link.{Away, Tied}
 use Rattle.crash.proofs.Steps.{Before}
 use Rattle.crash.proofs.OneFrame.{in-frame-same, alike-same}
 
-module _ (z : Sizes) (s k : ℕ) (st : State) (l : Ledger) (b : Before z st l (Event.Store (Truncate s k))) where
+module _ (z : Sizes) (s k : ℕ) (st : State) (l : Ledger) (b : Before z st l (Event.Writeback (Truncate s k))) where
   abbrev Cut : ℕ → Type 0
   Cut i = Holds (fromPage z s k i)
 
@@ -90,8 +90,8 @@ module _ (z : Sizes) (s k : ℕ) (st : State) (l : Ledger) (b : Before z st l (E
   was-away : (i : ℕ) → ¬ (Cut i) → Away z fs′ i → Away z fs i
   was-away i n a f h p = let e = kept-frame i n f h p in sym (ap (λ (x : Frame). x .transfer) e) ∙ a f h (ap (λ (x : Frame). x .page) e ∙ p)
 
-  pub truncate : Tied z (carried z st (Event.Store (Truncate s k))) (note z l (fed z st (Event.Store (Truncate s k))))
-  unfolding carried fed note counted Stores.truncate
+  pub truncate : Tied z (carried z st (Event.Writeback (Truncate s k))) (note z l (fed z st (Event.Writeback (Truncate s k))))
+  unfolding carried fed note counted Writeback.truncate
   truncate = record {
     disk = record { designs = b .tied .disk .designs; listing = b .tied .disk .listing };
     memory = let m = b .tied .memory in record {

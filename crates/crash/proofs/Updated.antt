@@ -10,15 +10,15 @@ use Rattle.tables.specs.Base.{at}
 use Rattle.tables.specs.Rule.{Holds}
 use Rattle.tables.specs.Store.{Split, store, at-store}
 use Rattle.model.specs.declared.sizes.Sizes.{Sizes}
-use Rattle.model.specs.declared.event.Store.the-variants.{Update}
+use Rattle.model.specs.declared.event.Writeback.the-variants.{Update}
 use Rattle.model.specs.declared.event.Event.the-variants as Event
 use Rattle.model.specs.Lines.{LIVE, LEAVING}
 use Rattle.model.specs.State.{State, frameAt, allPages, slotOf}
 use Rattle.model.specs.Setters.{counted}
 use Rattle.model.specs.Parts.{ofSlot}
 use Rattle.model.specs.Questions.{wouldStore}
-use Rattle.model.specs.Stores as Stores
-use Rattle.model.specs.Stores.{leavingPage, leavingRecord}
+use Rattle.model.specs.Writeback as Writeback
+use Rattle.model.specs.Writeback.{leavingPage, leavingRecord}
 use Rattle.model.specs.Step.{carried}
 use Rattle.model.specs.Ledger as L
 use Rattle.model.specs.Ledger.{Ledger, note, put, begun}
@@ -31,7 +31,7 @@ use Rattle.crash.proofs.Link.{Newest, Tied}
 use Rattle.crash.proofs.Steps.{Before}
 use Rattle.crash.proofs.OneFrame.{in-frame-same, alike-same}
 
-module _ (z : Sizes) (s : ℕ) (st : State) (l : Ledger) (b : Before z st l (Event.Store (Update s))) where
+module _ (z : Sizes) (s : ℕ) (st : State) (l : Ledger) (b : Before z st l (Event.Writeback (Update s))) where
   abbrev address : ℕ → ℕ
   address = at (st .memory .held .addresses)
 
@@ -96,8 +96,8 @@ module _ (z : Sizes) (s : ℕ) (st : State) (l : Ledger) (b : Before z st l (Eve
   which : (t : ℕ) → at (set (st .memory .slots .updating) s 1) t ≡ 1 → ((t ≡ s) × (update′ t ≡ begun z l s)) ⊎ ((¬ (t ≡ s)) × ((update′ t ≡ l .pending .update t) × (at (st .memory .slots .updating) t ≡ 1)))
   which t e = elim (split-put (l .pending .update) s (begun z l s) t) [ inl x ↦ inl x | inr x ↦ inr (x .0, (x .1, elim (updating-split t) [ inl y ↦ absurd (x .0 (y .0)) | inr y ↦ sym (y .1) ∙ e ])) ]
 
-  pub update : Tied z (carried z st (Event.Store (Update s))) (note z l (fed z st (Event.Store (Update s))))
-  unfolding carried fed note counted Stores.update
+  pub update : Tied z (carried z st (Event.Writeback (Update s))) (note z l (fed z st (Event.Writeback (Update s))))
+  unfolding carried fed note counted Writeback.update
   update = record {
     disk = record { designs = b .tied .disk .designs; listing = b .tied .disk .listing };
     memory = let m = b .tied .memory in record {

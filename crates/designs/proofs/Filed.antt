@@ -22,7 +22,7 @@ use Rattle.model.specs.Step.{carried}
 use Rattle.model.specs.Index.{of-pages}
 use Rattle.model.specs.Ruled.{Ruled}
 use Rattle.model.specs.Fit.{Fit}
-use Rattle.parts.specs.Counts.{counts}
+use Rattle.leaves.specs.Counts.{counts}
 use Rattle.designs.proofs.Kept.{after, counts-kept, counted-kept}
 
 -- a page of an inactive design that lists nothing does not count

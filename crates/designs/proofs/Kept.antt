@@ -15,8 +15,8 @@ use Rattle.model.specs.Setters.{onHeld, setFree, setFreeMap, setUsed, counted}
 use Rattle.model.specs.Lent.{stateOf}
 use Rattle.model.specs.Ruled.{OfCounts}
 use Rattle.model.specs.Fit.{Fit}
-use Rattle.parts.specs.Counts.{counts, countsFor, usedCounts, used-counts, free-same}
-use Rattle.parts.specs.FreeMap.{freeMap, free-map, free-map-same}
+use Rattle.leaves.specs.Counts.{counts, countsFor, usedCounts, used-counts, free-same}
+use Rattle.leaves.specs.FreeMap.{freeMap, free-map, free-map-same}
 
 -- the state after an event about a design: numbers, accounts, limits, addresses, states and active switches are new
 abbrev pub after : State → List ℕ → List ℕ → List ℕ → List ℕ → List ℕ → List ℕ → State

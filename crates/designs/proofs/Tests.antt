@@ -9,7 +9,7 @@ use Rattle.tables.specs.Base.{_⇒_}
 use Rattle.tables.specs.Rule.{Holds, test, same, below, non, _and_, _or_, _then_, alike}
 use Rattle.tables.specs.Turn.{said-yes, said-no}
 use Rattle.model.specs.declared.frame.Frame.{Frame}
-use Rattle.parts.specs.FrameLaws.{frame-take}
+use Rattle.leaves.specs.FrameLaws.{frame-take}
 use Rattle.designs.specs.Asks.{unframed}
 
 -- ranges as the code tests them

@@ -8,7 +8,7 @@ use Rattle.model.specs.declared.sizes.Sizes.{Sizes}
 use Rattle.model.specs.declared.frame.Frame.{Frame}
 use Rattle.model.specs.Lines.{NULLED, RELEASED}
 use Rattle.model.specs.State.{frameAt}
-use Rattle.parts.specs.Addresses.{liveAddress}
+use Rattle.leaves.specs.Addresses.{liveAddress}
 
 -- 3 and 4: the slot below its size; filled
 abbrev pub filledAsked : Sizes → ℕ → List ℕ → Questions

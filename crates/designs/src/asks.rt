@@ -15,10 +15,10 @@ use crate::frames::none_framed;
 use crate::maps::map_true;
 use crate::maps::map_zero;
 use crate::maps::records_settled;
+use leaves::cells::at8;
+use leaves::cells::at32;
 use model::frame::Frame;
 use model::sizes::Sizes;
-use parts::cells::at8;
-use parts::cells::at32;
 
 // Questions 3 and 4.
 pub fn ask_filled(sizes: Sizes, slot: usize, numbers: &[u32]) -> u32

@@ -2,5 +2,9 @@
 pub mod asks; // the questions about a slot
 pub mod frames; // no page of a slot in a frame
 pub mod maps; // the questions about a slot's map and records
-pub mod files; // limit, create, delete
-pub mod turns; // activate, deactivate
+// the events
+pub mod activate;
+pub mod create;
+pub mod deactivate;
+pub mod delete;
+pub mod limit;

@@ -4,10 +4,10 @@ ghost use Prim.Native.Nat.{_+_, _*_, _<_, _≤_};
 ghost use lib.ListN.{length};
 ghost use Rattle.tables.specs.Rule.{test};
 ghost use Rattle.designs.specs.Asks.{zeroMap, trueMap, settledRecord, settled};
+use leaves::addresses::live_address;
+use leaves::cells::at16;
 use model::lines::NULLED;
 use model::lines::RELEASED;
-use parts::addresses::live_address;
-use parts::cells::at16;
 
 // Whether the slot's map is all 0.
 pub fn map_zero(maps: &[u16], pages: usize, slot: usize) -> bool

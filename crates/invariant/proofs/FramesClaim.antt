@@ -15,15 +15,15 @@ use Rattle.tables.specs.QueueLaws.{members-within, members-packed, length-packe
 use Rattle.tables.specs.Questions.{Asked}
 use Rattle.model.specs.declared.sizes.Sizes.{Sizes}
 use Rattle.model.specs.declared.frame.Frame.{Frame}
-use Rattle.model.specs.declared.event.Store.the-variants.{Claim}
+use Rattle.model.specs.declared.event.Writeback.the-variants.{Claim}
 use Rattle.model.specs.declared.event.Event.the-variants as Event
 use Rattle.model.specs.Lines.{NULLED}
 use Rattle.model.specs.State.{State, files, frames, frameAt, WRITING}
 use Rattle.model.specs.Setters.{onHeld, onCore, setStates, setFrames, setRemovalList, setTransfer}
 use Rattle.model.specs.Questions.{questions}
 use Rattle.model.specs.Pages.{onFrame}
-use Rattle.model.specs.Stores
-use Rattle.model.specs.Stores.{Looked, looking, freeFrame, recordIn, beginsWrite, zeros}
+use Rattle.model.specs.Writeback
+use Rattle.model.specs.Writeback.{Looked, looking, freeFrame, recordIn, beginsWrite, zeros}
 use Rattle.model.specs.Ruled.{Ruled, once-list}
 use Rattle.model.specs.Fit.{Fit}
 use Rattle.invariant.proofs.Lengths.{Long, long}
@@ -162,8 +162,8 @@ module _ (z : Sizes) (st : State) (f : Fit z st) (r : Ruled z st) (some : 0 < si
         clean = λ e m. absurd (omega (arith, e));
       }
 
-pub claim-frames : (z : Sizes) (st : State) → Fit z st → Ruled z st → Asked (questions z st (Event.Store Claim)) → Framed z (Stores.claim z st)
-unfolding Stores.claim beginsWrite
+pub claim-frames : (z : Sizes) (st : State) → Fit z st → Ruled z st → Asked (questions z st (Event.Writeback Claim)) → Framed z (Writeback.claim z st)
+unfolding Writeback.claim beginsWrite
 claim-frames z st f r a = counted-framed z _ (if-elim (Framing z) (beginsWrite z st) _ _
     (λ t. claim-writes z st f r (a .0) (eqb→eq _ _ (begun (eqb (frames st .frame (looking z st .taken) .modified) 1) (zeros z st (looking z st .taken)) t)))
     (λ t. if-elim (Framing z) (eqb (frames st .frame (looking z st .taken) .modified) 1) _ _ (λ u. claim-nulled z st f r (a .0)) (λ u. claim-freed z st f r (a .0))))

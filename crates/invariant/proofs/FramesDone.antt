@@ -13,7 +13,7 @@ use Rattle.tables.specs.Queue.{push-front, push-back}
 use Rattle.tables.specs.Questions.{Asked}
 use Rattle.model.specs.declared.sizes.Sizes.{Sizes}
 use Rattle.model.specs.declared.frame.Frame.{Frame}
-use Rattle.model.specs.declared.event.Store.the-variants.{PageDone}
+use Rattle.model.specs.declared.event.Writeback.the-variants.{PageDone}
 use Rattle.model.specs.declared.event.Event.the-variants as Event
 use Rattle.model.specs.Lines.{LIVE}
 use Rattle.model.specs.State.{State, files, frames, frameAt, NONE, READING}
@@ -21,8 +21,8 @@ use Rattle.model.specs.Setters.{onDisk, onHeld, setStates, setTransfer, setModi
 use Rattle.model.specs.Questions.{questions}
 use Rattle.model.specs.Parts.{setPart, wordAt}
 use Rattle.model.specs.Pages.{fresh}
-use Rattle.model.specs.Stores
-use Rattle.model.specs.Stores.{recordIn, cooled}
+use Rattle.model.specs.Writeback
+use Rattle.model.specs.Writeback.{recordIn, cooled}
 use Rattle.model.specs.Ruled.{Ruled, once-list}
 use Rattle.model.specs.Fit.{Fit}
 use Rattle.invariant.proofs.Lengths.{long}
@@ -75,9 +75,9 @@ module _ (z : Sizes) (st : State) (f : Fit z st) (r : Ruled z st) where
         ∙ ap (λ (x : ℕ). at (st .disk .records) (x * z .words + w)) t
         ∙ sym (if-yes (files st .state q) LIVE (at (st .disk .records) (q * z .words + w)) 0 (ap (files st .state) s ∙ lv .2))
 
-    read-good : old .transfer ≡ READING → Framing z (Stores.readGood z st k)
-    unfolding Stores.readGood
-    read-good e = one-frame z st (Stores.readGood z st k) k 0 1
+    read-good : old .transfer ≡ READING → Framing z (Writeback.readGood z st k)
+    unfolding Writeback.readGood
+    read-good e = one-frame z st (Writeback.readGood z st k) k 0 1
         (record {
           free = unmoved (z .frames) (st .memory .core .free-queue) (f .memory .free-queue) (r .queues .free-queue) k 0 queued;
           list = list;
@@ -102,14 +102,14 @@ module _ (z : Sizes) (st : State) (f : Fit z st) (r : Ruled z st) where
         list = moved-front (z .frames) (st .memory .core .removal-list) (f .memory .removal-list) (r .queues .removal-list) (once-list z st r) k below removing
 
     -- ── failed read ──
-    read-failed : Framing z (Stores.readFailed z st k)
-    unfolding Stores.readFailed
+    read-failed : Framing z (Writeback.readFailed z st k)
+    unfolding Writeback.readFailed
     read-failed = freed z st f r st k below queued refl refl unlisted (λ h l d. cooler-same (frames st .frame h)) (λ h l d. kept-all z (files st) (at (st .disk .records)) (frames st .frame h .page)) (r .counts .hand) (long z st f)
 
     -- ── good write ──
-    write-good : Framing z (Stores.writeGood z st k)
-    unfolding Stores.writeGood Stores.storeFrame
-    write-good = freed z st f r (onHeld (λ h. setStates (set (h .states) (recordIn z st k) LIVE) h) (onDisk (Stores.storeFrame z st k) st)) k below queued refl refl unlisted (λ h l d. cooler-same (frames st .frame h))
+    write-good : Framing z (Writeback.writeGood z st k)
+    unfolding Writeback.writeGood Writeback.storeFrame
+    write-good = freed z st f r (onHeld (λ h. setStates (set (h .states) (recordIn z st k) LIVE) h) (onDisk (Writeback.storeFrame z st k) st)) k below queued refl refl unlisted (λ h l d. cooler-same (frames st .frame h))
         (λ h l d. record {
           address = λ i e. refl;
           state = state-kept z st f r k below busy LIVE h l d;
@@ -126,8 +126,8 @@ module _ (z : Sizes) (st : State) (f : Fit z st) (r : Ruled z st) where
         })
 
     -- ── failed write ──
-    write-failed : Framing z (Stores.writeFailed z st k)
-    unfolding Stores.writeFailed
+    write-failed : Framing z (Writeback.writeFailed z st k)
+    unfolding Writeback.writeFailed
     write-failed = switched-framing z st f r k below queued (setTransfer NONE (setModified 1 (cooled old))) (push-back (st .memory .core .removal-list) k) (st .memory .core .words) 1
         (moved-back (z .frames) (st .memory .core .removal-list) (f .memory .removal-list) (r .queues .removal-list) (once-list z st r) k below removing) (f .memory .words) (λ h l d w b. refl)
         (record {
@@ -143,8 +143,8 @@ module _ (z : Sizes) (st : State) (f : Fit z st) (r : Ruled z st) where
           clean = λ e m. absurd (omega (arith, m));
         })
 
-  pub page-done-frames : (k good : ℕ) → Asked (questions z st (Event.Store (PageDone k good))) → Framed z (Stores.pageDone z st k good)
-  unfolding Stores.pageDone
+  pub page-done-frames : (k good : ℕ) → Asked (questions z st (Event.Writeback (PageDone k good))) → Framed z (Writeback.pageDone z st k good)
+  unfolding Writeback.pageDone
   page-done-frames k good a = counted-framed z _ (if-elim (Framing z) (eqb (frames st .frame k .transfer) READING) _ _
       (λ t. if-elim (Framing z) (eqb good 1) _ _ (λ u. read-good k (a .0 .0) (a .1 .0) (eqb→eq _ _ t)) (λ u. read-failed k (a .0 .0) (a .1 .0)))
       (λ t. if-elim (Framing z) (eqb good 1) _ _ (λ u. write-good k (a .0 .0) (a .1 .0)) (λ u. write-failed k (a .0 .0) (a .1 .0))))

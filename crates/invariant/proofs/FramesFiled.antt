@@ -15,13 +15,13 @@ use Rattle.tables.specs.Store.{store, length-store}
 use Rattle.tables.specs.Questions.{Asked}
 use Rattle.model.specs.declared.sizes.Sizes.{Sizes}
 use Rattle.model.specs.declared.event.Design.the-variants.{Create, Delete, Activate, Deactivate}
-use Rattle.model.specs.declared.event.Store.the-variants.{Update, MapDone}
+use Rattle.model.specs.declared.event.Writeback.the-variants.{Update, MapDone}
 use Rattle.model.specs.declared.event.Event.the-variants as Event
 use Rattle.model.specs.Lines.{FILED, NULLED, LIVE, RELEASED, LEAVING}
 use Rattle.model.specs.State.{Disk, Held, Slots, State, files, frames, allPages, slotOf}
 use Rattle.model.specs.Questions.{questions}
 use Rattle.model.specs.Designs
-use Rattle.model.specs.Stores
+use Rattle.model.specs.Writeback
 use Rattle.model.specs.Ruled.{Ruled}
 use Rattle.model.specs.Fit.{Fit, DiskFit}
 use Rattle.invariant.proofs.Lengths.{HeldFit, SlotsFit, long}
@@ -110,12 +110,12 @@ module _ (z : Sizes) (st : State) (f : Fit z st) (r : Ruled z st) where
       away k l i e b = a .1 .1 .1 .1 .0 (i % z .pages) (mod-lt i (f .sizes .pages)) (k, l, e ∙ ap suc (sym (div-add-mod' i (z .pages)) ∙ ap (λ (x : ℕ). x * z .pages + i % z .pages) b))
 
   -- ── update ──
-  pub update-frames : (s : ℕ) → Asked (questions z st (Event.Store (Update s))) → Framed z (Stores.update z st s)
-  unfolding Stores.update
+  pub update-frames : (s : ℕ) → Asked (questions z st (Event.Writeback (Update s))) → Framed z (Writeback.update z st s)
+  unfolding Writeback.update
   update-frames s a = counted-framed z _ (filed (st .disk) _ _
       (λ k l. record {
-        address = λ i e. unstored (st .memory .held .addresses) (Stores.leavingPage z st s) (λ j. 0) i (addressed k l i e) (λ y. y .1 .1 (k, l, e));
-        state = λ i e q d. unstored (st .memory .held .states) (Stores.leavingRecord z st s) (λ j. LEAVING) q (stated k l i e q d) (λ y. elim y [
+        address = λ i e. unstored (st .memory .held .addresses) (Writeback.leavingPage z st s) (λ j. 0) i (addressed k l i e) (λ y. y .1 .1 (k, l, e));
+        state = λ i e q d. unstored (st .memory .held .states) (Writeback.leavingRecord z st s) (λ j. LEAVING) q (stated k l i e q d) (λ y. elim y [
           | inl x ↦ x .2 .0 .1 .1 (k, l, e ∙ ap suc (r .records .held-once i (fit k l i e) (x .0) (x .1) q d (x .2 .1)))
           | inr x ↦ no-other k l i e q d RELEASED (λ y. omega (arith, y)) (λ y. omega (arith, y)) (x .1)
         ]);
@@ -129,21 +129,21 @@ module _ (z : Sizes) (st : State) (f : Fit z st) (r : Ruled z st) where
   -- the slot's leaving records change, and no page in a frame holds one
   ended : (s : ℕ) (maps : List ℕ) (g : ℕ → ℕ) (owners : List ℕ) → length maps ≡ allPages z → length owners ≡ z .records
       → Framing z (refiled (record { records = st .disk .records; numbers = st .disk .numbers; accounts = st .disk .accounts; maps = maps; limits = st .disk .limits })
-      (record { addresses = st .memory .held .addresses; states = store (st .memory .held .states) (Stores.leaver z st s) g; owners = owners; free-map = st .memory .held .free-map; pool = st .memory .held .pool })
-      (Stores.updateOver z st s (st .memory .slots)))
-  unfolding Stores.updateOver
+      (record { addresses = st .memory .held .addresses; states = store (st .memory .held .states) (Writeback.leaver z st s) g; owners = owners; free-map = st .memory .held .free-map; pool = st .memory .held .pool })
+      (Writeback.updateOver z st s (st .memory .slots)))
+  unfolding Writeback.updateOver
   ended s maps g owners lm lo = filed _ _ _
       (λ k l. record {
         address = λ i e. refl;
-        state = λ i e q d. unstored (st .memory .held .states) (Stores.leaver z st s) g q (stated k l i e q d) (λ y. no-other k l i e q d LEAVING (λ x. omega (arith, x)) (λ x. omega (arith, x)) (y .0));
+        state = λ i e q d. unstored (st .memory .held .states) (Writeback.leaver z st s) g q (stated k l i e q d) (λ y. no-other k l i e q d LEAVING (λ x. omega (arith, x)) (λ x. omega (arith, x)) (y .0));
         active = λ i e. refl;
         words = λ i e q d w lw. refl;
       }) (r .counts .hand) (record { records = f .disk .records; numbers = f .disk .numbers; accounts = f .disk .accounts; maps = lm; limits = f .disk .limits })
       (record { addresses = f .memory .addresses; states = length-store (st .memory .held .states) _ _ ∙ f .memory .states; owners = lo })
       (record { active = f .memory .active; updating = length-set (st .memory .slots .updating) s 0 ∙ f .memory .updating; images = length-store (st .memory .slots .images) _ _ ∙ f .memory .images })
 
-  pub map-done-frames : (s good : ℕ) → Asked (questions z st (Event.Store (MapDone s good))) → Framed z (Stores.mapDone z st s good)
-  unfolding Stores.mapDone Stores.storeImage
+  pub map-done-frames : (s good : ℕ) → Asked (questions z st (Event.Writeback (MapDone s good))) → Framed z (Writeback.mapDone z st s good)
+  unfolding Writeback.mapDone Writeback.storeImage
   map-done-frames s good a = counted-framed z _ (if-elim (Framing z) (eqb good 1) _ _
       (λ t. ended s _ _ _ (length-store (st .disk .maps) _ _ ∙ f .disk .maps) (length-store (st .memory .held .owners) _ _ ∙ f .memory .owners))
       (λ t. ended s _ _ _ (f .disk .maps) (f .memory .owners)))

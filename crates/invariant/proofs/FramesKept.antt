@@ -3,7 +3,7 @@ use Rattle.tables.specs.Questions.{Asked}
 use Rattle.model.specs.declared.sizes.Sizes.{Sizes}
 use Rattle.model.specs.declared.event.Design.the-variants.{Limit, Create, Delete, Activate, Deactivate}
 use Rattle.model.specs.declared.event.Page.the-variants.{Fault, Read, Write, Wire, Unwire}
-use Rattle.model.specs.declared.event.Store.the-variants.{Claim, Truncate, Update, PageDone, MapDone}
+use Rattle.model.specs.declared.event.Writeback.the-variants.{Claim, Truncate, Update, PageDone, MapDone}
 use Rattle.model.specs.declared.event.Event.{Event}
 use Rattle.model.specs.declared.event.Event.the-variants as Event
 use Rattle.model.specs.State.{State}
@@ -32,8 +32,8 @@ module _ (z : Sizes) (st : State) (f : Fit z st) (r : Ruled z st) where
   frames-kept (Event.Page (Write s p w x)) a = write-frames z st f r s p w x a
   frames-kept (Event.Page (Wire s p)) a = wire-frames z st f r s p a
   frames-kept (Event.Page (Unwire s p)) a = unwire-frames z st f r s p a
-  frames-kept (Event.Store Claim) a = claim-frames z st f r a
-  frames-kept (Event.Store (Truncate s k)) a = truncate-frames z st f r s k a
-  frames-kept (Event.Store (Update s)) a = update-frames z st f r s a
-  frames-kept (Event.Store (PageDone k good)) a = page-done-frames z st f r k good a
-  frames-kept (Event.Store (MapDone s good)) a = map-done-frames z st f r s good a
+  frames-kept (Event.Writeback Claim) a = claim-frames z st f r a
+  frames-kept (Event.Writeback (Truncate s k)) a = truncate-frames z st f r s k a
+  frames-kept (Event.Writeback (Update s)) a = update-frames z st f r s a
+  frames-kept (Event.Writeback (PageDone k good)) a = page-done-frames z st f r k good a
+  frames-kept (Event.Writeback (MapDone s good)) a = map-done-frames z st f r s good a

@@ -20,14 +20,14 @@ use Rattle.tables.specs.Store.{store, length-store}
 use Rattle.tables.specs.Questions.{Asked}
 use Rattle.model.specs.declared.sizes.Sizes.{Sizes}
 use Rattle.model.specs.declared.frame.Frame.{Frame}
-use Rattle.model.specs.declared.event.Store.the-variants.{Truncate}
+use Rattle.model.specs.declared.event.Writeback.the-variants.{Truncate}
 use Rattle.model.specs.declared.event.Event.the-variants as Event
 use Rattle.model.specs.Lines.{RELEASED}
 use Rattle.model.specs.State.{State, files, frames, noFrame, allPages, slotOf, pageOf, framed}
 use Rattle.model.specs.Questions.{questions}
 use Rattle.model.specs.Parts.{fromPage, frameOf}
-use Rattle.model.specs.Stores
-use Rattle.model.specs.Stores.{cutFrame, cutFrames, cutRecord}
+use Rattle.model.specs.Writeback
+use Rattle.model.specs.Writeback.{cutFrame, cutFrames, cutRecord}
 use Rattle.model.specs.Ruled.{Ruled, once-free}
 use Rattle.model.specs.Fit.{Fit}
 use Rattle.invariant.proofs.Lengths.{long}
@@ -224,6 +224,6 @@ module _ (z : Sizes) (st : State) (f : Fit z st) (r : Ruled z st) (s k : ℕ) wh
     });
   }
 
-  pub truncate-frames : Asked (questions z st (Event.Store (Truncate s k))) → Framed z (Stores.truncate z st s k)
-  unfolding Stores.truncate
+  pub truncate-frames : Asked (questions z st (Event.Writeback (Truncate s k))) → Framed z (Writeback.truncate z st s k)
+  unfolding Writeback.truncate
   truncate-frames a = counted-framed z _ truncate-framing

@@ -10,7 +10,7 @@ use Rattle.tables.specs.Laws.{not-zero}
 use Rattle.model.specs.declared.sizes.Sizes.{Sizes}
 use Rattle.model.specs.declared.frame.Frame.{Frame}
 use Rattle.model.specs.State.{State, files, frames, frameAt, noFrame, allPages}
-use Rattle.model.specs.Stores.{freeFrame, recordIn}
+use Rattle.model.specs.Writeback.{freeFrame, recordIn}
 use Rattle.model.specs.Ruled.{Ruled, once-free}
 use Rattle.model.specs.Fit.{Fit}
 use Rattle.invariant.proofs.Lengths.{Long}

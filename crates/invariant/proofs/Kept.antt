@@ -6,7 +6,7 @@ use Rattle.tables.specs.Queue.{size}
 use Rattle.tables.specs.Questions.{Asked, none, ask, firstNo, all-yes, yes-all}
 use Rattle.tables.specs.Rule.{Holds}
 use Rattle.model.specs.declared.sizes.Sizes.{Sizes}
-use Rattle.model.specs.declared.event.Store.the-variants.{Claim}
+use Rattle.model.specs.declared.event.Writeback.the-variants.{Claim}
 use Rattle.model.specs.declared.event.Event.{Event}
 use Rattle.model.specs.declared.event.Event.the-variants as Event
 use Rattle.model.specs.Sizes.{sizesFit}
@@ -69,9 +69,9 @@ refused-same z st e = go (answer z st e)
     go (suc n) h = (refl, refl)
 
 -- A carried-out claim looks at least once, and at most once more than the list is long.
-pub looks-bound : (z : Sizes) (st : State) → answer z st (Event.Store Claim) ≡ 0 → (1 ≤ result z st (Event.Store Claim)) × (result z st (Event.Store Claim) ≤ size (st .memory .core .removal-list) + 1)
+pub looks-bound : (z : Sizes) (st : State) → answer z st (Event.Writeback Claim) ≡ 0 → (1 ≤ result z st (Event.Writeback Claim)) × (result z st (Event.Writeback Claim) ≤ size (st .memory .core .removal-list) + 1)
 unfolding result
-looks-bound z st h = Looks.looks-bound z st (asked-all z st (Event.Store Claim) h .1 .1 .0)
+looks-bound z st h = Looks.looks-bound z st (asked-all z st (Event.Writeback Claim) h .1 .1 .0)
 
 -- ── restart, format and cuts ──
 -- Restart is carried out on every disk part that keeps the disk rules, whatever the memory holds.

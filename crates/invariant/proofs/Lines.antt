@@ -9,7 +9,7 @@ use Rattle.model.specs.declared.event.Event.{Event}
 use Rattle.model.specs.declared.event.Event.the-variants as Event
 use Rattle.model.specs.declared.event.Design.the-variants.{Limit, Create, Delete, Activate, Deactivate}
 use Rattle.model.specs.declared.event.Page.the-variants.{Fault, Read, Write, Wire, Unwire}
-use Rattle.model.specs.declared.event.Store.the-variants.{Claim, Truncate, Update, PageDone, MapDone}
+use Rattle.model.specs.declared.event.Writeback.the-variants.{Claim, Truncate, Update, PageDone, MapDone}
 use Rattle.model.specs.Lines.{allowed, RELEASED, LEAVING}
 use Rattle.model.specs.State.{State, files}
 use Rattle.model.specs.Setters.{counted}
@@ -37,8 +37,8 @@ along z st (Event.Page (Read s p w)) f k a = λ r h. inl refl
 along z st (Event.Page (Write s p w x)) f k a = λ r h. inl refl
 along z st (Event.Page (Wire s p)) f k a = λ r h. inl refl
 along z st (Event.Page (Unwire s p)) f k a = λ r h. inl refl
-along z st (Event.Store Claim) f k a = claim-done z st f k .1
-along z st (Event.Store (Truncate s n)) f k a = dropped-moves z (f .sizes .pages) s RELEASED _ _ (files st) (k .disk) (k .records) _ _ _ _ (truncate-dropped z st f k s (a .1 .1 .0) n)
-along z st (Event.Store (Update s)) f k a = dropped-moves z (f .sizes .pages) s LEAVING _ _ (files st) (k .disk) (k .records) _ _ _ _ (update-dropped z st f k s (a .1 .1 .0) (a .0))
-along z st (Event.Store (PageDone g good)) f k a = pageDone-done z st f k g good a .1
-along z st (Event.Store (MapDone s good)) f k a = mapDone-done z st f k s good a .1
+along z st (Event.Writeback Claim) f k a = claim-done z st f k .1
+along z st (Event.Writeback (Truncate s n)) f k a = dropped-moves z (f .sizes .pages) s RELEASED _ _ (files st) (k .disk) (k .records) _ _ _ _ (truncate-dropped z st f k s (a .1 .1 .0) n)
+along z st (Event.Writeback (Update s)) f k a = dropped-moves z (f .sizes .pages) s LEAVING _ _ (files st) (k .disk) (k .records) _ _ _ _ (update-dropped z st f k s (a .1 .1 .0) (a .0))
+along z st (Event.Writeback (PageDone g good)) f k a = pageDone-done z st f k g good a .1
+along z st (Event.Writeback (MapDone s good)) f k a = mapDone-done z st f k s good a .1

@@ -14,7 +14,7 @@ use Rattle.tables.specs.QueueLaws.{size-members}
 use Rattle.model.specs.declared.sizes.Sizes.{Sizes}
 use Rattle.model.specs.declared.frame.Frame.{Frame}
 use Rattle.model.specs.State.{State, frameAt}
-use Rattle.model.specs.Stores.{Looked, look, looking, warm, cooled}
+use Rattle.model.specs.Writeback.{Looked, look, looking, warm, cooled}
 use Rattle.model.specs.LookLaws.{cool, cool-at, warms, warms-le, fewer}
 use Rattle.invariant.proofs.Seats.{Cooler, cooler-same}
 

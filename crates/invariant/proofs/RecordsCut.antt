@@ -13,7 +13,7 @@ use Rattle.tables.specs.Store.{Split, at-store, length-store}
 use Rattle.model.specs.declared.sizes.Sizes.{Sizes}
 use Rattle.model.specs.State.{Disk, Memory, State, Files, files, frames, WRITING, allPages, slotOf}
 use Rattle.model.specs.Parts.{ofSlot}
-use Rattle.model.specs.Stores.{storeFrame, storeImage}
+use Rattle.model.specs.Writeback.{storeFrame, storeImage}
 use Rattle.model.specs.Acts.{landWrites, landUpdates, landed}
 use Rattle.model.specs.Restart.{formatted}
 use Rattle.model.specs.Ruled.{OnDisk, Ruled}

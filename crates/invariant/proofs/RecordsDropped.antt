@@ -9,7 +9,7 @@ use Rattle.tables.specs.Rule.{Holds, same, some, _and_}
 use Rattle.tables.specs.Store.{Split, at-store}
 use Rattle.model.specs.declared.sizes.Sizes.{Sizes}
 use Rattle.model.specs.declared.event.Event.the-variants as Event
-use Rattle.model.specs.declared.event.Store.the-variants.{Truncate, Update}
+use Rattle.model.specs.declared.event.Writeback.the-variants.{Truncate, Update}
 use Rattle.model.specs.Lines.{FILED, NULLED, LIVE, RELEASED, LEAVING, allowed}
 use Rattle.model.specs.State.{State, Files, files, allPages, slotOf}
 use Rattle.model.specs.Setters.{counted}
@@ -18,7 +18,7 @@ use Rattle.model.specs.Questions.{questions, wouldStore}
 use Rattle.model.specs.Rules
 use Rattle.model.specs.Ruled.{OnDisk, OfRecords, Ruled}
 use Rattle.model.specs.Fit.{Fit}
-use Rattle.model.specs.Stores
+use Rattle.model.specs.Writeback
 use Rattle.model.specs.Index.{slot-below, split-set}
 use Rattle.invariant.proofs.Records.{disk-alone, Kept, Moves, along-line, was, turns, stays, would-live}
 
@@ -130,8 +130,8 @@ module _ (z : Sizes) (st : State) (f : Fit z st) (r : Ruled z st) (s : ℕ) (on 
   abbrev v : Files
   v = files st
 
-  pub truncate-dropped : (k : ℕ) → (let w = files (Stores.truncate z st s k) in Dropped z s RELEASED (λ q. Holds (Stores.cutRecord z st s k q)) (λ t. ⊥) v (w .address) (w .state) (w .updating) (w .image))
-  unfolding Stores.truncate counted
+  pub truncate-dropped : (k : ℕ) → (let w = files (Writeback.truncate z st s k) in Dropped z s RELEASED (λ q. Holds (Writeback.cutRecord z st s k q)) (λ t. ⊥) v (w .address) (w .state) (w .updating) (w .image))
+  unfolding Writeback.truncate counted
   truncate-dropped k = record {
     on = on;
     kind = inl refl;
@@ -143,13 +143,13 @@ module _ (z : Sizes) (st : State) (f : Fit z st) (r : Ruled z st) (s : ℕ) (on 
       | inr t ↦ inr (λ c. t .0 (subst (λ (j : ℕ). Holds (fromPage z s k j)) (r .records .held-once (c .0) (c .1) i h q (c .2 .1) e) (c .2 .0)), t .1 ∙ e)
     ];
     none = λ i h e. elim (at-store (st .memory .held .addresses) (fromPage z s k) (λ i. 0) i (rw (f .memory .addresses) h)) [ inl t ↦ t .1 | inr t ↦ t .1 ∙ e ];
-    state = λ q h. at-store (st .memory .held .states) (Stores.cutRecord z st s k) (λ r. RELEASED) q (rw (f .memory .states) h);
+    state = λ q h. at-store (st .memory .held .states) (Writeback.cutRecord z st s k) (λ r. RELEASED) q (rw (f .memory .states) h);
     updating = λ t h. inr (λ e. e, refl);
     image = λ i h q p. inr (λ e. e, p);
   }
 
-  pub update-dropped : s < z .slots → (let w = files (Stores.update z st s) in Dropped z s LEAVING (λ q. Holds (Stores.leavingRecord z st s q)) (λ t. t ≡ s) v (w .address) (w .state) (w .updating) (w .image))
-  unfolding Stores.update counted
+  pub update-dropped : s < z .slots → (let w = files (Writeback.update z st s) in Dropped z s LEAVING (λ q. Holds (Writeback.leavingRecord z st s q)) (λ t. t ≡ s) v (w .address) (w .state) (w .updating) (w .image))
+  unfolding Writeback.update counted
   update-dropped hs = record {
     on = on;
     kind = inr (refl, refl);
@@ -157,8 +157,8 @@ module _ (z : Sizes) (st : State) (f : Fit z st) (r : Ruled z st) (s : ℕ) (on 
     line = λ q c. elim c [ inl b ↦ along-line 3 (omega arith) (nulled q b) refl | inr b ↦ along-line 7 (omega arith) (b .1) refl ];
     own = λ q c. elim c [ inl b ↦ r .records .held (b .0) (b .1) q (b .2 .1) .0 ∙ b .2 .0 .0 | inr b ↦ b .0 ];
     address = address;
-    none = λ i h e. elim (at-store (st .memory .held .addresses) (Stores.leavingPage z st s) (λ i. 0) i (rw (f .memory .addresses) h)) [ inl t ↦ t .1 | inr t ↦ t .1 ∙ e ];
-    state = λ q h. at-store (st .memory .held .states) (Stores.leavingRecord z st s) (λ r. LEAVING) q (rw (f .memory .states) h);
+    none = λ i h e. elim (at-store (st .memory .held .addresses) (Writeback.leavingPage z st s) (λ i. 0) i (rw (f .memory .addresses) h)) [ inl t ↦ t .1 | inr t ↦ t .1 ∙ e ];
+    state = λ q h. at-store (st .memory .held .states) (Writeback.leavingRecord z st s) (λ r. LEAVING) q (rw (f .memory .states) h);
     updating = λ t h. split-set (st .memory .slots .updating) s 1 t (rw (f .memory .updating) hs);
     image = λ i h q p. elim (at-store (st .memory .slots .images) (ofSlot z s) (wouldStore z st) i (rw (f .memory .images) h)) [
       | inl t ↦ let w = would-live z st i q (sym (t .1) ∙ p) in inl (t .0, (w .0, stays (address i h q (w .0)) (alive q (w .1))))
@@ -167,20 +167,20 @@ module _ (z : Sizes) (st : State) (f : Fit z st) (r : Ruled z st) (s : ℕ) (on 
   }
     where
       -- the record of a page that leaves is nulled
-      nulled : (q : ℕ) → Holds (some (allPages z) (λ i. Stores.leavingPage z st s i and same (v .address i) (suc q))) → v .state q ≡ NULLED
+      nulled : (q : ℕ) → Holds (some (allPages z) (λ i. Writeback.leavingPage z st s i and same (v .address i) (suc q))) → v .state q ≡ NULLED
       nulled q b = subst (λ (m : ℕ). v .state m ≡ NULLED) (omega (arith, b .2 .0 .1 .0 .1, b .2 .1)) (b .2 .0 .1 .0 .2)
 
       -- a live record does not leave
-      alive : (q : ℕ) → v .state q ≡ LIVE → ¬ (Holds (Stores.leavingRecord z st s q))
+      alive : (q : ℕ) → v .state q ≡ LIVE → ¬ (Holds (Writeback.leavingRecord z st s q))
       alive q e (inl b) = omega (arith, e, nulled q b)
       alive q e (inr b) = omega (arith, e, b .1)
 
-      address : (i : ℕ) → i < allPages z → (q : ℕ) → v .address i ≡ suc q → Split (Holds (Stores.leavingRecord z st s q)) (files (Stores.update z st s) .address i) 0 (suc q)
-      address i h q e = elim (at-store (st .memory .held .addresses) (Stores.leavingPage z st s) (λ i. 0) i (rw (f .memory .addresses) h)) [
+      address : (i : ℕ) → i < allPages z → (q : ℕ) → v .address i ≡ suc q → Split (Holds (Writeback.leavingRecord z st s q)) (files (Writeback.update z st s) .address i) 0 (suc q)
+      address i h q e = elim (at-store (st .memory .held .addresses) (Writeback.leavingPage z st s) (λ i. 0) i (rw (f .memory .addresses) h)) [
         | inl t ↦ inl (inl (i, h, (t .0, e)), t .1)
         | inr t ↦ inr (
           λ c. elim c [
-            | inl b ↦ t .0 (subst (λ (j : ℕ). Holds (Stores.leavingPage z st s j)) (r .records .held-once (b .0) (b .1) i h q (b .2 .1) e) (b .2 .0))
+            | inl b ↦ t .0 (subst (λ (j : ℕ). Holds (Writeback.leavingPage z st s j)) (r .records .held-once (b .0) (b .1) i h q (b .2 .1) e) (b .2 .0))
             | inr b ↦ elim (r .records .held i h q e .1) [ inl u ↦ omega (arith, u, b .1) | inr u ↦ omega (arith, u, b .1) ]
           ],
           t .1 ∙ e,
@@ -188,10 +188,10 @@ module _ (z : Sizes) (st : State) (f : Fit z st) (r : Ruled z st) (s : ℕ) (on 
       ]
 
 module _ (z : Sizes) (st : State) (f : Fit z st) (r : Ruled z st) where
-  pub truncate-records : (s k : ℕ) → Asked (questions z st (Event.Store (Truncate s k))) → Kept z (Stores.truncate z st s k)
-  unfolding Stores.truncate counted
+  pub truncate-records : (s k : ℕ) → Asked (questions z st (Event.Writeback (Truncate s k))) → Kept z (Writeback.truncate z st s k)
+  unfolding Writeback.truncate counted
   truncate-records s k a = dropped-keeps z (f .sizes .pages) s RELEASED _ _ (files st) (r .disk) (r .records) _ _ _ _ (truncate-dropped z st f r s (a .1 .1 .0) k)
 
-  pub update-records : (s : ℕ) → Asked (questions z st (Event.Store (Update s))) → Kept z (Stores.update z st s)
-  unfolding Stores.update counted
+  pub update-records : (s : ℕ) → Asked (questions z st (Event.Writeback (Update s))) → Kept z (Writeback.update z st s)
+  unfolding Writeback.update counted
   update-records s a = dropped-keeps z (f .sizes .pages) s LEAVING _ _ (files st) (r .disk) (r .records) _ _ _ _ (update-dropped z st f r s (a .1 .1 .0) (a .0))

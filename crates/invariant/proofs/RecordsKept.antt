@@ -6,7 +6,7 @@ use Rattle.model.specs.declared.event.Event.{Event}
 use Rattle.model.specs.declared.event.Event.the-variants as Event
 use Rattle.model.specs.declared.event.Design.the-variants.{Limit, Create, Delete, Activate, Deactivate}
 use Rattle.model.specs.declared.event.Page.the-variants.{Fault, Read, Write, Wire, Unwire}
-use Rattle.model.specs.declared.event.Store.the-variants.{Claim, Truncate, Update, PageDone, MapDone}
+use Rattle.model.specs.declared.event.Writeback.the-variants.{Claim, Truncate, Update, PageDone, MapDone}
 use Rattle.model.specs.State.{State}
 use Rattle.model.specs.Questions.{questions}
 use Rattle.model.specs.Ruled.{Ruled}
@@ -56,8 +56,8 @@ kept-records z st (Event.Page (Read s p w)) f r a = read-records z st f r s p w 
 kept-records z st (Event.Page (Write s p w x)) f r a = write-records z st f r s p w x a
 kept-records z st (Event.Page (Wire s p)) f r a = wire-records z st f r s p a
 kept-records z st (Event.Page (Unwire s p)) f r a = unwire-records z st f r s p a
-kept-records z st (Event.Store Claim) f r a = claim-records z st f r a
-kept-records z st (Event.Store (Truncate s k)) f r a = truncate-records z st f r s k a
-kept-records z st (Event.Store (Update s)) f r a = update-records z st f r s a
-kept-records z st (Event.Store (PageDone g good)) f r a = pageDone-records z st f r g good a
-kept-records z st (Event.Store (MapDone s good)) f r a = mapDone-records z st f r s good a
+kept-records z st (Event.Writeback Claim) f r a = claim-records z st f r a
+kept-records z st (Event.Writeback (Truncate s k)) f r a = truncate-records z st f r s k a
+kept-records z st (Event.Writeback (Update s)) f r a = update-records z st f r s a
+kept-records z st (Event.Writeback (PageDone g good)) f r a = pageDone-records z st f r g good a
+kept-records z st (Event.Writeback (MapDone s good)) f r a = mapDone-records z st f r s good a

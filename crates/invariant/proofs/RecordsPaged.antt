@@ -15,7 +15,7 @@ use Rattle.model.specs.declared.sizes.Sizes.{Sizes}
 use Rattle.model.specs.declared.frame.Frame.{Frame}
 use Rattle.model.specs.declared.event.Event.the-variants as Event
 use Rattle.model.specs.declared.event.Page.the-variants.{Fault}
-use Rattle.model.specs.declared.event.Store.the-variants.{Claim, PageDone}
+use Rattle.model.specs.declared.event.Writeback.the-variants.{Claim, PageDone}
 use Rattle.model.specs.Lines.{FREE, NULLED, LIVE}
 use Rattle.model.specs.State.{State, Files, Frames, files, frames, noFrame, NONE, READING, allPages, pageOf, live, freeCount}
 use Rattle.model.specs.Choice.{pick-below, pick-free}
@@ -24,7 +24,7 @@ use Rattle.model.specs.Questions.{questions}
 use Rattle.model.specs.Ruled.{Ruled}
 use Rattle.model.specs.Fit.{Fit}
 use Rattle.model.specs.Pages
-use Rattle.model.specs.Stores
+use Rattle.model.specs.Writeback
 use Rattle.model.specs.Index.{slot-of-page, page-below}
 use Rattle.invariant.proofs.Records.{Kept, Done, counted-done}
 use Rattle.invariant.proofs.RecordsTaken.{moved, moved-kept, free-kept}
@@ -41,7 +41,7 @@ module _ (z : Sizes) (st : State) (f : Fit z st) (r : Ruled z st) where
 
   -- ── the record of a page in a frame ──
   -- a frame that is not free has a page, and the page a record
-  pub in-frame : (g : ℕ) → g < z .frames → c .queued g ≡ 0 → (i : ℕ) × (c .frame g .page ≡ suc i) × (i < allPages z) × (v .address i ≡ suc (Stores.recordIn z st g))
+  pub in-frame : (g : ℕ) → g < z .frames → c .queued g ≡ 0 → (i : ℕ) × (c .frame g .page ≡ suc i) × (i < allPages z) × (v .address i ≡ suc (Writeback.recordIn z st g))
   in-frame g h e = let i = pred (c .frame g .page) in let p = not-zero (c .frame g .page) (r .frames .busy g h e) in
       (i, p, r .frames .fit g h .0 i p, not-zero (v .address i) (r .frames .held g h i p .0))
 
@@ -56,8 +56,8 @@ module _ (z : Sizes) (st : State) (f : Fit z st) (r : Ruled z st) where
   transfer-frame g h n = let e = r .frames .in-one-place g h in let t : _≡_ {A = ℕ} (if (eqb (c .frame g .transfer) NONE) 0 1) 1 = if-no (c .frame g .transfer) NONE 0 1 n in omega (arith, e, t)
 
   -- the record of a modified frame becomes nulled; of one in transfer, live
-  framed-moved : (g x : ℕ) → (x ≡ NULLED) ⊎ (x ≡ LIVE) → (g < z .frames) × (c .queued g ≡ 0) → Done z st (moved st (Stores.recordIn z st g) x)
-  framed-moved g x e h = let i = in-frame g (h .0) (h .1) in moved-kept z st f r (i .0) (Stores.recordIn z st g) (i .2) x e (i .3)
+  framed-moved : (g x : ℕ) → (x ≡ NULLED) ⊎ (x ≡ LIVE) → (g < z .frames) × (c .queued g ≡ 0) → Done z st (moved st (Writeback.recordIn z st g) x)
+  framed-moved g x e h = let i = in-frame g (h .0) (h .1) in moved-kept z st f r (i .0) (Writeback.recordIn z st g) (i .2) x e (i .3)
 
   -- ── fault ──
   a-free-record : 0 < st .memory .held .pool .free → (q : ℕ) × (q < z .records) × (v .state q ≡ FREE)
@@ -97,27 +97,27 @@ module _ (z : Sizes) (st : State) (f : Fit z st) (r : Ruled z st) where
   fault-records s p a = fault-done s p a .0
 
   -- ── claim ──
-  freed-done : (g : ℕ) (st′ : State) → Done z st st′ → Done z st (Stores.freeFrame g st′)
-  unfolding Stores.freeFrame
+  freed-done : (g : ℕ) (st′ : State) → Done z st st′ → Done z st (Writeback.freeFrame g st′)
+  unfolding Writeback.freeFrame
   freed-done g st′ d = d
 
-  pub claim-done : Done z st (Stores.claim z st)
-  unfolding Stores.claim
-  claim-done = counted-done z st _ (if-elim (Done z st) (Stores.beginsWrite z st) _ _ (λ t. idle)
+  pub claim-done : Done z st (Writeback.claim z st)
+  unfolding Writeback.claim
+  claim-done = counted-done z st _ (if-elim (Done z st) (Writeback.beginsWrite z st) _ _ (λ t. idle)
       (λ t. if-elim (Done z st) (eqb (c .frame g .modified) 1) _ _ (λ u. freed-done g _ (framed-moved g NULLED (inl refl) (modified-frame g (eqb→eq _ 1 u)))) (λ u. freed-done g _ idle)))
     where
       g : ℕ
-      g = Stores.looking z st .taken
+      g = Writeback.looking z st .taken
 
-  pub claim-records : Asked (questions z st (Event.Store Claim)) → Kept z (Stores.claim z st)
+  pub claim-records : Asked (questions z st (Event.Writeback Claim)) → Kept z (Writeback.claim z st)
   claim-records a = claim-done .0
 
   -- ── page done ──
-  pub pageDone-done : (g good : ℕ) → Asked (questions z st (Event.Store (PageDone g good))) → Done z st (Stores.pageDone z st g good)
-  unfolding Stores.pageDone Stores.readGood Stores.readFailed Stores.writeGood Stores.writeFailed Stores.storeFrame
+  pub pageDone-done : (g good : ℕ) → Asked (questions z st (Event.Writeback (PageDone g good))) → Done z st (Writeback.pageDone z st g good)
+  unfolding Writeback.pageDone Writeback.readGood Writeback.readFailed Writeback.writeGood Writeback.writeFailed Writeback.storeFrame
   pageDone-done g good a = counted-done z st _ (if-elim (Done z st) (eqb (c .frame g .transfer) READING) _ _
       (λ t. if-elim (Done z st) (eqb good 1) _ _ (λ u. idle) (λ u. freed-done g st idle))
       (λ t. if-elim (Done z st) (eqb good 1) _ _ (λ u. freed-done g _ (framed-moved g LIVE (inr refl) (a .0 .0, transfer-frame g (a .0 .0) (a .1 .0)))) (λ u. idle)))
 
-  pub pageDone-records : (g good : ℕ) → Asked (questions z st (Event.Store (PageDone g good))) → Kept z (Stores.pageDone z st g good)
+  pub pageDone-records : (g good : ℕ) → Asked (questions z st (Event.Writeback (PageDone g good))) → Kept z (Writeback.pageDone z st g good)
   pageDone-records g good a = pageDone-done g good a .0

@@ -11,7 +11,7 @@ use Rattle.tables.specs.Rule.{Holds}
 use Rattle.tables.specs.Store.{Split, store, at-store}
 use Rattle.model.specs.declared.sizes.Sizes.{Sizes}
 use Rattle.model.specs.declared.event.Event.the-variants as Event
-use Rattle.model.specs.declared.event.Store.the-variants.{MapDone}
+use Rattle.model.specs.declared.event.Writeback.the-variants.{MapDone}
 use Rattle.model.specs.Lines.{FREE, FILED, NULLED, LIVE, RELEASED, LEAVING}
 use Rattle.model.specs.State.{State, Files, files, allPages, slotOf}
 use Rattle.model.specs.Setters.{onDisk, onSlots, onHeld, setStates, setOwners}
@@ -19,7 +19,7 @@ use Rattle.model.specs.Questions.{questions}
 use Rattle.model.specs.Rules
 use Rattle.model.specs.Ruled.{OnDisk, OfRecords, Ruled}
 use Rattle.model.specs.Fit.{Fit}
-use Rattle.model.specs.Stores
+use Rattle.model.specs.Writeback
 use Rattle.model.specs.Index.{slot-below, split-set}
 use Rattle.invariant.proofs.Records.{Kept, Done, Moves, counted-done, along-line, was, turns, stays}
 use Rattle.invariant.proofs.RecordsLanded.{landed-keeps}
@@ -129,22 +129,22 @@ module _ (z : Sizes) (pos : 0 < z .pages) (s x : ℕ) (hs : s < z .slots) (L : �
 module _ (z : Sizes) (st : State) (f : Fit z st) (r : Ruled z st) (s : ℕ) where
   -- the two ends
   abbrev good-end : State
-  good-end = onDisk (Stores.storeImage z st s) (onSlots (Stores.updateOver z st s) (onHeld (λ h. setStates (store (h .states) (Stores.leaver z st s) (λ r. FREE)) (setOwners (store (h .owners) (Stores.leaver z st s) (λ r. 0)) h)) st))
+  good-end = onDisk (Writeback.storeImage z st s) (onSlots (Writeback.updateOver z st s) (onHeld (λ h. setStates (store (h .states) (Writeback.leaver z st s) (λ r. FREE)) (setOwners (store (h .owners) (Writeback.leaver z st s) (λ r. 0)) h)) st))
 
   abbrev failed-end : State
-  failed-end = onSlots (Stores.updateOver z st s) (onHeld (λ h. setStates (store (h .states) (Stores.leaver z st s) (λ r. RELEASED)) h) st)
+  failed-end = onSlots (Writeback.updateOver z st s) (onHeld (λ h. setStates (store (h .states) (Writeback.leaver z st s) (λ r. RELEASED)) h) st)
 
   module _ (hs : s < z .slots) (on : files st .active s ≡ 1) where
     image-split : (i : ℕ) → i < allPages z → Split (slotOf z i ≡ s) (files failed-end .image i) 0 (files st .image i)
-    unfolding Stores.updateOver
+    unfolding Writeback.updateOver
     image-split i h = at-store (st .memory .slots .images) _ _ i (rw (f .memory .images) h)
 
     updating-split : (t : ℕ) → t < z .slots → Split (t ≡ s) (files failed-end .updating t) 0 (files st .updating t)
-    unfolding Stores.updateOver
+    unfolding Writeback.updateOver
     updating-split t h = split-set (st .memory .slots .updating) s 0 t (rw (f .memory .updating) hs)
 
     pub good-stored : (let w = files good-end in Stored z s FREE (λ t. t ≡ s) (files st) (w .map) (w .state) (w .owner) (w .updating) (w .image))
-    unfolding Stores.storeImage
+    unfolding Writeback.storeImage
     good-stored = record {
       on = on;
       kind = inl (refl, refl);
@@ -152,12 +152,12 @@ module _ (z : Sizes) (st : State) (f : Fit z st) (r : Ruled z st) (s : ℕ) wher
       map = λ i h. at-store (st .disk .maps) _ _ i (rw (f .disk .maps) h);
       image = image-split;
       state = state;
-      owner = λ q h. elim (at-store (st .memory .held .owners) (Stores.leaver z st s) (λ r. 0) q (rw (f .memory .owners) h)) [ inl t ↦ inr (turns (state q h) (t .0), t .1) | inr t ↦ inl (t .1) ];
+      owner = λ q h. elim (at-store (st .memory .held .owners) (Writeback.leaver z st s) (λ r. 0) q (rw (f .memory .owners) h)) [ inl t ↦ inr (turns (state q h) (t .0), t .1) | inr t ↦ inl (t .1) ];
       updating = updating-split;
     }
       where
-        state : (q : ℕ) → q < z .records → Split (Holds (Stores.leaver z st s q)) (files good-end .state q) FREE (files st .state q)
-        state q h = at-store (st .memory .held .states) (Stores.leaver z st s) (λ r. FREE) q (rw (f .memory .states) h)
+        state : (q : ℕ) → q < z .records → Split (Holds (Writeback.leaver z st s q)) (files good-end .state q) FREE (files st .state q)
+        state q h = at-store (st .memory .held .states) (Writeback.leaver z st s) (λ r. FREE) q (rw (f .memory .states) h)
 
     pub failed-stored : (let w = files failed-end in Stored z s RELEASED (λ t. ⊥) (files st) (w .map) (w .state) (w .owner) (w .updating) (w .image))
     failed-stored = record {
@@ -166,22 +166,22 @@ module _ (z : Sizes) (st : State) (f : Fit z st) (r : Ruled z st) (s : ℕ) wher
       only = λ t e. absurd e;
       map = λ i h. inr (λ e. e, refl);
       image = image-split;
-      state = λ q h. at-store (st .memory .held .states) (Stores.leaver z st s) (λ r. RELEASED) q (rw (f .memory .states) h);
+      state = λ q h. at-store (st .memory .held .states) (Writeback.leaver z st s) (λ r. RELEASED) q (rw (f .memory .states) h);
       owner = λ q h. inl refl;
       updating = updating-split;
     }
 
     good-kept : Done z st good-end
-    unfolding Stores.storeImage Stores.updateOver
+    unfolding Writeback.storeImage Writeback.updateOver
     good-kept = (stored-keeps z (f .sizes .pages) s FREE hs (λ t. t ≡ s) (files st) (r .disk) (r .records) _ _ _ _ _ good-stored, stored-moves z (f .sizes .pages) s FREE hs (λ t. t ≡ s) (files st) (r .disk) (r .records) _ _ _ _ _ good-stored)
 
     failed-kept : Done z st failed-end
-    unfolding Stores.updateOver
+    unfolding Writeback.updateOver
     failed-kept = (stored-keeps z (f .sizes .pages) s RELEASED hs (λ t. ⊥) (files st) (r .disk) (r .records) _ _ _ _ _ failed-stored, stored-moves z (f .sizes .pages) s RELEASED hs (λ t. ⊥) (files st) (r .disk) (r .records) _ _ _ _ _ failed-stored)
 
-  pub mapDone-done : (good : ℕ) → Asked (questions z st (Event.Store (MapDone s good))) → Done z st (Stores.mapDone z st s good)
-  unfolding Stores.mapDone
+  pub mapDone-done : (good : ℕ) → Asked (questions z st (Event.Writeback (MapDone s good))) → Done z st (Writeback.mapDone z st s good)
+  unfolding Writeback.mapDone
   mapDone-done good a = counted-done z st (if (eqb good 1) good-end failed-end) (if-elim (Done z st) (eqb good 1) good-end failed-end (λ t. good-kept (a .0 .0) (a .1 .1 .0)) (λ t. failed-kept (a .0 .0) (a .1 .1 .0)))
 
-  pub mapDone-records : (good : ℕ) → Asked (questions z st (Event.Store (MapDone s good))) → Kept z (Stores.mapDone z st s good)
+  pub mapDone-records : (good : ℕ) → Asked (questions z st (Event.Writeback (MapDone s good))) → Kept z (Writeback.mapDone z st s good)
   mapDone-records good a = mapDone-done good a .0

@@ -1,5 +1,5 @@
 // The page keeper's calls, for firmware to link: all tables are lent by the caller, and no call has a precondition.
-// Each does its work on values, in crate `events`; here stands what is lent. A name with the prefix is a C symbol (include/keeper.h).
+// Each does its work on values, in crate `calls`; here stands what is lent. A name with the prefix is a C symbol (include/keeper.h).
 ghost use mathlib.Core.Path.{_≡_};
 ghost use denote.Ref.{ptr};
 ghost use Rattle.model.specs.Lent.{diskOf, stateOf};
@@ -51,7 +51,7 @@ pub extern "C" fn keeper_apply(
     let lent = frames.len();
     let values = load(frames);
     let taken = take(pool);
-    let out = events::apply_core(
+    let out = calls::apply_core(
         sizes,
         request,
         lent,
@@ -108,7 +108,7 @@ pub extern "C" fn keeper_restart(
     let lent = frames.len();
     let values = load(frames);
     let taken = take(pool);
-    let fresh = events::restart_core(
+    let fresh = calls::restart_core(
         sizes,
         lent,
         values,
@@ -148,7 +148,7 @@ pub extern "C" fn keeper_format(
 ) -> Answer
     ensures { λ r. ⌜ record { answer = r; left = diskOf (now (records .exit)) (now (numbers .exit)) (now (accounts .exit)) (now (maps .exit)) (now (limits .exit)) } ≡ format sizes (diskOf (now (records .entry)) (now (numbers .entry)) (now (accounts .entry)) (now (maps .entry)) (now (limits .entry))) ⌝ }
 {
-    events::format(sizes, records, numbers, accounts, maps, limits)
+    calls::format(sizes, records, numbers, accounts, maps, limits)
 }
 
 // A page look: the frame's own part of the lent words, and where it stands; refused, an empty part.
@@ -181,7 +181,7 @@ pub fn page_look<'a>(
 {
     let lent = frames.len();
     let values = load(frames);
-    events::looks::look_core(
+    calls::looks::look_core(
         sizes,
         slot,
         page,
@@ -238,7 +238,7 @@ pub extern "C" fn keeper_page_look(
 {
     let lent = frames.len();
     let values = load(frames);
-    events::looks::place_core(
+    calls::looks::place_core(
         sizes,
         slot,
         page,

@@ -8,12 +8,12 @@ use Rattle.tables.specs.Rule.{test}
 use Rattle.model.specs.declared.sizes.Sizes.{Sizes}
 use Rattle.model.specs.declared.event.Design.the-variants.{Limit, Create, Delete, Activate, Deactivate}
 use Rattle.model.specs.declared.event.Page.the-variants.{Fault, Read, Write, Wire, Unwire}
-use Rattle.model.specs.declared.event.Store.the-variants.{Claim, Truncate, Update, PageDone, MapDone}
+use Rattle.model.specs.declared.event.Writeback.the-variants.{Claim, Truncate, Update, PageDone, MapDone}
 use Rattle.model.specs.declared.event.Event.{Event}
 use Rattle.model.specs.declared.event.Event.the-variants as Event
 use Rattle.model.specs.State.{Disk, Memory, State, files, frames, WRITING}
 use Rattle.model.specs.Pages.{faultFrame}
-use Rattle.model.specs.Stores.{looking, beginsWrite, recordIn, storeFrame, storeImage}
+use Rattle.model.specs.Writeback.{looking, beginsWrite, recordIn, storeFrame, storeImage}
 use Rattle.model.specs.Step.{Outcome, memoryLengths, step, restart}
 use Rattle.model.specs.Restart.{formatted}
 use Rattle.model.specs.Ledger as L
@@ -36,11 +36,11 @@ fed z st (Event.Page (Read s p w)) = L.nothing
 fed z st (Event.Page (Write s p w x)) = L.wrote s p w x
 fed z st (Event.Page (Wire s p)) = L.nothing
 fed z st (Event.Page (Unwire s p)) = L.nothing
-fed z st (Event.Store Claim) = let f = looking z st .taken in L.claimed f (if (beginsWrite z st) (suc (recordIn z st f)) 0)
-fed z st (Event.Store (Truncate s k)) = L.truncated s k
-fed z st (Event.Store (Update s)) = L.began s
-fed z st (Event.Store (PageDone f good)) = L.pageEnd f good
-fed z st (Event.Store (MapDone s good)) = L.mapEnd s good
+fed z st (Event.Writeback Claim) = let f = looking z st .taken in L.claimed f (if (beginsWrite z st) (suc (recordIn z st f)) 0)
+fed z st (Event.Writeback (Truncate s k)) = L.truncated s k
+fed z st (Event.Writeback (Update s)) = L.began s
+fed z st (Event.Writeback (PageDone f good)) = L.pageEnd f good
+fed z st (Event.Writeback (MapDone s good)) = L.mapEnd s good
 
 -- ── a cut ──
 -- Each open write's record and open update's map is then old or new, whole, in any mix; the rest of the disk stays.

@@ -2,6 +2,8 @@
 use mathlib.Core.Path.{_≡_}
 use mathlib.Core.List.{List}
 use Prim.Native.Nat.{ℕ}
+use denote.Ref.{RefT}
+use denote.Triple.Both.{Both}
 use Rattle.model.specs.declared.frame.Frame.{Frame}
 use Rattle.model.specs.declared.frame.Pool.{Pool}
 use Rattle.model.specs.State.{Disk, Memory, State}
@@ -22,6 +24,34 @@ stateOf frames pool records numbers accounts maps limits words free-queue remova
   disk = diskOf records numbers accounts maps limits;
   memory = memoryOf frames pool words free-queue removal-list addresses states owners free-map active updating images used;
 }
+
+-- ── everything lent, by bare names: what the contracts speak of ──
+-- a table of numbers as a `requires` names it, and as an `ensures` does: passed, and left
+abbrev pub Ref : Type 0
+Ref = RefT (List ℕ)
+
+abbrev pub Table : Type 0
+Table = Both Ref Ref
+
+-- in a `requires`
+abbrev pub given : List Frame → Pool → Ref → Ref → Ref → Ref → Ref → Ref → Ref → Ref → Ref → Ref → Ref → Ref → Ref → Ref → Ref → Ref → State
+given frames pool records numbers accounts maps limits words free-queue removal-list addresses states owners free-map active updating images used =
+    stateOf frames pool (records .now) (numbers .now) (accounts .now) (maps .now) (limits .now) (words .now) (free-queue .now) (removal-list .now) (addresses .now)
+    (states .now) (owners .now) (free-map .now) (active .now) (updating .now) (images .now) (used .now)
+
+-- in an `ensures`: as it was passed
+abbrev pub entered : List Frame → Pool → Table → Table → Table → Table → Table → Table → Table → Table → Table → Table → Table → Table → Table → Table → Table → Table → State
+entered frames pool records numbers accounts maps limits words free-queue removal-list addresses states owners free-map active updating images used =
+    stateOf frames pool (records .entry .now) (numbers .entry .now) (accounts .entry .now) (maps .entry .now) (limits .entry .now) (words .entry .now) (free-queue .entry .now)
+    (removal-list .entry .now) (addresses .entry .now) (states .entry .now) (owners .entry .now) (free-map .entry .now) (active .entry .now) (updating .entry .now)
+    (images .entry .now) (used .entry .now)
+
+-- and as it is left
+abbrev pub left : List Frame → Pool → Table → Table → Table → Table → Table → Table → Table → Table → Table → Table → Table → Table → Table → Table → Table → Table → State
+left frames pool records numbers accounts maps limits words free-queue removal-list addresses states owners free-map active updating images used =
+    stateOf frames pool (records .exit .now) (numbers .exit .now) (accounts .exit .now) (maps .exit .now) (limits .exit .now) (words .exit .now) (free-queue .exit .now)
+    (removal-list .exit .now) (addresses .exit .now) (states .exit .now) (owners .exit .now) (free-map .exit .now) (active .exit .now) (updating .exit .now)
+    (images .exit .now) (used .exit .now)
 
 -- the pool of a state whose pool nothing looks at
 abbrev pub noPool : Pool

@@ -13,7 +13,7 @@ pub mod Index
 pub mod Choice
 pub mod Designs
 pub mod Pages
-pub mod Stores
+pub mod Writeback
 pub mod LookLaws
 pub mod Restart
 pub mod Step

@@ -13,7 +13,7 @@ use Rattle.tables.specs.Store.{choose, store}
 use Rattle.model.specs.declared.sizes.Sizes.{Sizes}
 use Rattle.model.specs.declared.event.Design.the-variants.{Limit, Create, Delete, Activate, Deactivate}
 use Rattle.model.specs.declared.event.Page.the-variants.{Fault, Read, Write, Wire, Unwire}
-use Rattle.model.specs.declared.event.Store.the-variants.{Claim, Truncate, Update, PageDone, MapDone}
+use Rattle.model.specs.declared.event.Writeback.the-variants.{Claim, Truncate, Update, PageDone, MapDone}
 use Rattle.model.specs.declared.event.Event.the-variants as Event
 use Rattle.model.specs.State
 use Rattle.model.specs.Rules
@@ -22,7 +22,7 @@ use Rattle.model.specs.Questions
 use Rattle.model.specs.Parts
 use Rattle.model.specs.Designs
 use Rattle.model.specs.Pages
-use Rattle.model.specs.Stores
+use Rattle.model.specs.Writeback
 use Rattle.model.specs.Restart
 use Rattle.model.specs.Step
 use Rattle.model.specs.Ledger
@@ -61,19 +61,19 @@ abbrev pub unwire : ℕ → ℕ → Act
 unwire s p = Acts.event (Event.Page (Unwire s p))
 
 abbrev pub claim : Act
-claim = Acts.event (Event.Store Claim)
+claim = Acts.event (Event.Writeback Claim)
 
 abbrev pub truncate : ℕ → ℕ → Act
-truncate s k = Acts.event (Event.Store (Truncate s k))
+truncate s k = Acts.event (Event.Writeback (Truncate s k))
 
 abbrev pub update : ℕ → Act
-update s = Acts.event (Event.Store (Update s))
+update s = Acts.event (Event.Writeback (Update s))
 
 abbrev pub pageDone : ℕ → ℕ → Act
-pageDone f good = Acts.event (Event.Store (PageDone f good))
+pageDone f good = Acts.event (Event.Writeback (PageDone f good))
 
 abbrev pub mapDone : ℕ → ℕ → Act
-mapDone s good = Acts.event (Event.Store (MapDone s good))
+mapDone s good = Acts.event (Event.Writeback (MapDone s good))
 
 abbrev pub restart : Act
 restart = Acts.restarting
@@ -118,7 +118,7 @@ cut fs ss = Acts.cutting (among fs) (among ss) (junk small)
 -- ── what a list answers and leaves ──
 -- the answer and the result of one act (a cut has none)
 unfoldable pub said : Sizes → World → Act → List ℕ
-unfolding all any count find those tab bits members packed times without tail head push-back push-front pop remove size first firstNo test choose store State.charged State.payer State.usedOf State.freeCount State.freeWord Rules.diskRules Rules.rangeRules Rules.recordRules Rules.queueRules Rules.frameRules Rules.countRules Rules.memoryRules Rules.allRules Setters.counted Questions.wouldStore Parts.frameOf Parts.pick Designs.limit Designs.create Designs.delete Designs.activate Designs.deactivate Pages.beginRead Pages.serveZeros Pages.takeRecord Pages.read Pages.wordRead Pages.write Pages.wire Pages.unwire Pages.lookStart Pages.faultFrame Pages.fault Stores.look Stores.looking Stores.zeros Stores.freeFrame Stores.beginsWrite Stores.claim Stores.cutFrames Stores.truncate Stores.update Stores.readGood Stores.readFailed Stores.storeFrame Stores.writeGood Stores.writeFailed Stores.pageDone Stores.storeImage Stores.updateOver Stores.mapDone Restart.formatted Restart.isListed Restart.listedAt Restart.restarted Step.allFit Step.answer Step.carried Step.result Step.step Step.format Step.restart Step.look Ledger.noWrite Ledger.noUpdate Ledger.put Ledger.over Ledger.finishWrite Ledger.finishUpdate Ledger.strikeWrite Ledger.strikeUpdate Ledger.finishWrites Ledger.finishUpdates Ledger.lose Ledger.found Ledger.recount Ledger.note Ledger.unwritten Acts.fed Acts.landWrites Acts.landUpdates Acts.landed Acts.noted Acts.act Acts.allowed Acts.legal Acts.run Acts.start junk among
+unfolding all any count find those tab bits members packed times without tail head push-back push-front pop remove size first firstNo test choose store State.charged State.payer State.usedOf State.freeCount State.freeWord Rules.diskRules Rules.rangeRules Rules.recordRules Rules.queueRules Rules.frameRules Rules.countRules Rules.memoryRules Rules.allRules Setters.counted Questions.wouldStore Parts.frameOf Parts.pick Designs.limit Designs.create Designs.delete Designs.activate Designs.deactivate Pages.beginRead Pages.serveZeros Pages.takeRecord Pages.read Pages.wordRead Pages.write Pages.wire Pages.unwire Pages.lookStart Pages.faultFrame Pages.fault Writeback.look Writeback.looking Writeback.zeros Writeback.freeFrame Writeback.beginsWrite Writeback.claim Writeback.cutFrames Writeback.truncate Writeback.update Writeback.readGood Writeback.readFailed Writeback.storeFrame Writeback.writeGood Writeback.writeFailed Writeback.pageDone Writeback.storeImage Writeback.updateOver Writeback.mapDone Restart.formatted Restart.isListed Restart.listedAt Restart.restarted Step.allFit Step.answer Step.carried Step.result Step.step Step.format Step.restart Step.look Ledger.noWrite Ledger.noUpdate Ledger.put Ledger.over Ledger.finishWrite Ledger.finishUpdate Ledger.strikeWrite Ledger.strikeUpdate Ledger.finishWrites Ledger.finishUpdates Ledger.lose Ledger.found Ledger.recount Ledger.note Ledger.unwritten Acts.fed Acts.landWrites Acts.landUpdates Acts.landed Acts.noted Acts.act Acts.allowed Acts.legal Acts.run Acts.start junk among
 said z w (Acts.event e) = let a = Step.step z (w .state) e .answer in a .refusal ∷ a .result ∷ []
 said z w Acts.restarting = let a = Step.restart z (w .state) .answer in a .refusal ∷ a .result ∷ []
 said z w (Acts.cutting writes updates m) = []

@@ -11,7 +11,7 @@ use lib.Seq.{getD-set-same, getD-set-other, set-out}
 use Rattle.tables.specs.Base.{if}
 use Rattle.model.specs.declared.frame.Frame.{Frame}
 use Rattle.model.specs.State.{frameAt, noFrame}
-use Rattle.model.specs.Stores.{warm, cooled}
+use Rattle.model.specs.Writeback.{warm, cooled}
 
 -- the frames once f is looked at
 abbrev pub cool : List Frame → ℕ → List Frame

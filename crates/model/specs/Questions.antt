@@ -9,8 +9,8 @@ use Rattle.model.specs.declared.event.Design.{Design}
 use Rattle.model.specs.declared.event.Design.the-variants.{Limit, Create, Delete, Activate, Deactivate}
 use Rattle.model.specs.declared.event.Page.{Page}
 use Rattle.model.specs.declared.event.Page.the-variants.{Fault, Read, Write, Wire, Unwire}
-use Rattle.model.specs.declared.event.Store.{Store}
-use Rattle.model.specs.declared.event.Store.the-variants.{Claim, Truncate, Update, PageDone, MapDone}
+use Rattle.model.specs.declared.event.Writeback.{Writeback}
+use Rattle.model.specs.declared.event.Writeback.the-variants.{Claim, Truncate, Update, PageDone, MapDone}
 use Rattle.model.specs.declared.event.Event.{Event}
 use Rattle.model.specs.declared.event.Event.the-variants as Event
 use Rattle.model.specs.Lines.{NULLED, RELEASED, LEAVING}
@@ -161,17 +161,17 @@ module _ (z : Sizes) (st : State) where
   pageQuestions (Wire s p) = q3 (pageRange s p) (q4 s (q8 s (q13 (page s p) (q14 (still (page s p)) (q16 (unwired (page s p)) none)))))
   pageQuestions (Unwire s p) = q3 (pageRange s p) (q4 s (q8 s (q13 (page s p) (q14 (still (page s p)) (q17 (page s p) none)))))
 
-  abbrev pub storeQuestions : Store → Questions
-  storeQuestions Claim = q21 none
-  storeQuestions (Truncate s k) = q3 (below s (z .slots) and below k (suc (z .pages))) (q4 s (q8 s (q14 (fromUp s k still) (q16 (fromUp s k unwired) none))))
-  storeQuestions (Update s) = q3 (slotRange s) (q4 s (q8 s (q10 s none)))
-  storeQuestions (PageDone f good) = q3 (below f (z .frames) and below good 2) (q22 (non (same (c .frame f .transfer) NONE)) none)
-  storeQuestions (MapDone s good) = q3 (below s (z .slots) and below good 2) (q4 s (q8 s (q22 (same (v .updating s) 1) (q23 s good none))))
+  abbrev pub writebackQuestions : Writeback → Questions
+  writebackQuestions Claim = q21 none
+  writebackQuestions (Truncate s k) = q3 (below s (z .slots) and below k (suc (z .pages))) (q4 s (q8 s (q14 (fromUp s k still) (q16 (fromUp s k unwired) none))))
+  writebackQuestions (Update s) = q3 (slotRange s) (q4 s (q8 s (q10 s none)))
+  writebackQuestions (PageDone f good) = q3 (below f (z .frames) and below good 2) (q22 (non (same (c .frame f .transfer) NONE)) none)
+  writebackQuestions (MapDone s good) = q3 (below s (z .slots) and below good 2) (q4 s (q8 s (q22 (same (v .updating s) 1) (q23 s good none))))
 
   abbrev pub questions : Event → Questions
   questions (Event.Design e) = designQuestions e
   questions (Event.Page e) = pageQuestions e
-  questions (Event.Store e) = storeQuestions e
+  questions (Event.Writeback e) = writebackQuestions e
 
   -- a page look asks as a read does
   abbrev pub lookQuestions : ℕ → ℕ → Questions

@@ -7,7 +7,7 @@ use Rattle.model.specs.declared.event.Event.{Event}
 use Rattle.model.specs.declared.event.Event.the-variants as Event
 use Rattle.model.specs.declared.event.Design.the-variants as Design
 use Rattle.model.specs.declared.event.Page.the-variants as Page
-use Rattle.model.specs.declared.event.Store.the-variants as Store
+use Rattle.model.specs.declared.event.Writeback.the-variants as Store
 use Rattle.model.specs.declared.request.Request.{Request}
 use Rattle.model.specs.declared.request.Decoded.{Decoded}
 use Rattle.model.specs.declared.request.Decoded.the-variants.{Known, Unknown}
@@ -41,13 +41,13 @@ pageKinds r =
     ∷ []
 
 -- "08 claim"; "0B truncate slot k; 0C update slot; 0D page done frame good; 0E map done slot good"
-abbrev pub storeKinds : Request → List Kind
-storeKinds r =
-    kind 8 (Event.Store Store.Claim)
-    ∷ kind 11 (Event.Store (Store.Truncate (r .first) (r .second)))
-    ∷ kind 12 (Event.Store (Store.Update (r .first)))
-    ∷ kind 13 (Event.Store (Store.PageDone (r .first) (r .second)))
-    ∷ kind 14 (Event.Store (Store.MapDone (r .first) (r .second)))
+abbrev pub writebackKinds : Request → List Kind
+writebackKinds r =
+    kind 8 (Event.Writeback Store.Claim)
+    ∷ kind 11 (Event.Writeback (Store.Truncate (r .first) (r .second)))
+    ∷ kind 12 (Event.Writeback (Store.Update (r .first)))
+    ∷ kind 13 (Event.Writeback (Store.PageDone (r .first) (r .second)))
+    ∷ kind 14 (Event.Writeback (Store.MapDone (r .first) (r .second)))
     ∷ []
 
 -- the event of the first kind with this tag
@@ -56,7 +56,7 @@ tagged t [] = Unknown
 tagged t (k ∷ ks) = if (eqb t (k .tag)) (Known (k .event)) (tagged t ks)
 
 unfoldable pub decoded : Request → Decoded
-decoded r = tagged (r .kind) (designKinds r ++ pageKinds r ++ storeKinds r)
+decoded r = tagged (r .kind) (designKinds r ++ pageKinds r ++ writebackKinds r)
 
 -- the paper's number for each case
 abbrev pub decodedNumber : Decoded → ℕ

@@ -9,7 +9,7 @@ use Rattle.model.specs.declared.sizes.Sizes.{Sizes}
 use Rattle.model.specs.declared.event.Answer.{Answer}
 use Rattle.model.specs.declared.event.Design.the-variants.{Limit, Create, Delete, Activate, Deactivate}
 use Rattle.model.specs.declared.event.Page.the-variants.{Fault, Read, Write, Wire, Unwire}
-use Rattle.model.specs.declared.event.Store.the-variants.{Claim, Truncate, Update, PageDone, MapDone}
+use Rattle.model.specs.declared.event.Writeback.the-variants.{Claim, Truncate, Update, PageDone, MapDone}
 use Rattle.model.specs.declared.event.Event.{Event}
 use Rattle.model.specs.declared.event.Event.the-variants as Event
 use Rattle.model.specs.Sizes.{sizesFit}
@@ -18,7 +18,7 @@ use Rattle.model.specs.Rules.{diskRules, allRules}
 use Rattle.model.specs.Questions.{questions, lookQuestions}
 use Rattle.model.specs.Designs
 use Rattle.model.specs.Pages
-use Rattle.model.specs.Stores
+use Rattle.model.specs.Writeback
 use Rattle.model.specs.Restart.{formatted, restarted}
 
 -- ── question 1: sizes within limits, every slice of its exact length? ──
@@ -56,11 +56,11 @@ module _ (z : Sizes) (st : State) where
   carried (Event.Page (Write s p w x)) = Pages.write z st s p w x
   carried (Event.Page (Wire s p)) = Pages.wire z st s p
   carried (Event.Page (Unwire s p)) = Pages.unwire z st s p
-  carried (Event.Store Claim) = Stores.claim z st
-  carried (Event.Store (Truncate s k)) = Stores.truncate z st s k
-  carried (Event.Store (Update s)) = Stores.update z st s
-  carried (Event.Store (PageDone f good)) = Stores.pageDone z st f good
-  carried (Event.Store (MapDone s good)) = Stores.mapDone z st s good
+  carried (Event.Writeback Claim) = Writeback.claim z st
+  carried (Event.Writeback (Truncate s k)) = Writeback.truncate z st s k
+  carried (Event.Writeback (Update s)) = Writeback.update z st s
+  carried (Event.Writeback (PageDone f good)) = Writeback.pageDone z st f good
+  carried (Event.Writeback (MapDone s good)) = Writeback.mapDone z st s good
 
   -- its result: 0 unless paper 01 names one
   unfoldable pub result : Event → ℕ
@@ -70,11 +70,11 @@ module _ (z : Sizes) (st : State) where
   result (Event.Page (Write s p w x)) = 0
   result (Event.Page (Wire s p)) = 0
   result (Event.Page (Unwire s p)) = 0
-  result (Event.Store Claim) = Stores.looking z st .looks
-  result (Event.Store (Truncate s k)) = 0
-  result (Event.Store (Update s)) = 0
-  result (Event.Store (PageDone f good)) = 0
-  result (Event.Store (MapDone s good)) = 0
+  result (Event.Writeback Claim) = Writeback.looking z st .looks
+  result (Event.Writeback (Truncate s k)) = 0
+  result (Event.Writeback (Update s)) = 0
+  result (Event.Writeback (PageDone f good)) = 0
+  result (Event.Writeback (MapDone s good)) = 0
 
 -- ── the calls ──
 -- an answer and what it leaves
@@ -114,8 +114,8 @@ in-order z st (Event.Page (Read s p w)) = tt
 in-order z st (Event.Page (Write s p w x)) = tt
 in-order z st (Event.Page (Wire s p)) = tt
 in-order z st (Event.Page (Unwire s p)) = tt
-in-order z st (Event.Store Claim) = tt
-in-order z st (Event.Store (Truncate s k)) = tt
-in-order z st (Event.Store (Update s)) = tt
-in-order z st (Event.Store (PageDone f good)) = tt
-in-order z st (Event.Store (MapDone s good)) = tt
+in-order z st (Event.Writeback Claim) = tt
+in-order z st (Event.Writeback (Truncate s k)) = tt
+in-order z st (Event.Writeback (Update s)) = tt
+in-order z st (Event.Writeback (PageDone f good)) = tt
+in-order z st (Event.Writeback (MapDone s good)) = tt

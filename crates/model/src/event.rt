@@ -50,7 +50,7 @@ pub enum Page {
 }
 
 // Events that free frames and records, or that move pages and maps to the disk.
-pub enum Store {
+pub enum Writeback {
     Claim,
     Truncate { slot: usize, count: usize },
     Update { slot: usize },
@@ -61,7 +61,7 @@ pub enum Store {
 pub enum Event {
     Design(Design),
     Page(Page),
-    Store(Store),
+    Writeback(Writeback),
 }
 
 // refusal: 0, or the number of the first question that fails; result: 0 on every refusal.

@@ -1,11 +1,11 @@
 // A request as numbers, and the event that it asks for.
 ghost use mathlib.Core.List.{_++_};
 ghost use mathlib.Core.Path.{_≡_};
-ghost use Rattle.model.specs.Requests.{tagged, pageKinds, storeKinds, decoded};
+ghost use Rattle.model.specs.Requests.{tagged, pageKinds, writebackKinds, decoded};
 use crate::event::Design;
 use crate::event::Event;
 use crate::event::Page;
-use crate::event::Store;
+use crate::event::Writeback;
 
 // kind: the event program's tag; then the event's values, in that program's order. What a kind has no use for is ignored.
 #[repr(C)]
@@ -49,7 +49,7 @@ pub fn decode(request: Request) -> Decoded
 
 // .. then among those about one page.
 fn page(request: Request) -> Decoded
-    ensures { λ r. ⌜ r ≡ tagged (request .kind) (pageKinds request ++ storeKinds request) ⌝ }
+    ensures { λ r. ⌜ r ≡ tagged (request .kind) (pageKinds request ++ writebackKinds request) ⌝ }
 {
     let kind = request.kind;
     let slot = request.first as usize;
@@ -66,34 +66,34 @@ fn page(request: Request) -> Decoded
         },
         9 => Page::Wire { slot, page },
         10 => Page::Unwire { slot, page },
-        _ => return store(request),
+        _ => return writeback(request),
     };
     Decoded::Known(Event::Page(event))
 }
 
 // .. and last among those that free or move.
-fn store(request: Request) -> Decoded
-    ensures { λ r. ⌜ r ≡ tagged (request .kind) (storeKinds request) ⌝ }
+fn writeback(request: Request) -> Decoded
+    ensures { λ r. ⌜ r ≡ tagged (request .kind) (writebackKinds request) ⌝ }
 {
     let kind = request.kind;
     let first = request.first as usize;
     let second = request.second as usize;
     let event = match kind {
-        8 => Store::Claim,
-        11 => Store::Truncate {
+        8 => Writeback::Claim,
+        11 => Writeback::Truncate {
             slot: first,
             count: second,
         },
-        12 => Store::Update { slot: first },
-        13 => Store::PageDone {
+        12 => Writeback::Update { slot: first },
+        13 => Writeback::PageDone {
             frame: first,
             good: second,
         },
-        14 => Store::MapDone {
+        14 => Writeback::MapDone {
             slot: first,
             good: second,
         },
         _ => return Decoded::Unknown,
     };
-    Decoded::Known(Event::Store(event))
+    Decoded::Known(Event::Writeback(event))
 }

@@ -31,7 +31,7 @@ use Rattle.model.specs.Questions.{questions}
 use Rattle.model.specs.Step.{carried, result}
 use Rattle.model.specs.Own.{own, refusal}
 use Rattle.model.specs.OwnLaws.{done, own-no, own-yes}
-use Rattle.parts.specs.FrameLaws.{take-frame}
+use Rattle.leaves.specs.FrameLaws.{take-frame}
 use Rattle.pages.specs.Seen.{seenFault}
 use Rattle.pages.specs.Needs.{Queued}
 use Rattle.pages.specs.Asks.{slotAsked}

@@ -15,8 +15,8 @@ use Rattle.model.specs.Parts.{pick}
 use Rattle.model.specs.Choice.{pick-below, pick-free}
 use Rattle.model.specs.Fit.{Within}
 use Rattle.tables.specs.Marks.{bitOf}
-use Rattle.parts.specs.FreeMap.{toldBy, freeMap, free-map, bit-on, word-inside}
-use Rattle.parts.specs.Picks.{pick-told}
+use Rattle.leaves.specs.FreeMap.{toldBy, freeMap, free-map, bit-on, word-inside}
+use Rattle.leaves.specs.Picks.{pick-told}
 use Rattle.pages.specs.Needs.{Pooled}
 
 pub may-null : T (allowed FREE NULLED)

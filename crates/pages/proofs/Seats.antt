@@ -14,7 +14,7 @@ use Rattle.model.specs.declared.sizes.Sizes.{Sizes}
 use Rattle.model.specs.declared.frame.Frame.{Frame}
 use Rattle.model.specs.State.{Frames, frameAt}
 use Rattle.model.specs.Parts.{frameOf}
-use Rattle.parts.specs.FrameLaws.{frame-take, take-frame, frame-found}
+use Rattle.leaves.specs.FrameLaws.{frame-take, take-frame, frame-found}
 use Rattle.pages.specs.Asks.{seat, inFrame, ofFrame}
 use Rattle.pages.specs.Needs.{Seats}
 

@@ -21,7 +21,7 @@ use Rattle.model.specs.Pages as Pages
 use Rattle.model.specs.Step.{carried}
 use Rattle.model.specs.Own.{own, refusal, first-no}
 use Rattle.model.specs.OwnLaws.{done, own-no, own-yes}
-use Rattle.parts.specs.FrameLaws.{frame-take}
+use Rattle.leaves.specs.FrameLaws.{frame-take}
 use Rattle.pages.specs.Seen.{seen}
 use Rattle.pages.specs.Needs.{Seats, RemovalList}
 use Rattle.pages.specs.Asks.{seat, slotAsked, frameAsked, isUnwired, unwiredAsked, wiredAsked}

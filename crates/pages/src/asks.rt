@@ -9,13 +9,13 @@ ghost use Rattle.model.specs.State.{pageOf};
 ghost use Rattle.model.specs.Fit.{Within};
 ghost use Rattle.pages.specs.Asks.{seat, slotAsked, frameAsked};
 ghost use Rattle.pages.specs.Needs.{Seats};
+use leaves::cells::at8;
+use leaves::cells::at32;
+use leaves::frames::frame_at;
+use leaves::frames::frame_of;
 use model::frame::Frame;
 use model::frame::NONE;
 use model::sizes::Sizes;
-use parts::cells::at8;
-use parts::cells::at32;
-use parts::frames::frame_at;
-use parts::frames::frame_of;
 
 // The page's place in a table of pages.
 pub fn page_of(sizes: Sizes, slot: usize, page: usize) -> usize

@@ -15,6 +15,18 @@ ghost use Rattle.model.specs.Pages.{awaiting, fresh};
 ghost use Rattle.model.specs.Fit.{Within};
 ghost use Rattle.pages.specs.Needs.{Seats, Pooled};
 ghost use Rattle.pages.specs.Faults.{wayOf, awayAsked, supplyAsked, cleared, charged1};
+use leaves::cells::at8;
+use leaves::cells::at16;
+use leaves::cells::put8;
+use leaves::cells::put16;
+use leaves::frames::frame_at;
+use leaves::frames::frame_of;
+use leaves::frames::with_frame;
+use leaves::marks::clear_mark;
+use leaves::pool::pick;
+use leaves::queue::push_front;
+use leaves::states::move_record;
+use leaves::words::clear_part;
 use model::frame::Frame;
 use model::frame::NONE;
 use model::frame::Pool;
@@ -22,18 +34,6 @@ use model::frame::READING;
 use model::lines::LIVE;
 use model::lines::NULLED;
 use model::sizes::Sizes;
-use parts::cells::at8;
-use parts::cells::at16;
-use parts::cells::put8;
-use parts::cells::put16;
-use parts::frames::frame_at;
-use parts::frames::frame_of;
-use parts::frames::with_frame;
-use parts::marks::clear_mark;
-use parts::pool::pick;
-use parts::queue::push_front;
-use parts::states::move_record;
-use parts::words::clear_part;
 
 // 0: the page has no address; 1: one that is not live; 2: a live one.
 pub fn way_of(page: usize, addresses: &[u16], states: &[u8]) -> u8

@@ -61,7 +61,7 @@ fn carry(
     let frames = now.frames;
     let pool = now.pool;
     if asked.kind == CUT {
-        return events::restart_core(
+        return calls::restart_core(
             sizes(),
             2,
             frames,
@@ -84,7 +84,7 @@ fn carry(
             used,
         );
     }
-    events::apply_core(
+    calls::apply_core(
         sizes(),
         asked,
         2,
@@ -172,7 +172,7 @@ pub fn run() {
     let mut used = [0u16; 1];
     let mut buffer = io::buffer();
     lines::header();
-    events::format(
+    calls::format(
         sizes(),
         &mut records,
         &mut numbers,

@@ -18,7 +18,7 @@ use Rattle.model.specs.declared.sizes.Sizes.{Sizes}
 use Rattle.model.specs.Lines.{FREE, FILED}
 use Rattle.model.specs.State.{Files, Frames, allPages, slotOf, mapWords, payer, usedOf, freeWord}
 use Rattle.tables.specs.Marks.{bitOf}
-use Rattle.parts.specs.FreeMap.{freeMap, free-map, isFree, bit-off, free-map-set, free-map-same}
+use Rattle.leaves.specs.FreeMap.{freeMap, free-map, isFree, bit-off, free-map-set, free-map-same}
 use Rattle.restarts.specs.Filled.{Filled, filled-same, filled-set, at-zeros}
 
 -- ── used counts ──

@@ -23,7 +23,7 @@ use Rattle.model.specs.Rules.{fit, once}
 use Rattle.model.specs.Setters.{counted}
 use Rattle.model.specs.Restart.{restarted, isListed, listedAt}
 use Rattle.model.specs.Bounds.{pages-most}
-use Rattle.parts.specs.FreeMap.{freeMap}
+use Rattle.leaves.specs.FreeMap.{freeMap}
 use Rattle.restarts.specs.Filled.{Filled, filled-tab, at-zeros}
 use Rattle.restarts.specs.Filed.{filedStates, filedOwners}
 use Rattle.restarts.specs.Counts.{listedUsed, used-inactive}

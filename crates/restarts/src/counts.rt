@@ -5,13 +5,13 @@ ghost use lib.ListN.{length};
 ghost use Rattle.tables.specs.Base.{at};
 ghost use Rattle.tables.specs.Rule.{Holds, each, below};
 ghost use Rattle.model.specs.State.{freeCount, mapWords};
-ghost use Rattle.parts.specs.FreeMap.{freeMap};
+ghost use Rattle.leaves.specs.FreeMap.{freeMap};
 ghost use Rattle.restarts.specs.Counts.{listedUsed};
 use crate::zero::zero16;
 use crate::zero::zero32;
+use leaves::marks::set_mark;
 use model::lines::FREE;
 use model::sizes::Sizes;
-use parts::marks::set_mark;
 
 // One pass over the maps: each entry above 0 counts for its slot's account.
 pub fn count_used(pages: usize, accounts: &[u16], maps: &[u16], used: &mut [u16])

@@ -67,10 +67,10 @@ use Rattle.keeper.proofs.Handed.{An, O, fs-val, pool-val, answer-val, F
 use Rattle.keeper.proofs.Callees.{P, table-val, Load, Save, Take, Deposit, to-load, to-save, to-take, to-deposit, goes-load, goes-save, goes-take, goes-deposit, load-of, save-of, take-of, deposit-of, cited-load, cited-save, cited-take, cited-deposit}
 use Rattle.keeper.proofs.frames.load as load′
 use Rattle.keeper.proofs.frames.load.Symbol.{name as #load}
-use Rattle.events.proofs.apply_core as core
-use Rattle.events.proofs.apply_core.Symbol as core-def
-use Rattle.events.proofs.apply_core.Symbol.{name as #core}
-use Rattle.events.proofs.apply_core.Met as core-thm
+use Rattle.calls.proofs.apply_core as core
+use Rattle.calls.proofs.apply_core.Symbol as core-def
+use Rattle.calls.proofs.apply_core.Symbol.{name as #core}
+use Rattle.calls.proofs.apply_core.Met as core-thm
 use Rattle.keeper.proofs.frames.save as save
 use Rattle.keeper.proofs.frames.save.Symbol.{name as #save}
 use Rattle.keeper.proofs.pool.take as take

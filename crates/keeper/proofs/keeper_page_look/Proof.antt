@@ -60,10 +60,10 @@ use Rattle.keeper.proofs.Callees.{P, table-val, Load, to-load, goes-loa
 use Rattle.keeper.proofs.Handed.{typed-pool}
 use Rattle.keeper.proofs.frames.load as load′
 use Rattle.keeper.proofs.frames.load.Symbol.{name as #load}
-use Rattle.events.proofs.looks.place_core as core
-use Rattle.events.proofs.looks.place_core.Symbol as core-def
-use Rattle.events.proofs.looks.place_core.Symbol.{name as #core}
-use Rattle.events.proofs.looks.place_core.Met as core-thm
+use Rattle.calls.proofs.looks.place_core as core
+use Rattle.calls.proofs.looks.place_core.Symbol as core-def
+use Rattle.calls.proofs.looks.place_core.Symbol.{name as #core}
+use Rattle.calls.proofs.looks.place_core.Met as core-thm
 use Rattle.keeper.proofs.keeper_page_look.Key.{name as #key}
 use Rattle.keeper.proofs.keeper_page_look as fn
 use Rattle.keeper.proofs.keeper_page_look.Statement as stated

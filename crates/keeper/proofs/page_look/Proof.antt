@@ -61,10 +61,10 @@ use Rattle.keeper.proofs.Callees.{P, table-val, Load, to-load, goes-loa
 use Rattle.keeper.proofs.Handed.{typed-pool}
 use Rattle.keeper.proofs.frames.load as load′
 use Rattle.keeper.proofs.frames.load.Symbol.{name as #load}
-use Rattle.events.proofs.looks.look_core as core
-use Rattle.events.proofs.looks.look_core.Symbol as core-def
-use Rattle.events.proofs.looks.look_core.Symbol.{name as #core}
-use Rattle.events.proofs.looks.look_core.Met as core-thm
+use Rattle.calls.proofs.looks.look_core as core
+use Rattle.calls.proofs.looks.look_core.Symbol as core-def
+use Rattle.calls.proofs.looks.look_core.Symbol.{name as #core}
+use Rattle.calls.proofs.looks.look_core.Met as core-thm
 use Rattle.keeper.proofs.page_look.Key.{name as #key}
 use Rattle.keeper.proofs.page_look as fn
 use Rattle.keeper.proofs.page_look.Statement as stated

@@ -6,7 +6,7 @@ use Prim.Native.Nat.{ℕ, _+_, _-_, _*_, _<_, _≤_}
 use borrow.Author.Count.{below-more}
 use Rattle.tables.specs.Base.{at}
 use Rattle.tables.specs.Rule.{told, untold}
-use Rattle.parts.specs.Addresses.{liveAddress}
+use Rattle.leaves.specs.Addresses.{liveAddress}
 use Rattle.designs.specs.Asks.{trueMap}
 use Rattle.designs.proofs.maps.map_true.Statement.{statement}
 use Rattle.designs.proofs.maps.map_true.Tie as tie

@@ -2,7 +2,7 @@
 use borrow.Author.Needs.{needs}
 use mathlib.Core.Path.{_∙_}
 use mathlib.Core.List.{_++_}
-use Rattle.model.specs.Requests.{designKinds, pageKinds, storeKinds, decoded}
+use Rattle.model.specs.Requests.{designKinds, pageKinds, writebackKinds, decoded}
 use Rattle.model.proofs.Tagged.{passed}
 use Rattle.model.proofs.request.decode.Statement.{statement}
 use Rattle.model.proofs.request.decode.Tie as tie
@@ -10,7 +10,7 @@ use Rattle.model.proofs.request.decode.Tie as tie
 returns : tie.Need-returns
 unfolding decoded
 returns c = let r = c .before .before .before .before .args .request in
-    c .page .ensures ∙ passed (r .kind) Unit (designKinds r) (pageKinds r ++ storeKinds r) (c .before .match .rest)
+    c .page .ensures ∙ passed (r .kind) Unit (designKinds r) (pageKinds r ++ writebackKinds r) (c .before .match .rest)
 
 pub decode-spec : {M : Type 1} → statement M
 unfolding decoded

@@ -12,7 +12,7 @@ use Rattle.tables.specs.Laws.{count-bound, length-tab}
 use Rattle.model.specs.Lines.{FREE}
 use Rattle.model.specs.State.{freeCount, freeWord, mapWords}
 use Rattle.tables.specs.Marks.{bitOf}
-use Rattle.parts.specs.FreeMap.{freeMap}
+use Rattle.leaves.specs.FreeMap.{freeMap}
 use Rattle.restarts.specs.Counts.{passed, free-none, free-more, free-less, free-start, free-end, bit-ahead, free-on, free-off}
 use Rattle.restarts.proofs.counts.build_free_map.Statement.{statement}
 use Rattle.restarts.proofs.counts.build_free_map.Tie as tie

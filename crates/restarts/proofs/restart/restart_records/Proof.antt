@@ -6,7 +6,7 @@ use Prim.Native.Nat.{ℕ}
 use Rattle.tables.specs.Base.{at}
 use Rattle.model.specs.State.{freeCount}
 use Rattle.model.specs.Restart.{restarted}
-use Rattle.parts.specs.FreeMap.{freeMap}
+use Rattle.leaves.specs.FreeMap.{freeMap}
 use Rattle.restarts.specs.Filed.{filedStates, filedOwners}
 use Rattle.restarts.specs.Counts.{listedUsed}
 use Rattle.restarts.specs.Restarts.{seen, poolOf, to-file, to-count, restarted-states, restarted-owners, restarted-free-map, restarted-pool, restarted-used}

@@ -1,0 +1,120 @@
+-- `restart_core` meets its contract: refused by question 1 or 2, or every table set anew.
+use borrow.Author.Needs.{needs}
+use mathlib.Core.Path.{_≡_, refl, sym, _∙_}
+use mathlib.Core.Bool.{true}
+use mathlib.Core.List.{List}
+use Rattle.tables.specs.Rule.{test}
+use Rattle.tables.specs.Turn.{learn}
+use Rattle.model.specs.declared.frame.Frame.{Frame}
+use Rattle.model.specs.State.{State}
+use Rattle.model.specs.Rules.{diskRules}
+use Rattle.model.specs.Lent.{stateOf}
+use Rattle.model.specs.Step.{allFit}
+use Rattle.model.specs.Fit.{sizes-fit, fit-disk}
+use Rattle.model.specs.Calls.{framesOf, length-frames}
+use Rattle.restarts.specs.Restarts.{seen, ready}
+use Rattle.restarts.specs.Answers.{fit-told, disk-told, restarted-tables, restart-unfit, restart-unruled}
+use Rattle.calls.specs.Frames.{all-lent}
+use Rattle.calls.specs.Restarting.{restarted-lent, restart-left}
+use Rattle.calls.proofs.restart_core.Statement.{statement}
+use Rattle.calls.proofs.restart_core.Tie as tie
+
+-- the state by its frames
+abbrev at : tie.Start → List Frame → State
+at s l = let a = s .args in stateOf l (a .pool) (a .records .now) (a .numbers .now) (a .accounts .now) (a .maps .now) (a .limits .now) (a .frame-words .now) (a .free-queue .now) (a .removal-list .now) (a .addresses .now) (a .states .now) (a .owners .now) (a .free-map .now) (a .active .now) (a .updating .now) (a .images .now) (a .used .now)
+
+abbrev lent : tie.Start → State
+lent s = at s (framesOf (s .args .frames) (s .args .lent))
+
+returns : tie.Need-returns
+returns c =
+    let s = c .before .before .before .before .before .before .before .before .before .before .before .before .before .before .before .before .before .before .before .before .before .before .before .before .before .before .before .before .before in
+    let a = s .args in
+    restart-unfit (a .sizes) (lent s)
+    (sym (c .if1 .left) ∙ c .before .all-fit .ensures (framesOf (a .frames) (a .lent)) (a .pool) (length-frames (a .frames) (a .lent)))
+
+fitted : (c : tie.Then1) → (let s = c .before .before .before .before .before .before .before .before .before .before .before .before .before .before .before .before .before .before .before .before .before .before .before .before .before .before .before .before .before in true ≡ test (allFit (s .args .sizes) (lent s)))
+fitted c =
+    let s = c .before .before .before .before .before .before .before .before .before .before .before .before .before .before .before .before .before .before .before .before .before .before .before .before .before .before .before .before .before in
+    let a = s .args in
+    sym (c .if1 .taken) ∙ c .before .all-fit .ensures (framesOf (a .frames) (a .lent)) (a .pool) (length-frames (a .frames) (a .lent))
+
+disk-rules-requires : tie.Need-disk-rules-requires
+disk-rules-requires c κs =
+    let s = c .before .before .before .before .before .before .before .before .before .before .before .before .before .before .before .before .before .before .before .before .before .before .before .before .before .before .before .before .before in
+    let f = fit-told (s .args .sizes) (lent s) (fitted c) in
+    (sizes-fit (s .args .sizes) (f .sizes), fit-disk (s .args .sizes) (lent s .disk) (f .disk))
+
+returns-2 : tie.Need-returns-2
+returns-2 c =
+    let k = c .before .before in
+    let s = k .before .before .before .before .before .before .before .before .before .before .before .before .before .before .before .before .before .before .before .before .before .before .before .before .before .before .before .before .before in
+    restart-unruled (s .args .sizes) (lent s) (fitted k) (sym (c .if2 .left) ∙ c .before .disk-rules .ensures (lent s .memory))
+
+listed : (c : tie.Then2) → (let s = c .before .before .before .before .before .before .before .before .before .before .before .before .before .before .before .before .before .before .before .before .before .before .before .before .before .before .before .before .before .before .before in true ≡ test (diskRules (s .args .sizes) (lent s)))
+listed c = let s = c .before .before .before .before .before .before .before .before .before .before .before .before .before .before .before .before .before .before .before .before .before .before .before .before .before .before .before .before .before .before .before in sym (c .if2 .taken) ∙ c .before .disk-rules .ensures (lent s .memory)
+
+restart-tables-requires : tie.Need-restart-tables-requires
+restart-tables-requires c κs =
+    let h = c .before .before .before .before .before .before .before .before .before .before .before in
+    let k = h .before .before in
+    let s = k .before .before .before .before .before .before .before .before .before .before .before .before .before .before .before .before .before .before .before .before .before .before .before .before .before .before .before .before .before in
+    ready (s .args .sizes) (lent s) (fit-told (s .args .sizes) (lent s) (fitted k)) (disk-told (s .args .sizes) (lent s) (listed h))
+
+returns-3 : tie.Need-returns-3
+returns-3 c =
+    let t = c .before .before .before .before .before .before .before .before .before .before .before .before .before .before .before .before .before .before .before .before .before .before .restart-tables in
+    let h = c .before .before .before .before .before .before .before .before .before .before .before .before .before .before .before .before .before .before .before .before .before .before .before .before .before .before .before .before .before .before .before .before .before .before in
+    let k = h .before .before in
+    let s = k .before .before .before .before .before .before .before .before .before .before .before .before .before .before .before .before .before .before .before .before .before .before .before .before .before .before .before .before .before in
+    let a = s .args in
+    let e = t .ensures in
+    restart-left (a .sizes) (lent s) _ (t .result .answer) (e .0)
+    (restarted-tables (a .sizes) (lent s .disk)
+    (restarted-lent (a .sizes) (seen (a .accounts .now) (a .maps .now)) (t .result .frames) (a .lent) (all-lent (a .sizes) (at s) (λ l. refl) (a .frames) (a .lent) (learn (allFit (a .sizes) (lent s)) (fitted k))) (e .1 .0))
+    (e .1 .1 .1 .1 .1 .1 .1 .1 .1 .0) (e .1 .1 .0) (e .1 .1 .1 .0) (e .1 .1 .1 .1 .0) (e .1 .1 .1 .1 .1 .0) (e .1 .1 .1 .1 .1 .1 .0) (e .1 .1 .1 .1 .1 .1 .1 .0) (e .1 .1 .1 .1 .1 .1 .1 .1 .0) (e .1 .1 .1 .1 .1 .1 .1 .1 .1 .1 .0) (e .1 .1 .1 .1 .1 .1 .1 .1 .1 .1 .1 .0) (e .1 .1 .1 .1 .1 .1 .1 .1 .1 .1 .1 .1 .0) (e .1 .1 .1 .1 .1 .1 .1 .1 .1 .1 .1 .1 .1))
+    (fitted k) (listed h)
+
+pub restart-core-spec : {M : Type 1} → statement M
+restart-core-spec =
+    tie.close
+    (tie.spec
+    (λ c κs. search needs)
+    (λ c. refl)
+    (λ c. refl)
+    (λ c. refl)
+    (λ c. refl)
+    (λ c. refl)
+    (λ c. refl)
+    (λ c. refl)
+    (λ c. refl)
+    (λ c. refl)
+    (λ c. refl)
+    (λ c. refl)
+    returns
+    disk-rules-requires
+    (λ c. refl)
+    (λ c. refl)
+    (λ c. refl)
+    (λ c. refl)
+    (λ c. refl)
+    (λ c. refl)
+    (λ c. refl)
+    (λ c. refl)
+    (λ c. refl)
+    (λ c. refl)
+    (λ c. refl)
+    returns-2
+    restart-tables-requires
+    (λ c. c .before .before .before .before .before .before .before .before .before .before .before .before .before .before .before .before .before .before .before .before .before .before .restart-tables .kept .1 .1 .1 .0)
+    (λ c. c .before .before .before .before .before .before .before .before .before .before .before .before .before .before .before .before .before .before .before .before .before .before .restart-tables .kept .1 .1 .1 .1 .0)
+    (λ c. c .before .before .before .before .before .before .before .before .before .before .before .before .before .before .before .before .before .before .before .before .before .before .restart-tables .kept .1 .1 .1 .1 .1 .0)
+    (λ c. c .before .before .before .before .before .before .before .before .before .before .before .before .before .before .before .before .before .before .before .before .before .before .restart-tables .kept .1 .1 .1 .1 .1 .1 .0)
+    (λ c. c .before .before .before .before .before .before .before .before .before .before .before .before .before .before .before .before .before .before .before .before .before .before .restart-tables .kept .1 .1 .1 .1 .1 .1 .1 .0)
+    (λ c. c .before .before .before .before .before .before .before .before .before .before .before .before .before .before .before .before .before .before .before .before .before .before .restart-tables .kept .1 .1 .1 .1 .1 .1 .1 .1 .0)
+    (λ c. c .before .before .before .before .before .before .before .before .before .before .before .before .before .before .before .before .before .before .before .before .before .before .restart-tables .kept .1 .1 .1 .1 .1 .1 .1 .1 .1 .0)
+    (λ c. c .before .before .before .before .before .before .before .before .before .before .before .before .before .before .before .before .before .before .before .before .before .before .restart-tables .kept .1 .1 .1 .1 .1 .1 .1 .1 .1 .1 .0)
+    (λ c. c .before .before .before .before .before .before .before .before .before .before .before .before .before .before .before .before .before .before .before .before .before .before .restart-tables .kept .1 .1 .1 .1 .1 .1 .1 .1 .1 .1 .1 .0)
+    (λ c. c .before .before .before .before .before .before .before .before .before .before .before .before .before .before .before .before .before .before .before .before .before .before .restart-tables .kept .1 .1 .1 .1 .1 .1 .1 .1 .1 .1 .1 .1 .0)
+    (λ c. c .before .before .before .before .before .before .before .before .before .before .before .before .before .before .before .before .before .before .before .before .before .before .restart-tables .kept .1 .1 .1 .1 .1 .1 .1 .1 .1 .1 .1 .1 .1 .0)
+    returns-3)

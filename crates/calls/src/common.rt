@@ -1,0 +1,84 @@
+// Questions 1 and 2 of every event and of a page look.
+ghost use mathlib.Core.Path.{_≡_};
+ghost use Rattle.model.specs.Lent.{stateOf};
+ghost use Rattle.model.specs.Calls.{framesOf};
+ghost use Rattle.calls.specs.Common.{common};
+use model::frame::Frame;
+use model::frame::Pool;
+use model::sizes::Sizes;
+use questions::question1::all_fit;
+use questions::question2::all_rules;
+
+// 0, or 1 or 2 where that question says no.
+pub fn common(
+    sizes: Sizes,
+    lent: usize,
+    frames: [Frame; 64],
+    pool: Pool,
+    records: &[u32],
+    numbers: &[u32],
+    accounts: &[u16],
+    maps: &[u16],
+    limits: &[u16],
+    frame_words: &[u32],
+    free_queue: &[u16],
+    removal_list: &[u16],
+    addresses: &[u16],
+    states: &[u8],
+    owners: &[u8],
+    free_map: &[u32],
+    active: &[u8],
+    updating: &[u8],
+    images: &[u16],
+    used: &[u16],
+) -> u32
+    ensures { λ r. ⌜ r ≡ common sizes (stateOf (framesOf frames lent) pool (now (records .entry)) (now (numbers .entry)) (now (accounts .entry)) (now (maps .entry)) (now (limits .entry)) (now («frame_words» .entry)) (now («free_queue» .entry)) (now («removal_list» .entry)) (now (addresses .entry)) (now (states .entry)) (now (owners .entry)) (now («free_map» .entry)) (now (active .entry)) (now (updating .entry)) (now (images .entry)) (now (used .entry))) ⌝ }
+{
+    if all_fit(
+        sizes,
+        lent,
+        records,
+        numbers,
+        accounts,
+        maps,
+        limits,
+        frame_words,
+        free_queue,
+        removal_list,
+        addresses,
+        states,
+        owners,
+        free_map,
+        active,
+        updating,
+        images,
+        used,
+    ) {} else {
+        return 1;
+    }
+    if all_rules(
+        sizes,
+        frames,
+        lent,
+        pool,
+        records,
+        numbers,
+        accounts,
+        maps,
+        limits,
+        frame_words,
+        free_queue,
+        removal_list,
+        addresses,
+        states,
+        owners,
+        free_map,
+        active,
+        updating,
+        images,
+        used,
+    ) {} else {
+        return 2;
+    }
+    0
+}

@@ -1,0 +1,224 @@
+// The calls, over everything that is lent: questions 1 and 2 are asked once, then the work is done.
+ghost use mathlib.Core.Path.{_≡_};
+ghost use Rattle.model.specs.Lent.{diskOf, stateOf};
+ghost use Rattle.model.specs.Calls.{framesOf, apply};
+ghost use Rattle.model.specs.Step.{restart, format};
+use crate::carry::carry;
+use crate::common::common;
+use model::applied::Applied;
+use model::event::Answer;
+use model::frame::Frame;
+use model::frame::Pool;
+use model::request::Decoded;
+use model::request::Request;
+use model::request::decode;
+use model::sizes::Sizes;
+use questions::question1::all_fit;
+use questions::question1::disk_fit;
+use questions::question2::disk_rules;
+use restarts::format::format_tables;
+use restarts::restart::restart_tables;
+
+pub mod common; // questions 1 and 2
+pub mod carry; // an event handed on to its family
+pub mod looks; // a page look
+
+// Every event: questions 1 and 2, the event that the request asks for, and its work.
+pub fn apply_core(
+    sizes: Sizes,
+    request: Request,
+    lent: usize,
+    frames: [Frame; 64],
+    pool: Pool,
+    records: &mut [u32],
+    numbers: &mut [u32],
+    accounts: &mut [u16],
+    maps: &mut [u16],
+    limits: &mut [u16],
+    frame_words: &mut [u32],
+    free_queue: &mut [u16],
+    removal_list: &mut [u16],
+    addresses: &mut [u16],
+    states: &mut [u8],
+    owners: &mut [u8],
+    free_map: &mut [u32],
+    active: &mut [u8],
+    updating: &mut [u8],
+    images: &mut [u16],
+    used: &mut [u16],
+) -> Applied
+    ensures { λ r. ⌜ record { answer = r .answer; left = stateOf (framesOf (r .frames) lent) (r .pool) (now (records .exit)) (now (numbers .exit)) (now (accounts .exit)) (now (maps .exit)) (now (limits .exit)) (now («frame_words» .exit)) (now («free_queue» .exit)) (now («removal_list» .exit)) (now (addresses .exit)) (now (states .exit)) (now (owners .exit)) (now («free_map» .exit)) (now (active .exit)) (now (updating .exit)) (now (images .exit)) (now (used .exit)) } ≡ apply sizes (stateOf (framesOf frames lent) pool (now (records .entry)) (now (numbers .entry)) (now (accounts .entry)) (now (maps .entry)) (now (limits .entry)) (now («frame_words» .entry)) (now («free_queue» .entry)) (now («removal_list» .entry)) (now (addresses .entry)) (now (states .entry)) (now (owners .entry)) (now («free_map» .entry)) (now (active .entry)) (now (updating .entry)) (now (images .entry)) (now (used .entry))) request ⌝ }
+{
+    let refusal = common(
+        sizes,
+        lent,
+        frames,
+        pool,
+        records,
+        numbers,
+        accounts,
+        maps,
+        limits,
+        frame_words,
+        free_queue,
+        removal_list,
+        addresses,
+        states,
+        owners,
+        free_map,
+        active,
+        updating,
+        images,
+        used,
+    );
+    if refusal != 0 {
+        let answer = Answer { refusal, result: 0 };
+        return Applied {
+            frames,
+            pool,
+            answer,
+        };
+    }
+    let decoded = decode(request);
+    let Decoded::Known(event) = decoded else {
+        let answer = Answer {
+            refusal: 3,
+            result: 0,
+        };
+        return Applied {
+            frames,
+            pool,
+            answer,
+        };
+    };
+    carry(
+        sizes,
+        event,
+        frames,
+        pool,
+        records,
+        numbers,
+        accounts,
+        maps,
+        limits,
+        frame_words,
+        free_queue,
+        removal_list,
+        addresses,
+        states,
+        owners,
+        free_map,
+        active,
+        updating,
+        images,
+        used,
+    )
+}
+
+// Questions 1 and 2 (the disk rules only), then every table of the memory part set anew.
+pub fn restart_core(
+    sizes: Sizes,
+    lent: usize,
+    frames: [Frame; 64],
+    pool: Pool,
+    records: &[u32],
+    numbers: &[u32],
+    accounts: &[u16],
+    maps: &[u16],
+    limits: &[u16],
+    frame_words: &mut [u32],
+    free_queue: &mut [u16],
+    removal_list: &mut [u16],
+    addresses: &mut [u16],
+    states: &mut [u8],
+    owners: &mut [u8],
+    free_map: &mut [u32],
+    active: &mut [u8],
+    updating: &mut [u8],
+    images: &mut [u16],
+    used: &mut [u16],
+) -> Applied
+    ensures { λ r. ⌜ record { answer = r .answer; left = stateOf (framesOf (r .frames) lent) (r .pool) (now (records .entry)) (now (numbers .entry)) (now (accounts .entry)) (now (maps .entry)) (now (limits .entry)) (now («frame_words» .exit)) (now («free_queue» .exit)) (now («removal_list» .exit)) (now (addresses .exit)) (now (states .exit)) (now (owners .exit)) (now («free_map» .exit)) (now (active .exit)) (now (updating .exit)) (now (images .exit)) (now (used .exit)) } ≡ restart sizes (stateOf (framesOf frames lent) pool (now (records .entry)) (now (numbers .entry)) (now (accounts .entry)) (now (maps .entry)) (now (limits .entry)) (now («frame_words» .entry)) (now («free_queue» .entry)) (now («removal_list» .entry)) (now (addresses .entry)) (now (states .entry)) (now (owners .entry)) (now («free_map» .entry)) (now (active .entry)) (now (updating .entry)) (now (images .entry)) (now (used .entry))) ⌝ }
+{
+    if all_fit(
+        sizes,
+        lent,
+        records,
+        numbers,
+        accounts,
+        maps,
+        limits,
+        frame_words,
+        free_queue,
+        removal_list,
+        addresses,
+        states,
+        owners,
+        free_map,
+        active,
+        updating,
+        images,
+        used,
+    ) {} else {
+        let answer = Answer {
+            refusal: 1,
+            result: 0,
+        };
+        return Applied {
+            frames,
+            pool,
+            answer,
+        };
+    }
+    if disk_rules(sizes, records, numbers, accounts, maps, limits) {} else {
+        let answer = Answer {
+            refusal: 2,
+            result: 0,
+        };
+        return Applied {
+            frames,
+            pool,
+            answer,
+        };
+    }
+    restart_tables(
+        sizes,
+        accounts,
+        maps,
+        frame_words,
+        free_queue,
+        removal_list,
+        addresses,
+        states,
+        owners,
+        free_map,
+        active,
+        updating,
+        images,
+        used,
+    )
+}
+
+// Question 1, then all of the disk part zeroed.
+pub fn format(
+    sizes: Sizes,
+    records: &mut [u32],
+    numbers: &mut [u32],
+    accounts: &mut [u16],
+    maps: &mut [u16],
+    limits: &mut [u16],
+) -> Answer
+    ensures { λ r. ⌜ record { answer = r; left = diskOf (now (records .exit)) (now (numbers .exit)) (now (accounts .exit)) (now (maps .exit)) (now (limits .exit)) } ≡ format sizes (diskOf (now (records .entry)) (now (numbers .entry)) (now (accounts .entry)) (now (maps .entry)) (now (limits .entry))) ⌝ }
+{
+    if disk_fit(sizes, records, numbers, accounts, maps, limits) {} else {
+        return Answer {
+            refusal: 1,
+            result: 0,
+        };
+    }
+    format_tables(records, numbers, accounts, maps, limits);
+    Answer {
+        refusal: 0,
+        result: 0,
+    }
+}

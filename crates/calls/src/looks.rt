@@ -1,0 +1,132 @@
+// A page look in both its forms: as numbers, for a caller that cannot be handed a reference, and as a part of the lent words.
+ghost use mathlib.Core.Path.{_≡_};
+ghost use Prim.Native.Nat.{_+_, _≤_};
+ghost use lib.ListN.{length};
+ghost use denote.Ref.{ptr};
+ghost use Rattle.model.specs.Lent.{stateOf};
+ghost use Rattle.model.specs.Calls.{framesOf};
+ghost use Rattle.model.specs.Step.{look};
+ghost use Rattle.model.specs.Part.{partOf, wordAt};
+use crate::common::common;
+use model::applied::Part;
+use model::frame::Frame;
+use model::frame::Pool;
+use model::sizes::Sizes;
+use pages::look::place;
+
+// Where the part starts and how many words it has: within the lent words.
+pub fn place_core(
+    sizes: Sizes,
+    slot: usize,
+    page: usize,
+    lent: usize,
+    frames: [Frame; 64],
+    pool: Pool,
+    records: &[u32],
+    numbers: &[u32],
+    accounts: &[u16],
+    maps: &[u16],
+    limits: &[u16],
+    frame_words: &[u32],
+    free_queue: &[u16],
+    removal_list: &[u16],
+    addresses: &[u16],
+    states: &[u8],
+    owners: &[u8],
+    free_map: &[u32],
+    active: &[u8],
+    updating: &[u8],
+    images: &[u16],
+    used: &[u16],
+) -> Part
+    ensures { λ r. ⌜ (r ≡ partOf sizes (stateOf (framesOf frames lent) pool (now (records .entry)) (now (numbers .entry)) (now (accounts .entry)) (now (maps .entry)) (now (limits .entry)) (now («frame_words» .entry)) (now («free_queue» .entry)) (now («removal_list» .entry)) (now (addresses .entry)) (now (states .entry)) (now (owners .entry)) (now («free_map» .entry)) (now (active .entry)) (now (updating .entry)) (now (images .entry)) (now (used .entry))) slot page) × (r .start + r .count ≤ length (now («frame_words» .entry))) ⌝ }
+{
+    let refusal = common(
+        sizes,
+        lent,
+        frames,
+        pool,
+        records,
+        numbers,
+        accounts,
+        maps,
+        limits,
+        frame_words,
+        free_queue,
+        removal_list,
+        addresses,
+        states,
+        owners,
+        free_map,
+        active,
+        updating,
+        images,
+        used,
+    );
+    if refusal != 0 {
+        return Part {
+            refusal,
+            start: 0,
+            count: 0,
+        };
+    }
+    place(sizes, slot, page, frames, numbers, active)
+}
+
+// The frame's own part of the lent words; refused, an empty part.
+pub fn look_core<'a>(
+    sizes: Sizes,
+    slot: usize,
+    page: usize,
+    lent: usize,
+    frames: [Frame; 64],
+    pool: Pool,
+    refusal: &mut u32,
+    records: &[u32],
+    numbers: &[u32],
+    accounts: &[u16],
+    maps: &[u16],
+    limits: &[u16],
+    frame_words: &'a [u32],
+    free_queue: &[u16],
+    removal_list: &[u16],
+    addresses: &[u16],
+    states: &[u8],
+    owners: &[u8],
+    free_map: &[u32],
+    active: &[u8],
+    updating: &[u8],
+    images: &[u16],
+    used: &[u16],
+) -> &'a [u32]
+    ensures { λ r. ⌜ (now r ≡ look sizes (stateOf (framesOf frames lent) pool (now (records .entry)) (now (numbers .entry)) (now (accounts .entry)) (now (maps .entry)) (now (limits .entry)) (now («frame_words» .entry)) (now («free_queue» .entry)) (now («removal_list» .entry)) (now (addresses .entry)) (now (states .entry)) (now (owners .entry)) (now («free_map» .entry)) (now (active .entry)) (now (updating .entry)) (now (images .entry)) (now (used .entry))) slot page .left) × ((now (refusal .exit) ≡ look sizes (stateOf (framesOf frames lent) pool (now (records .entry)) (now (numbers .entry)) (now (accounts .entry)) (now (maps .entry)) (now (limits .entry)) (now («frame_words» .entry)) (now («free_queue» .entry)) (now («removal_list» .entry)) (now (addresses .entry)) (now (states .entry)) (now (owners .entry)) (now («free_map» .entry)) (now (active .entry)) (now (updating .entry)) (now (images .entry)) (now (used .entry))) slot page .answer .refusal) × (ptr r ≡ wordAt (ptr («frame_words» .entry)) (partOf sizes (stateOf (framesOf frames lent) pool (now (records .entry)) (now (numbers .entry)) (now (accounts .entry)) (now (maps .entry)) (now (limits .entry)) (now («frame_words» .entry)) (now («free_queue» .entry)) (now («removal_list» .entry)) (now (addresses .entry)) (now (states .entry)) (now (owners .entry)) (now («free_map» .entry)) (now (active .entry)) (now (updating .entry)) (now (images .entry)) (now (used .entry))) slot page .start))) ⌝ }
+{
+    let part = place_core(
+        sizes,
+        slot,
+        page,
+        lent,
+        frames,
+        pool,
+        records,
+        numbers,
+        accounts,
+        maps,
+        limits,
+        frame_words,
+        free_queue,
+        removal_list,
+        addresses,
+        states,
+        owners,
+        free_map,
+        active,
+        updating,
+        images,
+        used,
+    );
+    *refusal = part.refusal;
+    let start = part.start;
+    let end = start + part.count;
+    &frame_words[start..end]
+}

@@ -1,0 +1,38 @@
+// Delete: a slot is emptied, two stores to the disk part that the caller brings to the device as one.
+ghost use mathlib.Core.Path.{_≡_};
+ghost use mathlib.Core.List.{[]};
+ghost use Rattle.model.specs.declared.event.Design.the-variants as Design;
+ghost use Rattle.model.specs.declared.event.Event.the-variants as Event;
+ghost use Rattle.model.specs.Fit.{Within};
+ghost use Rattle.model.specs.Own.{own};
+ghost use Rattle.designs.specs.Seen.{seenFiles};
+use crate::asks::ask_delete;
+use leaves::cells::put16;
+use leaves::cells::put32;
+use model::event::Answer;
+use model::sizes::Sizes;
+
+pub fn delete(
+    sizes: Sizes,
+    slot: usize,
+    numbers: &mut [u32],
+    accounts: &mut [u16],
+    maps: &[u16],
+    active: &[u8],
+) -> Answer
+    requires { ⌜ Within sizes ⌝ }
+    ensures answer { λ r. ⌜ r ≡ own sizes (seenFiles (now (numbers .entry)) (now (accounts .entry)) (now (maps .entry)) [] (now (active .entry))) (Event.Design (Design.Delete slot)) .answer ⌝ }
+    ensures numbers { λ r. ⌜ now (numbers .exit) ≡ own sizes (seenFiles (now (numbers .entry)) (now (accounts .entry)) (now (maps .entry)) [] (now (active .entry))) (Event.Design (Design.Delete slot)) .left .disk .numbers ⌝ }
+    ensures accounts { λ r. ⌜ now (accounts .exit) ≡ own sizes (seenFiles (now (numbers .entry)) (now (accounts .entry)) (now (maps .entry)) [] (now (active .entry))) (Event.Design (Design.Delete slot)) .left .disk .accounts ⌝ }
+{
+    let refusal = ask_delete(sizes, slot, numbers, maps, active);
+    if refusal != 0 {
+        return Answer { refusal, result: 0 };
+    }
+    put32(numbers, slot, 0);
+    put16(accounts, slot, 0);
+    Answer {
+        refusal: 0,
+        result: 0,
+    }
+}

@@ -1,0 +1,76 @@
+// The events about a design or an account.
+ghost use mathlib.Core.Path.{_≡_};
+ghost use lib.ListN.{take};
+ghost use Rattle.model.specs.declared.event.Event.the-variants as Event;
+ghost use Rattle.model.specs.Lent.{stateOf};
+ghost use Rattle.model.specs.Own.{own};
+ghost use Rattle.dispatch.specs.Kept.{Kept, leaves};
+use designs::activate::activate;
+use designs::create::create;
+use designs::deactivate::deactivate;
+use designs::delete::delete;
+use designs::limit::limit;
+use model::event::Answer;
+use model::event::Design;
+use model::frame::Frame;
+use model::frame::Pool;
+use model::sizes::Sizes;
+
+// Frames and pool stay as they were.
+pub fn design_event(
+    sizes: Sizes,
+    event: Design,
+    frames: [Frame; 64],
+    pool: Pool,
+    records: &[u32],
+    numbers: &mut [u32],
+    accounts: &mut [u16],
+    maps: &[u16],
+    limits: &mut [u16],
+    frame_words: &[u32],
+    free_queue: &[u16],
+    removal_list: &[u16],
+    addresses: &mut [u16],
+    states: &mut [u8],
+    owners: &[u8],
+    free_map: &[u32],
+    active: &mut [u8],
+    updating: &[u8],
+    images: &[u16],
+    used: &[u16],
+) -> Answer
+    requires { ⌜ Kept sizes (stateOf (take (sizes .frames) frames) pool (now records) (now numbers) (now accounts) (now maps) (now limits) (now «frame_words») (now «free_queue») (now «removal_list») (now addresses) (now states) (now owners) (now «free_map») (now active) (now updating) (now images) (now used)) ⌝ }
+    ensures { λ r. ⌜ leaves r (stateOf (take (sizes .frames) frames) pool (now (records .entry)) (now (numbers .exit)) (now (accounts .exit)) (now (maps .entry)) (now (limits .exit)) (now («frame_words» .entry)) (now («free_queue» .entry)) (now («removal_list» .entry)) (now (addresses .exit)) (now (states .exit)) (now (owners .entry)) (now («free_map» .entry)) (now (active .exit)) (now (updating .entry)) (now (images .entry)) (now (used .entry))) ≡ own sizes (stateOf (take (sizes .frames) frames) pool (now (records .entry)) (now (numbers .entry)) (now (accounts .entry)) (now (maps .entry)) (now (limits .entry)) (now («frame_words» .entry)) (now («free_queue» .entry)) (now («removal_list» .entry)) (now (addresses .entry)) (now (states .entry)) (now (owners .entry)) (now («free_map» .entry)) (now (active .entry)) (now (updating .entry)) (now (images .entry)) (now (used .entry))) (Event.Design event) ⌝ }
+{
+    match event {
+        Design::Limit { account, pages } => limit(sizes, account, pages, limits),
+        Design::Create {
+            slot,
+            account,
+            number,
+        } => create(sizes, slot, account, number, numbers, accounts),
+        Design::Delete { slot } => delete(sizes, slot, numbers, accounts, maps, active),
+        Design::Activate { slot } => activate(
+            sizes,
+            slot,
+            numbers,
+            maps,
+            addresses,
+            states,
+            owners,
+            active,
+        ),
+        Design::Deactivate { slot } => deactivate(
+            sizes,
+            slot,
+            frames,
+            numbers,
+            maps,
+            addresses,
+            states,
+            owners,
+            active,
+            updating,
+        ),
+    }
+}

@@ -1,0 +1,106 @@
+// The events about one page.
+ghost use mathlib.Core.Path.{_≡_};
+ghost use lib.ListN.{take};
+ghost use Rattle.model.specs.declared.event.Event.the-variants as Event;
+ghost use Rattle.model.specs.Lent.{stateOf};
+ghost use Rattle.model.specs.Own.{own};
+ghost use Rattle.dispatch.specs.Kept.{Kept, leaves};
+use crate::handed::with_pool;
+use model::applied::Applied;
+use model::event::Page;
+use model::frame::Frame;
+use model::frame::Pool;
+use model::sizes::Sizes;
+use pages::fault::fault;
+use pages::read::read;
+use pages::unwire::unwire;
+use pages::wire::wire;
+use pages::write::write;
+
+pub fn page_event(
+    sizes: Sizes,
+    event: Page,
+    frames: [Frame; 64],
+    pool: Pool,
+    records: &[u32],
+    numbers: &[u32],
+    accounts: &[u16],
+    maps: &[u16],
+    limits: &[u16],
+    frame_words: &mut [u32],
+    free_queue: &mut [u16],
+    removal_list: &mut [u16],
+    addresses: &mut [u16],
+    states: &mut [u8],
+    owners: &mut [u8],
+    free_map: &mut [u32],
+    active: &[u8],
+    updating: &[u8],
+    images: &[u16],
+    used: &mut [u16],
+) -> Applied
+    requires { ⌜ Kept sizes (stateOf (take (sizes .frames) frames) pool (now records) (now numbers) (now accounts) (now maps) (now limits) (now «frame_words») (now «free_queue») (now «removal_list») (now addresses) (now states) (now owners) (now «free_map») (now active) (now updating) (now images) (now used)) ⌝ }
+    ensures { λ r. ⌜ leaves (r .answer) (stateOf (take (sizes .frames) (r .frames)) (r .pool) (now (records .entry)) (now (numbers .entry)) (now (accounts .entry)) (now (maps .entry)) (now (limits .entry)) (now («frame_words» .exit)) (now («free_queue» .exit)) (now («removal_list» .exit)) (now (addresses .exit)) (now (states .exit)) (now (owners .exit)) (now («free_map» .exit)) (now (active .entry)) (now (updating .entry)) (now (images .entry)) (now (used .exit))) ≡ own sizes (stateOf (take (sizes .frames) frames) pool (now (records .entry)) (now (numbers .entry)) (now (accounts .entry)) (now (maps .entry)) (now (limits .entry)) (now («frame_words» .entry)) (now («free_queue» .entry)) (now («removal_list» .entry)) (now (addresses .entry)) (now (states .entry)) (now (owners .entry)) (now («free_map» .entry)) (now (active .entry)) (now (updating .entry)) (now (images .entry)) (now (used .entry))) (Event.Page event) ⌝ }
+{
+    match event {
+        Page::Fault { slot, page } => fault(
+            sizes,
+            slot,
+            page,
+            frames,
+            pool,
+            numbers,
+            accounts,
+            limits,
+            frame_words,
+            free_queue,
+            removal_list,
+            addresses,
+            states,
+            owners,
+            free_map,
+            active,
+            used,
+        ),
+        Page::Read { slot, page, word } => with_pool(
+            read(
+                sizes,
+                slot,
+                page,
+                word,
+                frames,
+                numbers,
+                active,
+                frame_words,
+            ),
+            pool,
+        ),
+        Page::Write {
+            slot,
+            page,
+            word,
+            value,
+        } => with_pool(
+            write(
+                sizes,
+                slot,
+                page,
+                word,
+                value,
+                frames,
+                numbers,
+                active,
+                frame_words,
+            ),
+            pool,
+        ),
+        Page::Wire { slot, page } => with_pool(
+            wire(sizes, slot, page, frames, numbers, active, removal_list),
+            pool,
+        ),
+        Page::Unwire { slot, page } => with_pool(
+            unwire(sizes, slot, page, frames, numbers, active, removal_list),
+            pool,
+        ),
+    }
+}

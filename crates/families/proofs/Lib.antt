@@ -1,7 +1,0 @@
--- Laws that the proofs of this crate share.
-pub mod Charges
-pub mod Outcomes
-pub mod DesignLaws
-pub mod PageLaws
-pub mod FaultLaws
-pub mod StoreLaws

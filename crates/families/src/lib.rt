@@ -1,5 +1,0 @@
-// The events in their three families, over all tables: each is handed on to its own function with the tables that it needs.
-pub mod design_event; // limit, create, delete, activate, deactivate
-mod handed; // what an event hands back, put together
-pub mod page_event; // fault, read, write, wire, unwire
-pub mod store_event; // claims, truncates, updates and dones

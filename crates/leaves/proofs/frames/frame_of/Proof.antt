@@ -1,0 +1,35 @@
+-- `frame_of` meets its contract: no frame passed has the page.
+use borrow.Author.Needs.{needs}
+use mathlib.Core.Path.{_≡_, sym, _∙_}
+use Prim.Native.Nat.{ℕ, suc, _-_, _<_, _≤_}
+use native.Mathlib.Omega.{arith}
+use borrow.Author.Count.{below-more}
+use lib.Dec.{eqb, eqb→eq}
+use native.Mathlib.Numerals.{add-one}
+use Rattle.tables.specs.Laws.{eq→T}
+use Rattle.tables.specs.FindLaws.{find-at, find-none}
+use Rattle.model.specs.State.{frameAt}
+use Rattle.leaves.proofs.frames.frame_of.Statement.{statement}
+use Rattle.leaves.proofs.frames.frame_of.Tie as tie
+
+abbrev Inv-loop : tie.InvT-loop
+Inv-loop count page frames entry f₀ f = (f ≤ count) × ((k : ℕ) → k < f → frameAt frames k .page ≡ suc page → ⊥)
+
+abbrev μ-loop : tie.MeasureT-loop
+μ-loop count page frames entry f₀ f = count - f
+
+returns : tie.Need-returns Inv-loop μ-loop
+returns c = let l = c .before .before .before .before in let a = l .before .args in
+    sym (find-at (a .count) (λ f. eqb (frameAt (a .t1) f .page) (suc (a .page))) 0 (l .loop .f) (omega arith) (omega arith)
+    (eq→T (c .if1 .taken ∙ add-one (a .page)))
+    (λ k h i t. l .loop .inv .1 k i (eqb→eq _ _ t)))
+
+loop-again : tie.Need-loop-again Inv-loop μ-loop
+loop-again c = (search needs, below-more _ _ (c .before .before .before .before .loop .inv .1) (λ e. c .if1 .left (e ∙ sym (add-one _))))
+
+returns-2 : tie.Need-returns-2 Inv-loop μ-loop
+returns-2 c = let l = c .before in let a = l .before .args in
+    sym (find-none (a .count) (λ f. eqb (frameAt (a .t1) f .page) (suc (a .page))) 0 (λ k h i t. l .loop .inv .1 k (omega arith) (eqb→eq _ _ t)) ∙ omega arith)
+
+pub frame-of-spec : {M : Type 1} → statement M
+frame-of-spec = tie.close (tie.spec Inv-loop μ-loop (λ c. search needs) (λ c. search needs) (λ c. (omega arith, λ k h. omega arith)) (λ c. search needs) (λ c. search needs) returns (λ c. search needs) (λ c. search needs) loop-again returns-2)

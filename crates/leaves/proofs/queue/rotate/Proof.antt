@@ -1,0 +1,35 @@
+-- `rotate` meets its contract: what is popped leaves room to be pushed.
+use borrow.Author.Needs.{needs}
+use mathlib.Core.Path.{_≡_, refl, ap, _∙_}
+use native.Mathlib.Omega.{arith}
+use Prim.Native.Nat.{ℕ, _<_}
+use lib.ListN.{length}
+use mathlib.Core.List.{List}
+use Rattle.tables.specs.Rule.{Holds}
+use Rattle.tables.specs.Queue.{queue, size, push-back, pop}
+use Rattle.tables.specs.QueueLaws.{size-le, size-pop, length-pop, queue-pop}
+use Rattle.leaves.proofs.Queues.{first-at}
+use Rattle.leaves.proofs.queue.rotate.Statement.{statement}
+use Rattle.leaves.proofs.queue.rotate.Tie as tie
+
+-- what is popped is a queue with room
+popped : (q p : List ℕ) → p ≡ pop q → Holds (queue (length q) q) → 0 < size q → Holds (queue (length p) p) × (size p < length p)
+popped q p e ok h = rw e (rw length-pop (queue-pop q refl ok), omega (arith, size-pop q, length-pop q, size-le q))
+
+push-back-requires : tie.Need-push-back-requires
+push-back-requires c κs =
+    let p = c .before .before .before in
+    let f = p .before .before in
+    let s = f .before .before .before in
+    let r = popped (s .args .q .now) (p .pop .last .0) (p .pop .ensures) (s .pre .0) (s .pre .1) in
+    (omega (arith, first-at (s .args .q .now), f .first .ensures, f .before .before .slice-known .given 0), r .0, r .1)
+
+returns : tie.Need-returns
+returns c =
+    let b = c .before .before in
+    let p = b .before .before .before .before in
+    let f = p .before .before in
+    b .push-back .ensures ∙ ap (λ (l : List ℕ). push-back l (f .first .result)) (p .pop .ensures) ∙ ap (push-back (pop (f .before .before .before .args .q .now))) (f .first .ensures)
+
+pub rotate-spec : {M : Type 1} → statement M
+rotate-spec = tie.close (tie.spec (λ c κs. search needs) (λ c κs. search needs) push-back-requires (λ c. search needs) returns)

@@ -1,0 +1,119 @@
+-- `fault` meets its contract: the questions, then each table by the fault's way.
+use borrow.Author.Needs.{needs}
+use mathlib.Core.Path.{refl}
+use native.Mathlib.Omega.{arith}
+use Rattle.tables.specs.Base.{at}
+use Rattle.tables.specs.Queue.{size, queue}
+use Rattle.tables.specs.Rule.{Holds}
+use Rattle.model.specs.Bounds.{page-most}
+use lib.ListN.{length}
+use Prim.Native.Nat.{_<_}
+use Rattle.pages.proofs.Served.{page-range}
+use Rattle.pages.proofs.Faulted.{FaultAsked, fault-asked, fault-no, fault-none, fault-range, fault-some, fault-record, fault-quota, fault-yes, fault-done, serve-needs}
+use Rattle.pages.proofs.fault.fault.Statement.{statement}
+use Rattle.pages.proofs.fault.fault.Tie as tie
+
+-- ── the places ──
+abbrev start : tie.After-ask-fault → tie.Start
+start k = k .before .before .before .before .before .before .before .before .before .before .before .before .before .before .before .before .before .before .before
+
+-- from the account that pays, back to the way, the frame and the page of the code, and to its questions
+abbrev way : tie.After-at16 → tie.After-way-of
+way x = x .before
+
+abbrev queued : tie.After-at16 → tie.After-first
+queued x = way x .before .before .before
+
+abbrev paged : tie.After-at16 → tie.After-page-of
+paged x = queued x .before .before
+
+abbrev passed : tie.After-at16 → tie.Else1
+passed x = paged x .before
+
+abbrev from : tie.After-at16 → tie.Start
+from x = start (passed x .before)
+
+-- from what is done last
+abbrev held : tie.After-hold → tie.After-at16
+held d = d .before .before .before .before .before
+
+abbrev served : tie.After-serve → tie.After-hold
+served v = v .before .before .before .before .before .before .before .before .before .before .before
+
+abbrev popped : tie.After-pop → tie.After-serve
+popped o = o .before .before .before .before .before .before
+
+abbrev charged : tie.After-charge → tie.After-pop
+charged g = g .before .before .before .before
+
+-- ── the questions ──
+asked : (k : tie.After-ask-fault) → (let a = start k .args in FaultAsked (a .sizes) (a .frames) (a .pool) (a .numbers .now) (a .accounts .now) (a .limits .now) (a .words .now) (a .free-queue .now) (a .removal-list .now) (a .addresses .now) (a .states .now) (a .owners .now) (a .free-map .now) (a .active .now) (a .used .now) (a .slot) (a .page) (k .ask-fault .result))
+asked k = fault-asked (k .ask-fault .ensures)
+
+range : (e : tie.Else1) → (let a = start (e .before) .args in (a .slot < a .sizes .slots) × (a .page < a .sizes .pages))
+range e = fault-range (asked (e .before)) (e .if1 .left)
+
+needs-served : (x : tie.After-at16) → (let a = from x .args in (queued x .first .result < a .sizes .frames) × Holds (queue (length (a .removal-list .now)) (a .removal-list .now)) × (size (a .removal-list .now) < length (a .removal-list .now)))
+needs-served x = let a = from x .args in serve-needs (a .sizes) (a .free-queue .now) (a .removal-list .now) (queued x .first .result) (from x .pre .1) (fault-some (asked (passed x .before)) (passed x .if1 .left)) (queued x .first .ensures)
+
+ask-fault-requires : tie.Need-ask-fault-requires
+ask-fault-requires c κs = let s = c .before .before .before .before .before .before .before .before .before .before .before .before .before .before .before .before .before .before in (s .pre .0, λ e. page-range (s .args .sizes) (s .args .slot) (s .args .page) e)
+
+returns : tie.Need-returns
+returns c = let q = asked (c .before) in (fault-no q (c .if1 .taken), fault-none q (c .if1 .taken))
+
+page-of-requires : tie.Need-page-of-requires
+page-of-requires c κs = let r = range c in (start (c .before) .pre .0 .sizes, r .0, r .1)
+
+hold-requires : tie.Need-hold-requires
+hold-requires c κs =
+    let x = c .before .before .before .before in
+    let s = from x in
+    (s .pre .0 .sizes, omega (arith, range (passed x) .0, s .pre .0 .sizes .slots-most), s .pre .3, fault-record (asked (passed x .before)) (passed x .if1 .left) (paged x .page-of .ensures) (way x .way-of .ensures) (queued x .first .ensures))
+
+serve-requires : tie.Need-serve-requires
+serve-requires c κs =
+    let x = held (c .before .before .before .before .before .before .before .before .before .before) in
+    let s = from x in
+    let r = range (passed x) in
+    let n = needs-served x in
+    (s .pre .0 .sizes, rw (paged x .page-of .ensures) (page-most (s .args .sizes) (s .pre .0 .sizes) (s .args .slot) (s .args .page) (r .0) (r .1)), n .0, s .pre .2, n .1, n .2)
+
+pop-requires : tie.Need-pop-requires
+pop-requires c κs = let s = from (held (served (c .before .before .before .before .before))) in rw (s .pre .1 .free-long) (s .pre .1 .free-packed)
+
+charge-requires : tie.Need-charge-requires
+charge-requires c κs h =
+    let x = held (served (popped (c .before .before .before))) in
+    let a = from x .args in
+    let u = fault-quota (asked (passed x .before)) (passed x .if1 .left) (paged x .page-of .ensures) (way x .way-of .ensures) (queued x .first .ensures) h in
+    rw (x .at16 .ensures) (omega (arith, u, passed x .before .before .before .before .before .before .before .before .before .before .before .before .before .before .before .before .before .shared-slice-known3 .given (at (a .accounts .now) (a .slot))))
+
+cast-t61 : tie.Need-cast-t61
+cast-t61 c = let x = held (served (popped (charged (c .before .before)))) in omega (arith, needs-served x .0, from x .pre .0 .sizes .frames-most)
+
+returns-2 : tie.Need-returns-2
+returns-2 c =
+    let g = c .before .before in
+    let o = charged g in
+    let v = popped o in
+    let d = served v in
+    let x = held d in
+    let q = asked (passed x .before) in (
+      fault-yes q (passed x .if1 .left) (paged x .page-of .ensures) (way x .way-of .ensures) (queued x .first .ensures),
+      fault-done q (passed x .if1 .left) (paged x .page-of .ensures) (way x .way-of .ensures) (queued x .first .ensures)
+          (from x .pre .0 .sizes .pages) (v .serve .result) (d .hold .result) _ _ _ _ _ _ _ _ (x .at16 .result) (x .at16 .ensures)
+          (v .serve .ensures .0) (d .hold .ensures .0) (v .serve .ensures .1 .0) (o .pop .ensures) (v .serve .ensures .1 .1) (d .hold .ensures .1 .0) (d .hold .ensures .1 .1 .0) (d .hold .ensures .1 .1 .1 .0) (d .hold .ensures .1 .1 .1 .1) (g .charge .ensures),
+    )
+
+pub fault-spec : {M : Type 1} → statement M
+fault-spec = tie.close (tie.spec ask-fault-requires (λ c. refl) (λ c. refl) (λ c. refl) (λ c. refl) returns page-of-requires (λ c κs. search needs) (λ c κs. search needs) (λ c κs. search needs) (λ c. search needs) hold-requires serve-requires pop-requires charge-requires cast-t61
+    (λ c. c .before .before .before .before .before .before .before .before .before .before .before .before .serve .kept .1 .1 .1 .1 .1 .0)
+    (λ c. c .before .before .before .before .before .before .pop .kept .0)
+    (λ c. c .before .before .before .before .before .before .before .before .before .before .before .before .serve .kept .1 .1 .1 .1 .1 .1 .0)
+    (λ c. c .before .before .before .before .before .before .before .before .before .before .before .before .before .before .before .before .before .before .before .before .before .before .before .hold .kept .1 .1 .1 .1 .1 .0)
+    (λ c. c .before .before .before .before .before .before .before .before .before .before .before .before .before .before .before .before .before .before .before .before .before .before .before .hold .kept .1 .1 .1 .1 .1 .1 .0)
+    (λ c. c .before .before .before .before .before .before .before .before .before .before .before .before .before .before .before .before .before .before .before .before .before .before .before .hold .kept .1 .1 .1 .1 .1 .1 .1 .0)
+    (λ c. c .before .before .before .before .before .before .before .before .before .before .before .before .before .before .before .before .before .before .before .before .before .before .before .hold .kept .1 .1 .1 .1 .1 .1 .1 .1 .0)
+    (λ c. c .before .before .charge .kept .1 .1 .0)
+    returns-2)

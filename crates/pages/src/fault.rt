@@ -1,0 +1,143 @@
+// Fault: a page that is in no frame takes the first queued one.
+ghost use mathlib.Core.Path.{_≡_};
+ghost use mathlib.Core.Bool.{true};
+ghost use Prim.Native.Nat.{_*_, _<_};
+ghost use lib.ListN.{length, take};
+ghost use Rattle.tables.specs.Base.{at};
+ghost use Rattle.tables.specs.Questions.{firstNo};
+ghost use Rattle.tables.specs.Also.{_also_};
+ghost use Rattle.model.specs.declared.event.Event.the-variants as Event;
+ghost use Rattle.model.specs.declared.event.Page.the-variants as Page;
+ghost use Rattle.model.specs.State.{pageOf};
+ghost use Rattle.model.specs.Own.{own};
+ghost use Rattle.pages.specs.Seen.{seenFault};
+ghost use Rattle.pages.specs.Asks.{slotAsked};
+ghost use Rattle.pages.specs.Needs.{Seats, Pooled, Queued};
+ghost use Rattle.pages.specs.Faults.{awayAsked, supplyAsked, FaultLeft};
+use crate::asks::ask_slot;
+use crate::asks::page_of;
+use crate::supply::ask_away;
+use crate::supply::ask_supply;
+use crate::supply::charge;
+use crate::supply::hold;
+use crate::supply::serve;
+use crate::supply::way_of;
+use leaves::cells::at16;
+use leaves::queue::first;
+use leaves::queue::pop;
+use model::applied::Applied;
+use model::event::Answer;
+use model::frame::Frame;
+use model::frame::Pool;
+use model::sizes::Sizes;
+
+// All questions of a fault; `free` is the count of free records.
+pub fn ask_fault(
+    sizes: Sizes,
+    in_range: bool,
+    slot: usize,
+    page: usize,
+    frames: [Frame; 64],
+    free: u32,
+    numbers: &[u32],
+    active: &[u8],
+    accounts: &[u16],
+    limits: &[u16],
+    used: &[u16],
+    addresses: &[u16],
+    states: &[u8],
+    free_queue: &[u16],
+) -> u32
+    requires { ⌜ Seats sizes (take (sizes .frames) frames) × ((«in_range» ≡ true) → (slot < sizes .slots) × (page < sizes .pages)) ⌝ }
+    ensures { λ r. ⌜ r ≡ firstNo (slotAsked «in_range» slot (now (numbers .entry)) (now (active .entry)) also awayAsked sizes (take (sizes .frames) frames) (pageOf sizes slot page) also supplyAsked (pageOf sizes slot page) (now (addresses .entry)) (now (states .entry)) (at (now (used .entry)) (at (now (accounts .entry)) slot)) (at (now (limits .entry)) (at (now (accounts .entry)) slot)) free (now («free_queue» .entry))) ⌝ }
+{
+    let no = ask_slot(in_range, slot, numbers, active);
+    if no != 0 {
+        return no;
+    }
+    let i = page_of(sizes, slot, page);
+    let no = ask_away(sizes, frames, i);
+    if no != 0 {
+        return no;
+    }
+    let payer = at16(accounts, slot) as usize;
+    let count = at16(used, payer);
+    let limit = at16(limits, payer);
+    ask_supply(i, free, count, limit, addresses, states, free_queue)
+}
+
+// Result: the frame. The counts go up and down: used by one where the address is not live, free records where one is taken.
+pub fn fault(
+    sizes: Sizes,
+    slot: usize,
+    page: usize,
+    frames: [Frame; 64],
+    pool: Pool,
+    numbers: &[u32],
+    accounts: &[u16],
+    limits: &[u16],
+    words: &mut [u32],
+    free_queue: &mut [u16],
+    removal_list: &mut [u16],
+    addresses: &mut [u16],
+    states: &mut [u8],
+    owners: &mut [u8],
+    free_map: &mut [u32],
+    active: &[u8],
+    used: &mut [u16],
+) -> Applied
+    requires { ⌜ Seats sizes (take (sizes .frames) frames) × Queued sizes (now «free_queue») (now «removal_list») × (length (now words) ≡ sizes .frames * sizes .words) × Pooled sizes pool (now states) (now «free_map») ⌝ }
+    ensures answer { λ r. ⌜ r .answer ≡ own sizes (seenFault (take (sizes .frames) frames) pool (now (numbers .entry)) (now (accounts .entry)) (now (limits .entry)) (now (words .entry)) (now («free_queue» .entry)) (now («removal_list» .entry)) (now (addresses .entry)) (now (states .entry)) (now (owners .entry)) (now («free_map» .entry)) (now (active .entry)) (now (used .entry))) (Event.Page (Page.Fault slot page)) .answer ⌝ }
+    ensures left { λ r. ⌜ FaultLeft sizes (seenFault (take (sizes .frames) frames) pool (now (numbers .entry)) (now (accounts .entry)) (now (limits .entry)) (now (words .entry)) (now («free_queue» .entry)) (now («removal_list» .entry)) (now (addresses .entry)) (now (states .entry)) (now (owners .entry)) (now («free_map» .entry)) (now (active .entry)) (now (used .entry))) slot page (take (sizes .frames) (r .frames)) (r .pool) (now (words .exit)) (now («free_queue» .exit)) (now («removal_list» .exit)) (now (addresses .exit)) (now (states .exit)) (now (owners .exit)) (now («free_map» .exit)) (now (used .exit)) ⌝ }
+{
+    let in_range = (slot < sizes.slots) & (page < sizes.pages);
+    let refusal = ask_fault(
+        sizes,
+        in_range,
+        slot,
+        page,
+        frames,
+        pool.free,
+        numbers,
+        active,
+        accounts,
+        limits,
+        used,
+        addresses,
+        states,
+        free_queue,
+    );
+    if refusal != 0 {
+        return Applied {
+            frames,
+            pool,
+            answer: Answer { refusal, result: 0 },
+        };
+    }
+    let i = page_of(sizes, slot, page);
+    let f = first(free_queue);
+    let way = way_of(i, addresses, states);
+    let payer = at16(accounts, slot) as usize;
+    let pool = hold(
+        way,
+        sizes,
+        slot,
+        i,
+        pool,
+        addresses,
+        states,
+        owners,
+        free_map,
+    );
+    let frames = serve(way, sizes, i, f, frames, words, removal_list);
+    pop(free_queue);
+    charge(way, payer, used);
+    Applied {
+        frames,
+        pool,
+        answer: Answer {
+            refusal: 0,
+            result: f as u32,
+        },
+    }
+}

@@ -1,0 +1,125 @@
+-- All passes together are all rules.
+use mathlib.Core.Path.{_≡_, ap, sym, _∙_}
+use mathlib.Core.Bool.{Bool, false, _&&_}
+use mathlib.Core.List.{List, [], _∷_}
+use Prim.Native.Nat.{ℕ, zero, suc, _+_, _*_, _/_, _<_, _≤_}
+use native.Mathlib.Omega.{arith}
+use lib.Dec.{eqb}
+use lib.ListN.{length, take}
+use lib.Seq.{getD-take}
+use Rattle.tables.specs.Base.{at}
+use Rattle.tables.specs.Laws.{count-same, count-bound}
+use Rattle.tables.specs.Rule.{Rule, below, each, Holds, test, alike}
+use Rattle.tables.specs.Turn.{not-so, unlearn}
+use Rattle.model.specs.declared.frame.Frame.{Frame}
+use Rattle.model.specs.declared.sizes.Sizes.{Sizes}
+use Rattle.model.specs.State.{State, files, frames, frameAt, noFrame}
+use Rattle.model.specs.Fit.{Fit}
+use Rattle.model.specs.Rules.{allRules}
+use Rattle.model.specs.Ruled.{OfFrames, OfQueues, ruled, rules}
+use Rattle.rules.specs.Passes.{usedPage, usedTable, framedPage, framedTable}
+use Rattle.questions.specs.Groups.{diskPasses, filePasses, framePasses, countPasses, DiskLong, FilesLong, FramesLong, CountsLong}
+use Rattle.questions.proofs.DiskLaw.{on-disk, disk-on}
+use Rattle.questions.proofs.FileLaw.{of-files, files-of}
+use Rattle.questions.proofs.FrameLaw.{passes-same, of-frames, frames-of}
+use Rattle.questions.proofs.CountLaw.{of-counts, counts-of}
+
+-- question 1 gives each subject its lengths
+module _ (z : Sizes) (st : State) (fit : Fit z st) where
+  pub disk-long : DiskLong z (st .disk .numbers) (st .disk .accounts) (st .disk .maps)
+  disk-long = record { within = fit .sizes; numbers-long = fit .disk .numbers; accounts-long = fit .disk .accounts; maps-long = fit .disk .maps }
+
+  pub files-long : FilesLong z (st .disk .numbers) (st .disk .accounts) (st .disk .maps) (st .memory .held .addresses) (st .memory .held .states) (st .memory .held .owners) (st .memory .slots .active) (st .memory .slots .updating) (st .memory .slots .images)
+  files-long = record {
+    within = fit .sizes;
+    numbers-long = fit .disk .numbers;
+    accounts-long = fit .disk .accounts;
+    maps-long = fit .disk .maps;
+    addresses-long = fit .memory .addresses;
+    states-long = fit .memory .states;
+    owners-long = fit .memory .owners;
+    active-long = fit .memory .active;
+    updating-long = fit .memory .updating;
+    images-long = fit .memory .images;
+  }
+
+  pub frames-long : FramesLong z (st .disk .accounts) (st .disk .records) (st .memory .core .words) (st .memory .core .free-queue) (st .memory .core .removal-list) (st .memory .held .addresses) (st .memory .held .states) (st .memory .slots .active)
+  frames-long = record {
+    within = fit .sizes;
+    accounts-long = fit .disk .accounts;
+    records-long = fit .disk .records;
+    words-long = fit .memory .words;
+    free-long = fit .memory .free-queue;
+    removal-long = fit .memory .removal-list;
+    addresses-long = fit .memory .addresses;
+    states-long = fit .memory .states;
+    active-long = fit .memory .active;
+  }
+
+  pub counts-long : CountsLong z (st .memory .held .states) (st .memory .held .free-map) (st .memory .used)
+  counts-long = record { within = fit .sizes; states-long = fit .memory .states; free-map-long = fit .memory .free-map; used-long = fit .memory .used }
+
+  abbrev disk-passes : Rule
+  disk-passes = diskPasses (z .slots) (z .pages) (z .records) (z .accounts) (st .disk .numbers) (st .disk .accounts) (st .disk .maps)
+
+  abbrev file-passes : Rule
+  file-passes = filePasses (z .slots) (z .pages) (z .records) (st .disk .numbers) (st .disk .maps) (st .memory .held .addresses) (st .memory .held .states) (st .memory .held .owners) (st .memory .slots .active)
+      (st .memory .slots .updating) (st .memory .slots .images)
+
+  pub no-disk : false ≡ test (diskPasses (z .slots) (z .pages) (z .records) (z .accounts) (st .disk .numbers) (st .disk .accounts) (st .disk .maps)) → false ≡ test (allRules z st)
+  no-disk e = not-so (allRules z st) (λ h. unlearn disk-passes e (disk-on z st disk-long (ruled z st h .disk)))
+
+  pub no-files : false ≡ test (filePasses (z .slots) (z .pages) (z .records) (st .disk .numbers) (st .disk .maps) (st .memory .held .addresses) (st .memory .held .states) (st .memory .held .owners) (st .memory .slots .active)
+      (st .memory .slots .updating) (st .memory .slots .images)) → false ≡ test (allRules z st)
+  no-files e = not-so (allRules z st) (λ h. unlearn file-passes e (files-of z st files-long (ruled z st h .records)))
+
+  -- the frames that the code has are the state's
+  module _ (frame : ℕ → Frame) (same : (f : ℕ) → f < z .frames → frame f ≡ frames st .frame f) where
+    abbrev frame-passes : Rule
+    frame-passes = framePasses (z .frames) (z .words) (z .pages) (z .slots * z .pages) frame (st .disk .records) (st .memory .core .words) (st .memory .core .free-queue) (st .memory .core .removal-list)
+        (st .memory .held .addresses) (st .memory .held .states) (st .memory .slots .active)
+
+    pub no-frames : false ≡ test (framePasses (z .frames) (z .words) (z .pages) (z .slots * z .pages) frame (st .disk .records) (st .memory .core .words) (st .memory .core .free-queue) (st .memory .core .removal-list)
+        (st .memory .held .addresses) (st .memory .held .states) (st .memory .slots .active)) → false ≡ test (allRules z st)
+    no-frames e = not-so (allRules z st) (λ h. unlearn frame-passes e
+        (passes-same (z .frames) (z .words) (z .pages) (z .slots * z .pages) (frames st .frame) frame (λ f l. sym (same f l)) (st .disk .records) (st .memory .core .words) (st .memory .core .free-queue) (st .memory .core .removal-list) (st .memory .held .addresses) (st .memory .held .states) (st .memory .slots .active) (frames-of z st (ruled z st h .frames) (ruled z st h .queues))))
+
+    -- all others hold: the counts decide
+    pub counts-decide : (sums totals : List ℕ) (b : Bool)
+        → Holds (diskPasses (z .slots) (z .pages) (z .records) (z .accounts) (st .disk .numbers) (st .disk .accounts) (st .disk .maps))
+        → Holds (filePasses (z .slots) (z .pages) (z .records) (st .disk .numbers) (st .disk .maps) (st .memory .held .addresses) (st .memory .held .states) (st .memory .held .owners) (st .memory .slots .active)
+        (st .memory .slots .updating) (st .memory .slots .images))
+        → Holds (framePasses (z .frames) (z .words) (z .pages) (z .slots * z .pages) frame (st .disk .records) (st .memory .core .words) (st .memory .core .free-queue) (st .memory .core .removal-list)
+        (st .memory .held .addresses) (st .memory .held .states) (st .memory .slots .active))
+        → Holds (usedTable (z .slots) (z .pages) (st .disk .accounts) (st .memory .slots .active) (st .disk .maps) (st .memory .held .addresses) (st .memory .held .states) sums)
+        → Holds (framedTable (z .frames) (z .pages) (λ f. frame f .page) (st .disk .accounts) (st .memory .held .addresses) (st .memory .held .states) sums totals)
+        → b ≡ test (countPasses (z .records) (z .accounts) (st .memory .held .pool .hand) (st .memory .held .pool .free) (st .memory .held .states) (st .memory .held .free-map) (st .memory .used) totals)
+        → b ≡ test (allRules z st)
+    counts-decide sums totals b d f c sum more e = e ∙ alike count-passes (allRules z st)
+        (λ h. rules z st (record { disk = on-disk z st disk-long d; records = of-files z st files-long f; queues = fq .1; frames = fq .0; counts = of-counts z st (fq .0) sums totals few sum own h }))
+        (λ h. counts-of z st (fq .0) sums totals few sum own (ruled z st h .counts))
+      where
+        few : z .accounts ≤ 16
+        few = omega (arith, fit .sizes .accounts-most)
+
+        fq : OfFrames z (files st) (frames st) (at (st .disk .records)) × OfQueues z st
+        fq = of-frames z st (passes-same (z .frames) (z .words) (z .pages) (z .slots * z .pages) frame (frames st .frame) same (st .disk .records) (st .memory .core .words) (st .memory .core .free-queue) (st .memory .core .removal-list) (st .memory .held .addresses) (st .memory .held .states) (st .memory .slots .active) c)
+
+        own : Holds (framedTable (z .frames) (z .pages) (λ f. frames st .frame f .page) (st .disk .accounts) (st .memory .held .addresses) (st .memory .held .states) sums totals)
+        own q h = more q h ∙ ap (λ (n : ℕ). at sums q + n) (count-same (z .frames) _ _ (λ f l. ap (λ (x : Frame). test (framedPage (z .pages) q (x .page) (at (st .disk .accounts)) (at (st .memory .held .addresses)) (at (st .memory .held .states)))) (same f l)))
+
+        count-passes : Rule
+        count-passes = countPasses (z .records) (z .accounts) (st .memory .held .pool .hand) (st .memory .held .pool .free) (st .memory .held .states) (st .memory .held .free-map) (st .memory .used) totals
+
+-- the first frames are the state's
+pub frames-taken : (n count : ℕ) (fs : List Frame) → length (take count fs) ≡ n → (f : ℕ) → f < n → frameAt fs f ≡ frameAt (take count fs) f
+frames-taken n count fs e f h = sym (getD-take count fs f noFrame (omega (arith, e, take-short count fs)))
+  where
+    take-short : (m : ℕ) (l : List Frame) → length (take m l) ≤ m
+    take-short zero l = omega arith
+    take-short (suc m) [] = omega arith
+    take-short (suc m) (x ∷ l) = omega (arith, take-short m l)
+
+-- what is counted is at most all pages
+pub sums-small : (slots pages : ℕ) (account active maps addresses states sums : List ℕ) → slots * pages ≤ 16384 → Holds (usedTable slots pages account active maps addresses states sums) → Holds (each 16 λ q. below (at sums q) 32768)
+sums-small slots pages account active maps addresses states sums few h q l = omega (arith, h q l, few, count-bound (slots * pages) (λ i. eqb (at account (i / pages)) q && usedPage (at active (i / pages)) (at maps i) (at addresses i) (at states)))

@@ -1,0 +1,19 @@
+-- The four passes together.
+use borrow.Author.Needs.{needs}
+use Rattle.tables.specs.Turn.{four}
+use Rattle.questions.proofs.GroupLaws.{four-true}
+use Rattle.questions.proofs.groups.disk.Statement.{statement}
+use Rattle.questions.proofs.groups.disk.Tie as tie
+
+mark-all-requires : tie.Need-mark-all-requires
+mark-all-requires c κs =
+    let pre = c .before .before .before .before .before .pre in
+    (pre .1, pre .2)
+
+returns : tie.Need-returns
+returns c =
+    let mark-all = c .before .before .before .before .before .mark-all in
+    (four _ _ _ _ _ _ _ _ (mark-all .ensures .0) (c .before .before .disk-slots-ok .ensures) (c .before .numbers-ok .ensures) (c .empty-maps-ok .ensures), λ e. mark-all .ensures .1 (four-true _ _ _ _ e))
+
+pub disk-spec : {M : Type 1} → statement M
+disk-spec = tie.close (tie.spec mark-all-requires (λ c κs. search needs) (λ c κs. search needs) (λ c κs. search needs) (λ c. search needs) returns)

@@ -1,0 +1,41 @@
+-- The sizes first.
+use borrow.Author.Needs.{needs}
+use mathlib.Core.Path.{sym, _∙_}
+use Rattle.model.specs.Sizes.{sizesFit}
+use Rattle.model.specs.Step.{allFit}
+use Rattle.tables.specs.Turn.{learn, both, first-no, second-told}
+use Rattle.questions.proofs.question1.all_fit.Statement.{statement}
+use Rattle.questions.proofs.question1.all_fit.Tie as tie
+
+returns : tie.Need-returns
+unfolding allFit
+returns c =
+    let args = c .before .before .before .before .before .before .before .before .before .before .before .before .before .before .before .before .before .before .args in
+    λ frames pool e. first-no (sizesFit (args .z)) _ (sym (c .if1 .left) ∙ c .before .sizes-fit .ensures)
+
+disk-lengths-fit-requires : tie.Need-disk-lengths-fit-requires
+disk-lengths-fit-requires c κs =
+    let args = c .before .before .before .before .before .before .before .before .before .before .before .before .before .before .before .before .before .before .args in
+    learn (sizesFit (args .z)) (sym (c .if1 .taken) ∙ c .before .sizes-fit .ensures)
+
+memory-lengths-fit-requires : tie.Need-memory-lengths-fit-requires
+memory-lengths-fit-requires c κs =
+    let args = c .before .before .before .before .before .before .before .before .before .before .before .before .before .before .before .before .before .before .before .args in
+    learn (sizesFit (args .z)) (sym (c .before .if1 .taken) ∙ c .before .before .sizes-fit .ensures)
+
+returns-2 : tie.Need-returns-2
+unfolding allFit
+returns-2 c =
+    let sizes-fit = c .before .before .before .sizes-fit in
+    let args = c .before .before .before .before .before .before .before .before .before .before .before .before .before .before .before .before .before .before .before .before .args in
+    λ frames pool e. second-told (sizesFit (args .z)) _ _ (learn (sizesFit (args .z)) (sym (c .before .before .if1 .taken) ∙ sizes-fit .ensures)) (both _ _ _ _ (c .before .disk-lengths-fit .ensures) (c .memory-lengths-fit .ensures frames pool e))
+
+pub all-fit-spec : {M : Type 1} → statement M
+all-fit-spec =
+    tie.close
+    (tie.spec
+    (λ c κs. search needs)
+    returns
+    disk-lengths-fit-requires
+    memory-lengths-fit-requires
+    returns-2)

@@ -1,0 +1,30 @@
+-- The twelve tests are the rule's; the products are small.
+use borrow.Author.Needs.{needs}
+use Prim.Native.Nat.{_+_, _*_, _/_}
+use lib.Dec.{eqb}
+use lib.ListN.{length}
+use native.Mathlib.Omega.{arith}
+use Rattle.tables.specs.Rule.{test}
+use Rattle.model.specs.Fit.{within}
+use Rattle.model.specs.Bounds.{pages-most, frame-words-most}
+use Rattle.questions.proofs.GroupLaws.{twelve}
+use Rattle.questions.proofs.question1.memory_lengths_fit.Statement.{statement}
+use Rattle.questions.proofs.question1.memory_lengths_fit.Tie as tie
+
+mul-pages : tie.Need-mul-pages
+mul-pages c = omega (arith, pages-most (c .before .args .z) (within (c .before .args .z) (c .before .pre)))
+
+mul-result : tie.Need-mul-result
+mul-result c =
+    let args = c .before .before .before .args in
+    let pre = c .before .before .before .pre in
+    omega (arith, frame-words-most (args .z) (within (args .z) (pre)))
+
+returns : tie.Need-returns
+unfolding test
+returns c =
+    let args = c .before .before .before .before .before .before .before .before .before .before .before .args in
+    λ frames pool e. rw e (twelve (eqb (args .count) (args .z .frames)) (eqb (length (args .words .now)) (args .z .frames * args .z .words)) (eqb (length (args .free-queue .now)) (args .z .frames)) (eqb (length (args .removal-list .now)) (args .z .frames)) (eqb (length (args .addresses .now)) (args .z .slots * args .z .pages)) (eqb (length (args .states .now)) (args .z .records)) (eqb (length (args .owners .now)) (args .z .records)) (eqb (length (args .free-map .now)) ((args .z .records + 31) / 32)) (eqb (length (args .active .now)) (args .z .slots)) (eqb (length (args .updating .now)) (args .z .slots)) (eqb (length (args .images .now)) (args .z .slots * args .z .pages)) (eqb (length (args .used .now)) (args .z .accounts)))
+
+pub memory-lengths-fit-spec : {M : Type 1} → statement M
+memory-lengths-fit-spec = tie.close (tie.spec mul-pages mul-result (λ c. search needs) returns)

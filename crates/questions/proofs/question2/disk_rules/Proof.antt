@@ -1,0 +1,27 @@
+-- The disk's passes are its rules, whatever memory holds.
+use borrow.Author.Needs.{needs}
+use mathlib.Core.Path.{_∙_}
+use Prim.Native.Nat.{ℕ}
+use native.Mathlib.Omega.{arith}
+use lib.ListN.{length-replicate}
+use Rattle.model.specs.Fit.{within}
+use Rattle.model.specs.Lent.{diskOf}
+use Rattle.rules.proofs.Marked.{zeros}
+use Rattle.questions.proofs.DiskLaw.{disk-told}
+use Rattle.questions.proofs.question2.disk_rules.Statement.{statement}
+use Rattle.questions.proofs.question2.disk_rules.Tie as tie
+
+disk-requires : tie.Need-disk-requires
+disk-requires c κs =
+    let pre = c .before .before .before .before .before .before .pre in
+    let args = c .before .before .before .before .before .before .args in
+    (record { within = within (args .z) (pre .0); numbers-long = pre .1 .1 .0; accounts-long = pre .1 .1 .1 .0; maps-long = pre .1 .1 .1 .1 .0 }, omega (arith, length-replicate {A = ℕ} 128 0, within (args .z) (pre .0) .records-most), λ k h. zeros 128 k)
+
+returns : tie.Need-returns
+returns c =
+    let pre = c .before .before .before .before .before .before .before .before .pre in
+    let args = c .before .before .before .before .before .before .before .before .args in
+    λ m. c .before .disk .ensures .0 ∙ disk-told (args .z) (record { disk = diskOf (args .records .now) (args .numbers .now) (args .accounts .now) (args .maps .now) (args .limits .now); memory = m }) (record { within = within (args .z) (pre .0); numbers-long = pre .1 .1 .0; accounts-long = pre .1 .1 .1 .0; maps-long = pre .1 .1 .1 .1 .0 })
+
+pub disk-rules-spec : {M : Type 1} → statement M
+disk-rules-spec = tie.close (tie.spec (λ c. search needs) disk-requires returns)

@@ -1,0 +1,2 @@
+-- The passes of question 2 by subject.
+pub mod Groups

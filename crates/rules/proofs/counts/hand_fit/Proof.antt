@@ -1,0 +1,13 @@
+-- The test is the rule's.
+use mathlib.Core.Path.{refl}
+use Rattle.tables.specs.Rule.{test}
+use Rattle.rules.proofs.counts.hand_fit.Statement.{statement}
+use Rattle.rules.proofs.counts.hand_fit.Tie as tie
+
+returns : tie.Need-returns
+unfolding test
+returns c =
+    refl
+
+pub hand-fit-spec : {M : Type 1} → statement M
+hand-fit-spec = tie.close (tie.spec returns)

@@ -1,0 +1,28 @@
+-- The tests are the rule's, the owner's first.
+use borrow.Author.Needs.{needs}
+use mathlib.Core.Path.{sym, _∙_}
+use native.Mathlib.Omega.{arith}
+use Rattle.tables.specs.Turn.{learn, first-no, second-told, four}
+use Rattle.tables.specs.Rule.{below}
+use Rattle.rules.proofs.records.record_ok.Statement.{statement}
+use Rattle.rules.proofs.records.record_ok.Tie as tie
+
+returns : tie.Need-returns
+returns c = first-no _ _ (sym (c .if1 .left) ∙ c .before .owner-fit .ensures)
+
+leaving-begun-requires : tie.Need-leaving-begun-requires
+leaving-begun-requires c κs =
+    let if1 = c .before .before .before .if1 in
+    let owner-fit = c .before .before .before .before .owner-fit in
+    let pre = c .before .before .before .before .before .before .before .before .pre in
+    omega (arith, learn (below _ _) (sym (if1 .taken) ∙ owner-fit .ensures), pre .0)
+
+returns-2 : tie.Need-returns-2
+returns-2 c =
+    let state-fit = c .before .before .before .state-fit in
+    let if1 = c .before .before .before .before .if1 in
+    let owner-fit = c .before .before .before .before .before .owner-fit in
+    second-told _ _ _ (learn (below _ _) (sym (if1 .taken) ∙ owner-fit .ensures)) (four _ _ _ _ _ _ _ _ (state-fit .ensures) (c .before .before .held-by .ensures) (c .before .filed-by .ensures) (c .leaving-begun .ensures))
+
+pub record-ok-spec : {M : Type 1} → statement M
+record-ok-spec = tie.close (tie.spec (λ c κs. search needs) returns (λ c κs. search needs) (λ c κs. search needs) (λ c κs. search needs) leaving-begun-requires returns-2)

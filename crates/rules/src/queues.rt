@@ -1,0 +1,48 @@
+// The free queue and the removal list.
+ghost use mathlib.Core.Path.{_≡_};
+ghost use Prim.Native.Nat.{_+_, _≤_, _<_};
+ghost use lib.ListN.{length};
+ghost use Rattle.tables.specs.Base.{at};
+ghost use Rattle.tables.specs.Queue.{queue};
+ghost use Rattle.tables.specs.Rule.{same, each, test, Holds};
+ghost use Rattle.rules.specs.Passes.{queueEntry, counted};
+use leaves::cells::at16;
+
+fn entry_ok(frames: usize, entry: u16, next: u16) -> bool
+    ensures { λ r. ⌜ r ≡ test (queueEntry frames entry next) ⌝ }
+{
+    (entry as usize <= frames) & (!(entry == 0) | (next == 0))
+}
+
+// The entries name frames, and after a 0 there are only zeros.
+pub fn queue(frames: usize, entries: &[u16]) -> bool
+    requires { ⌜ frames ≤ length (now entries) ⌝ }
+    ensures { λ r. ⌜ r ≡ test (queue frames (now (entries .entry))) ⌝ }
+{
+    let mut k = 0;
+    while k < frames {
+        if entry_ok(frames, entries[k], at16(entries, k + 1)) {} else {
+            return false;
+        }
+        k += 1;
+    }
+    true
+}
+
+// How often each frame is in the queue, from a table of zeros.
+pub fn places(entries: &[u16], none: [u8; 64]) -> [u8; 64]
+    requires { ⌜ (length (now entries) ≤ 64) × (length none ≡ 64) × Holds (each 64 (λ f. same (at none f) 0)) × Holds (queue (length (now entries)) (now entries)) ⌝ }
+    ensures { λ r. ⌜ Holds (counted 64 (now (entries .entry)) r) ⌝ }
+{
+    let mut t = none;
+    let mut k = 0;
+    while k < entries.len() {
+        let e = entries[k] as usize;
+        if e == 0 {
+            return t;
+        }
+        t[e - 1] += 1;
+        k += 1;
+    }
+    t
+}

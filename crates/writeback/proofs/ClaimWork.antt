@@ -1,0 +1,221 @@
+-- Claim: each of the code's ways out leaves what the definition says.
+use mathlib.Core.Path.{_≡_, refl, ap, sym, _∙_, subst}
+use mathlib.Core.Bool.{Bool, true, false, not}
+use mathlib.Core.List.{List}
+use mathlib.Core.Logic.{_⊎_}
+use Prim.Native.Nat.{ℕ, suc, _+_, _-_, _*_, _/_, _<_, _≤_, pred}
+use native.Mathlib.Omega.{arith}
+use native.Mathlib.Decide.{ℕ-discrete}
+use lib.Dec.{eqb}
+use lib.ListN.{length, take, set}
+use lib.Seq.{getD-set-same}
+use borrow.Author.Tests.{eq-eqb, ne-eqb}
+use Rattle.tables.specs.Base.{at, if, all}
+use Rattle.tables.specs.Queue.{queue, size, members, packed, times, first, pop, push-back}
+use Rattle.tables.specs.QueueLaws.{size-members, members-within}
+use Rattle.tables.specs.QueueEntries.{size-more, size-zero}
+use Rattle.tables.specs.Questions.{firstNo, yes-all}
+use Rattle.tables.specs.Rule.{Holds}
+use Rattle.model.specs.declared.sizes.Sizes.{Sizes}
+use Rattle.model.specs.declared.frame.Frame.{Frame}
+use Rattle.model.specs.declared.applied.Framed.{Framed}
+use Rattle.model.specs.Lines.{NULLED, LIVE}
+use Rattle.model.specs.State.{State, WRITING, frameAt, noFrame, payer}
+use Rattle.model.specs.Setters.{onCore, onHeld, setFrames, setRemovalList, setStates, setTransfer, counted}
+use Rattle.model.specs.Pages.{onFrame}
+use Rattle.model.specs.Questions.{questions}
+use Rattle.model.specs.Writeback.{Looked, look, looking, beginsWrite, zeros, recordIn, freeFrame}
+use Rattle.model.specs.Writeback
+use Rattle.model.specs.Step.{Outcome, outcome, carried, result}
+use Rattle.model.specs.Own.{own, refusal, completed, first-no}
+use Rattle.leaves.specs.FrameLaws.{frame-take, take-frame}
+use Rattle.model.specs.OwnLaws.{own-yes, own-no}
+use Rattle.writeback.specs.Claim.{claim, seen, payerOf, usedThen, LooksLeft, Claimable, ClaimReady, ClaimLeft}
+use Rattle.writeback.proofs.DoneWork.{answered}
+use Rattle.writeback.proofs.Looks.{cut, look-take, taken-in}
+use Rattle.tables.specs.StoreLoops.{part-fits}
+
+module _ (z : Sizes) (fs : List Frame) (ac ws fq rl ads ss us : List ℕ) where
+  abbrev st : State
+  st = seen z fs ac ws fq rl ads ss us
+
+  abbrev Left : Framed → List ℕ → List ℕ → List ℕ → List ℕ → Type 0
+  Left x fq' rl' ss' us' = ClaimLeft z st (x .frames) (x .answer) fq' rl' ss' us'
+
+  pub refused : {e : ℕ} → e ≡ at rl 0 → e ≡ 0 → {x : Framed} → x ≡ answered fs 21 0 → Left x fq rl ss us
+  refused a b {x} y = record {
+    answer = ap (λ (v : Framed). v .answer) y ∙ sym (ap (λ (o : Outcome State). o .answer) no);
+    frames = ap (λ (v : Framed). take (z .frames) (v .frames)) y ∙ sym (ap (λ (o : Outcome State). o .left .memory .core .frames) no);
+    free-queue = sym (ap (λ (o : Outcome State). o .left .memory .core .free-queue) no);
+    removal-list = sym (ap (λ (o : Outcome State). o .left .memory .core .removal-list) no);
+    states = sym (ap (λ (o : Outcome State). o .left .memory .held .states) no);
+    used = sym (ap (λ (n : ℕ). outcome n 0 us (usedThen z st) .left) says);
+  }
+    where
+      says : firstNo (questions z st claim) ≡ 21
+      says = first-no 21 _ _ (λ h. omega (arith, size-zero rl (sym a ∙ b)))
+
+      no : own z st claim ≡ refusal 21 st
+      no = sym (own-no z st claim _ (sym says) (λ h. omega arith))
+
+  module _ {e : ℕ} (a : e ≡ at rl 0) (d : ¬ (e ≡ 0)) where
+    pub some : 0 < size rl
+    some = size-more rl 0 (omega arith) (λ h. d (a ∙ h))
+
+    says : firstNo (questions z st claim) ≡ 0
+    says = yes-all (questions z st claim) (some, tt)
+
+    module _ (ready : ClaimReady z (take (z .frames) fs) ac ws fq rl ads ss us) {kept : List Frame} {looks f : ℕ} {list : List ℕ} (t : LooksLeft fs rl kept looks list) (here : f ≡ first list) where
+      looked-is : looking z st ≡ cut (z .frames) (look (suc (size rl)) 0 fs (members rl))
+      unfolding looking
+      looked-is = ap (λ (n : ℕ). look (suc n) 0 (take (z .frames) fs) (members rl)) (sym (size-members rl)) ∙ look-take (z .frames) (suc (size rl)) 0 fs (members rl) (members-within rl (ready .list-long) (ready .listed))
+
+      taken-is : looking z st .taken ≡ f
+      taken-is = ap (λ (l : Looked). l .taken) looked-is ∙ sym (t .the-taken) ∙ sym here
+
+      frames-are : looking z st .frames ≡ take (z .frames) kept
+      frames-are = ap (λ (l : Looked). l .frames) looked-is ∙ ap (take (z .frames)) (sym (t .the-frames))
+
+      looks-are : looking z st .looks ≡ looks
+      looks-are = ap (λ (l : Looked). l .looks) looked-is ∙ sym (t .the-looks)
+
+      list-is : pop list ≡ packed (length rl) (looking z st .list)
+      list-is = t .the-list ∙ ap (λ (l : Looked). packed (length rl) (l .list)) (sym looked-is)
+
+      in-list : 0 < times (members rl) f
+      in-list = rw (here ∙ t .the-taken) (taken-in fs rl some)
+
+      pub below : f < z .frames
+      below = members-within rl (ready .list-long) (ready .listed) f in-list
+
+      abbrev old : Frame
+      old = frameAt fs f
+
+      same-frame : frameAt (take (z .frames) fs) f ≡ old
+      same-frame = frame-take (z .frames) fs f below
+
+      held : Claimable z (old .page) ac fq ads ss us
+      held = subst (λ (g : Frame). Claimable z (g .page) ac fq ads ss us) same-frame (ready .held f below in-list)
+
+      pub words-fit : f * z .words + z .words ≤ length ws
+      words-fit = rw (ready .words-long) (part-fits (z .frames) (z .words) f below)
+
+      pub room : (f < 65535) × Holds (queue (length fq) fq) × (size fq < length fq)
+      room = (omega (arith, below, ready .most), rw (ready .queue-long) (ready .queued), omega (arith, held .room, ready .queue-long))
+
+      pub pays : 0 < at us (at ac (pred (old .page) / z .pages))
+      pays = held .pays
+
+      module _ {r : ℕ} (found : r ≡ pred (at ads (pred (old .page)))) where
+        item-is : r ≡ held .item
+        item-is = found ∙ ap pred (held .holds)
+
+        pub moves : (at ss r ≡ NULLED) ⊎ (at ss r ≡ LIVE)
+        moves = rw item-is (held .moves)
+
+        record-is : recordIn z st (looking z st .taken) ≡ r
+        record-is = rw (taken-is, same-frame) (sym found)
+
+      -- ── a write begins, or not ──
+      module _ {b : Bool} (w : b ≡ if (eqb (old .modified) 1) (not (all (z .words) (λ k. eqb (at ws (f * z .words + k)) 0))) false) where
+        begins : beginsWrite z st ≡ b
+        unfolding beginsWrite zeros
+        begins = rw (taken-is, same-frame) (sym w)
+
+        abbrev looked : State
+        looked = onCore (λ c. setFrames (looking z st .frames) (setRemovalList (packed (length (c .removal-list)) (looking z st .list)) c)) st
+
+        by-way : (st' : State) → carried z st claim ≡ counted z st' → own z st claim ≡ completed (looking z st .looks) (counted z st')
+        unfolding result
+        by-way st' c = sym (own-yes z st claim _ (sym says) refl) ∙ ap (completed (looking z st .looks)) c
+
+        -- what every way leaves: the answer, the list and the used counts
+        the-answer : {st' : State} {x : Framed} {gs : List Frame} → own z st claim ≡ completed (looking z st .looks) st' → x ≡ answered gs 0 looks → x .answer ≡ own z st claim .answer
+        the-answer c y = ap (λ (v : Framed). v .answer) y ∙ ap (λ (n : ℕ). record { refusal = 0; result = n }) (sym looks-are) ∙ sym (ap (λ (o : Outcome State). o .answer) c)
+
+        used-by : {us' : List ℕ} → us' ≡ usedThen z st → us' ≡ outcome (firstNo (questions z st claim)) 0 us (usedThen z st) .left
+        used-by u = u ∙ sym (ap (λ (n : ℕ). outcome n 0 us (usedThen z st) .left) says)
+
+        pub write-begins : b ≡ true → {rl' : List ℕ} {g : Frame} {x : Framed} → rl' ≡ pop list → g ≡ frameAt kept f → x ≡ answered (set kept f (setTransfer WRITING g)) 0 looks → Left x fq rl' ss us
+        unfolding carried Writeback.claim counted usedThen
+        write-begins v {x = x} p q y = record {
+          answer = the-answer {x = x} way y;
+          frames = ap (λ (k : Framed). take (z .frames) (k .frames)) y ∙ take-frame (z .frames) kept f _ ∙ ap (λ (k : Frame). set (take (z .frames) kept) f (setTransfer WRITING k)) (q ∙ sym (frame-take (z .frames) kept f below)) ∙ rw (← frames-are, ← taken-is) (sym (ap (λ (o : Outcome State). o .left .memory .core .frames) way));
+          free-queue = sym (ap (λ (o : Outcome State). o .left .memory .core .free-queue) way);
+          removal-list = p ∙ list-is ∙ sym (ap (λ (o : Outcome State). o .left .memory .core .removal-list) way);
+          states = sym (ap (λ (o : Outcome State). o .left .memory .held .states) way);
+          used = used-by (rw (begins ∙ v));
+        }
+          where
+            way : own z st claim ≡ completed (looking z st .looks) (counted z (onCore (λ c. onFrame (looking z st .taken) (setTransfer WRITING) c) looked))
+            way = by-way (onCore (λ c. onFrame (looking z st .taken) (setTransfer WRITING) c) looked) (rw (begins ∙ v))
+
+        module _ (v : b ≡ false) {r : ℕ} (found : r ≡ pred (at ads (pred (old .page)))) where
+          mod-is : frameAt (take (z .frames) fs) (looking z st .taken) .modified ≡ old .modified
+          mod-is = rw (taken-is, same-frame)
+
+          inside : r < length ss
+          inside = rw (item-is found) (held .inside)
+
+          abbrev payer-at : ℕ
+          payer-at = at ac (pred (old .page) / z .pages)
+
+          abbrev less : List ℕ
+          less = set us payer-at (at us payer-at - 1)
+
+          payer-is : payerOf z st (looking z st .taken) ≡ payer-at
+          unfolding payer
+          payer-is = rw (taken-is, same-frame)
+
+          -- the used counts, by whether the frame was modified
+          used-nulled : old .modified ≡ 1 → less ≡ usedThen z st
+          unfolding usedThen
+          used-nulled m = rw (begins ∙ v, eq-eqb _ _ (mod-is ∙ m), payer-is)
+
+          used-kept : ¬ (old .modified ≡ 1) → if (eqb (at ss r) NULLED) less us ≡ usedThen z st
+          unfolding usedThen
+          used-kept m = rw (begins ∙ v, ne-eqb _ _ (λ h. m (sym mod-is ∙ h)), payer-is, record-is found)
+
+          freed-frames : {x : Framed} → x ≡ answered (set kept f noFrame) 0 looks → take (z .frames) (x .frames) ≡ set (looking z st .frames) (looking z st .taken) noFrame
+          freed-frames y = ap (λ (k : Framed). take (z .frames) (k .frames)) y ∙ take-frame (z .frames) kept f noFrame ∙ rw (frames-are, taken-is)
+
+          abbrev nulledSt : State
+          nulledSt = onHeld (λ h. setStates (set (h .states) (recordIn z st (looking z st .taken)) NULLED) h) looked
+
+          way-nulled : old .modified ≡ 1 → own z st claim ≡ completed (looking z st .looks) (counted z (freeFrame (looking z st .taken) nulledSt))
+          unfolding carried Writeback.claim
+          way-nulled m = by-way (freeFrame (looking z st .taken) nulledSt) (rw (begins ∙ v, eq-eqb _ _ (mod-is ∙ m)))
+
+          way-kept : ¬ (old .modified ≡ 1) → own z st claim ≡ completed (looking z st .looks) (counted z (freeFrame (looking z st .taken) looked))
+          unfolding carried Writeback.claim
+          way-kept m = by-way (freeFrame (looking z st .taken) looked) (rw (begins ∙ v, ne-eqb _ _ (λ h. m (sym mod-is ∙ h))))
+
+          module _ {fq' rl' ss' us' : List ℕ} {x : Framed} (p : rl' ≡ pop list) (q : fq' ≡ push-back fq f)
+              (u : us' ≡ if (eqb (at ss' r) NULLED) less us) (y : x ≡ answered (set kept f noFrame) 0 looks) where
+            free-nulled : old .modified ≡ 1 → ss' ≡ set ss r NULLED → Left x fq' rl' ss' us'
+            unfolding counted freeFrame
+            free-nulled m s = record {
+              answer = the-answer {x = x} (way-nulled m) y;
+              frames = freed-frames y ∙ sym (ap (λ (o : Outcome State). o .left .memory .core .frames) (way-nulled m));
+              free-queue = q ∙ ap (push-back fq) (sym taken-is) ∙ sym (ap (λ (o : Outcome State). o .left .memory .core .free-queue) (way-nulled m));
+              removal-list = p ∙ list-is ∙ sym (ap (λ (o : Outcome State). o .left .memory .core .removal-list) (way-nulled m));
+              states = s ∙ ap (λ (i : ℕ). set ss i NULLED) (sym (record-is found)) ∙ sym (ap (λ (o : Outcome State). o .left .memory .held .states) (way-nulled m));
+              used = used-by (u ∙ rw (eq-eqb (at ss' r) NULLED (ap (λ (l : List ℕ). at l r) s ∙ getD-set-same ss r NULLED 0 inside)) (used-nulled m));
+            }
+
+            free-kept : ¬ (old .modified ≡ 1) → ss' ≡ ss → Left x fq' rl' ss' us'
+            unfolding counted freeFrame
+            free-kept m s = record {
+              answer = the-answer {x = x} (way-kept m) y;
+              frames = freed-frames y ∙ sym (ap (λ (o : Outcome State). o .left .memory .core .frames) (way-kept m));
+              free-queue = q ∙ ap (push-back fq) (sym taken-is) ∙ sym (ap (λ (o : Outcome State). o .left .memory .core .free-queue) (way-kept m));
+              removal-list = p ∙ list-is ∙ sym (ap (λ (o : Outcome State). o .left .memory .core .removal-list) (way-kept m));
+              states = s ∙ sym (ap (λ (o : Outcome State). o .left .memory .held .states) (way-kept m));
+              used = used-by (u ∙ rw s (used-kept m));
+            }
+
+            pub freed : ss' ≡ if (eqb (old .modified) 1) (set ss r NULLED) ss → Left x fq' rl' ss' us'
+            freed s = elim (ℕ-discrete (old .modified) 1) [
+              | yes m ↦ free-nulled m (s ∙ rw (eq-eqb _ _ m))
+              | no m ↦ free-kept m (s ∙ rw (ne-eqb _ _ m))
+            ]

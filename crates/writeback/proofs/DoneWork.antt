@@ -1,0 +1,174 @@
+-- Page done: each of the code's ways out leaves what the definition says.
+use mathlib.Core.Path.{_≡_, refl, ap, sym, _∙_, subst}
+use mathlib.Core.List.{List}
+use mathlib.Core.Logic.{_⊎_}
+use Prim.Native.Nat.{ℕ, suc, _+_, _*_, _/_, _%_, _<_, _≤_, pred}
+use native.Mathlib.Omega.{arith}
+use lib.ListN.{length, take, set}
+use borrow.Author.Tests.{eq-eqb, ne-eqb}
+use Rattle.tables.specs.Base.{at}
+use Rattle.tables.specs.Queue.{queue, size, push-back, push-front}
+use Rattle.tables.specs.Questions.{firstNo, Asked, all-yes}
+use Rattle.tables.specs.Rule.{Holds, same}
+use Rattle.tables.specs.Store.{store}
+use Rattle.model.specs.declared.sizes.Sizes.{Sizes}
+use Rattle.model.specs.declared.frame.Frame.{Frame}
+use Rattle.model.specs.declared.applied.Framed.{Framed}
+use Rattle.model.specs.Lines.{NULLED, LIVE}
+use Rattle.model.specs.State.{State, NONE, READING, frameAt, noFrame}
+use Rattle.model.specs.Setters.{counted, setModified, setTransfer}
+use Rattle.model.specs.Pages.{fresh}
+use Rattle.model.specs.Questions.{questions}
+use Rattle.model.specs.Writeback
+use Rattle.model.specs.Step.{Outcome, carried, result}
+use Rattle.model.specs.Own.{own, completed}
+use Rattle.model.specs.OwnLaws.{own-yes, own-no}
+use Rattle.writeback.specs.Done.{pageDone, seen, InTransfer, DoneReady, DoneLeft}
+use Rattle.leaves.specs.FrameLaws.{frame-take, take-frame}
+use Rattle.tables.specs.StoreLoops.{part-fits}
+
+abbrev pub answered : List Frame → ℕ → ℕ → Framed
+answered fs n m = record { frames = fs; answer = record { refusal = n; result = m } }
+
+-- a frame whose write has failed
+abbrev pub unwritten : Frame → Frame
+unwritten g = setTransfer NONE (setModified 1 (Writeback.cooled g))
+
+-- the outcome by another name
+left-by : {o p : Outcome State} {n : ℕ} {x : Framed} {rs ws fq rl ss : List ℕ} → o ≡ p → DoneLeft p n (x .frames) (x .answer) rs ws fq rl ss → DoneLeft o n (x .frames) (x .answer) rs ws fq rl ss
+left-by {n = n} {x = x} {rs = rs} {ws = ws} {fq = fq} {rl = rl} {ss = ss} e h = subst (λ (o : Outcome State). DoneLeft o n (x .frames) (x .answer) rs ws fq rl ss) (sym e) h
+
+module _ (z : Sizes) (fs : List Frame) (rs ws fq rl ads ss : List ℕ) (f good : ℕ) where
+  abbrev st : State
+  st = seen z fs rs ws fq rl ads ss
+
+  abbrev old : Frame
+  old = frameAt fs f
+
+  abbrev out : Outcome State
+  out = own z st (pageDone f good)
+
+  abbrev Left : Framed → List ℕ → List ℕ → List ℕ → List ℕ → List ℕ → Type 0
+  Left x rs' ws' fq' rl' ss' = DoneLeft out (z .frames) (x .frames) (x .answer) rs' ws' fq' rl' ss'
+
+  module _ {n : ℕ} (e : n ≡ firstNo (questions z st (pageDone f good))) where
+    pub refused : ¬ (n ≡ 0) → {x : Framed} → x ≡ answered fs n 0 → Left x rs ws fq rl ss
+    refused d {x} y = left-by {x = x} (sym (own-no z st (pageDone f good) _ e d))
+        (record { answer = ap (λ (a : Framed). a .answer) y; frames = ap (λ (a : Framed). take (z .frames) (a .frames)) y; records = refl; words = refl; free-queue = refl; removal-list = refl; states = refl })
+
+    module _ (yes : n ≡ 0) where
+      asked : Asked (questions z st (pageDone f good))
+      asked = all-yes 2 (questions z st (pageDone f good)) tt (sym e ∙ yes)
+
+      pub inside : f < z .frames
+      inside = asked .0 .0
+
+      same-frame : frameAt (take (z .frames) fs) f ≡ old
+      same-frame = frame-take (z .frames) fs f inside
+
+      pub moving : ¬ (frameAt (take (z .frames) fs) f .transfer ≡ NONE)
+      moving = asked .1 .0
+
+      -- ── what the leaves ask for ──
+      module _ (ready : DoneReady z (take (z .frames) fs) rs ws fq rl ads ss) where
+        held : InTransfer z (frameAt (take (z .frames) fs) f .page) fq rl ads ss
+        held = ready .transfer f inside moving
+
+        page-is : old .page ≡ suc (held .index)
+        page-is = ap (λ (g : Frame). g .page) (sym same-frame) ∙ held .named
+
+        pub paged : 0 < old .page
+        paged = omega (arith, page-is)
+
+        item-is : pred (at ads (pred (old .page))) ≡ held .item
+        item-is = ap (λ (n : ℕ). pred (at ads (pred n))) page-is ∙ ap pred (held .holds)
+
+        pub room-queue : (f < 65535) × Holds (queue (length fq) fq) × (size fq < length fq)
+        room-queue = (omega (arith, inside, ready .most), rw (ready .queue-long) (ready .queued), omega (arith, held .free-room, ready .queue-long))
+
+        pub room-list : (f < 65535) × Holds (queue (length rl) rl) × (size rl < length rl)
+        room-list = (omega (arith, inside, ready .most), rw (ready .list-long) (ready .listed), omega (arith, held .list-room, ready .list-long))
+
+        pub part-frame : f * z .words + z .words ≤ length ws
+        part-frame = rw (ready .words-long) (part-fits (z .frames) (z .words) f inside)
+
+        module _ {r : ℕ} (found : r ≡ pred (at ads (pred (old .page)))) where
+          pub part-record : r * z .words + z .words ≤ length rs
+          part-record = rw (found ∙ item-is, ready .records-long) (part-fits (z .records) (z .words) (held .item) (held .inside))
+
+          pub moves : (at ss r ≡ NULLED) ⊎ (at ss r ≡ LIVE)
+          moves = rw (found ∙ item-is) (held .moves)
+
+      -- the frames with one stored anew, as the model has them
+      stored : (g h : Frame) → g ≡ h → {x : Framed} → x ≡ answered (set fs f g) 0 0 → take (z .frames) (x .frames) ≡ set (take (z .frames) fs) f h
+      stored g h a y = ap (λ (b : Framed). take (z .frames) (b .frames)) y ∙ take-frame (z .frames) fs f g ∙ ap (set (take (z .frames) fs) f) a
+
+      abbrev Way : State → Type 0
+      Way st' = carried z st (pageDone f good) ≡ counted z st'
+
+      by-way : (st' : State) → Way st' → out ≡ completed 0 (counted z st')
+      unfolding result
+      by-way st' w = sym (own-yes z st (pageDone f good) _ e yes) ∙ ap (completed 0) w
+
+      module _ (reads : old .transfer ≡ READING) where
+        t : frameAt (take (z .frames) fs) f .transfer ≡ READING
+        t = ap (λ (g : Frame). g .transfer) same-frame ∙ reads
+
+        pub read-good : good ≡ 1 → {ws' rl' : List ℕ} {x : Framed} → ws' ≡ store ws (λ k. same (k / z .words) f) (λ k. at rs (pred (at ads (pred (old .page))) * z .words + k % z .words))
+            → rl' ≡ push-front rl f → x ≡ answered (set fs f (fresh (pred (old .page)))) 0 0 → Left x rs ws' fq rl' ss
+        unfolding carried Writeback.pageDone Writeback.readGood counted
+        read-good g {x = x} a b y = left-by {x = x} (by-way (Writeback.readGood z st f) (rw (eq-eqb _ _ t, eq-eqb _ _ g)))
+            (record {
+              answer = ap (λ (v : Framed). v .answer) y;
+              frames = stored (fresh (pred (old .page))) (fresh (pred (frameAt (take (z .frames) fs) f .page))) (ap (λ (v : Frame). fresh (pred (v .page))) (sym same-frame)) y;
+              records = refl;
+              words = a ∙ rw same-frame;
+              free-queue = refl;
+              removal-list = b;
+              states = refl;
+            })
+
+        pub read-failed : ¬ (good ≡ 1) → {fq' : List ℕ} {x : Framed} → fq' ≡ push-back fq f → x ≡ answered (set fs f noFrame) 0 0 → Left x rs ws fq' rl ss
+        unfolding carried Writeback.pageDone Writeback.readFailed Writeback.freeFrame counted
+        read-failed g {x = x} a y = left-by {x = x} (by-way (Writeback.readFailed z st f) (rw (eq-eqb _ _ t, ne-eqb _ _ g)))
+            (record {
+              answer = ap (λ (v : Framed). v .answer) y;
+              frames = stored noFrame noFrame refl y;
+              records = refl;
+              words = refl;
+              free-queue = a;
+              removal-list = refl;
+              states = refl;
+            })
+
+      module _ (writes : ¬ (old .transfer ≡ READING)) where
+        u : ¬ (frameAt (take (z .frames) fs) f .transfer ≡ READING)
+        u h = writes (ap (λ (g : Frame). g .transfer) (sym same-frame) ∙ h)
+
+        pub write-good : good ≡ 1 → {rs' fq' ss' : List ℕ} {x : Framed}
+            → rs' ≡ store rs (λ k. same (k / z .words) (pred (at ads (pred (old .page))))) (λ k. at ws (f * z .words + k % z .words))
+            → ss' ≡ set ss (pred (at ads (pred (old .page)))) LIVE → fq' ≡ push-back fq f → x ≡ answered (set fs f noFrame) 0 0 → Left x rs' ws fq' rl ss'
+        unfolding carried Writeback.pageDone Writeback.writeGood Writeback.storeFrame Writeback.freeFrame counted
+        write-good g {x = x} a b d y = left-by {x = x} (by-way (Writeback.writeGood z st f) (rw (ne-eqb _ _ u, eq-eqb _ _ g)))
+            (record {
+              answer = ap (λ (v : Framed). v .answer) y;
+              frames = stored noFrame noFrame refl y;
+              records = a ∙ rw same-frame;
+              words = refl;
+              free-queue = d;
+              removal-list = refl;
+              states = b ∙ rw same-frame;
+            })
+
+        pub write-failed : ¬ (good ≡ 1) → {rl' : List ℕ} {x : Framed} → rl' ≡ push-back rl f → x ≡ answered (set fs f (unwritten old)) 0 0 → Left x rs ws fq rl' ss
+        unfolding carried Writeback.pageDone Writeback.writeFailed counted
+        write-failed g {x = x} a y = left-by {x = x} (by-way (Writeback.writeFailed z st f) (rw (ne-eqb _ _ u, ne-eqb _ _ g)))
+            (record {
+              answer = ap (λ (v : Framed). v .answer) y;
+              frames = stored (unwritten old) (unwritten (frameAt (take (z .frames) fs) f)) (ap unwritten (sym same-frame)) y;
+              records = refl;
+              words = refl;
+              free-queue = refl;
+              removal-list = a;
+              states = refl;
+            })

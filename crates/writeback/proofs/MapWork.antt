@@ -1,0 +1,104 @@
+-- Map done: each of the code's ways out leaves what the definition says.
+use mathlib.Core.Path.{_≡_, refl, ap, sym, _∙_, subst}
+use mathlib.Core.List.{List}
+use mathlib.Core.Logic.{inl, inr}
+use Prim.Native.Nat.{ℕ, _+_, _*_, _/_, _<_, _≤_}
+use native.Mathlib.Omega.{arith}
+use lib.Dec.{eqb}
+use lib.ListN.{length, set}
+use borrow.Author.Tests.{ne-eqb}
+use Rattle.tables.specs.Base.{at}
+use Rattle.tables.specs.Questions.{firstNo, Asked, all-yes}
+use Rattle.tables.specs.Rule.{same}
+use Rattle.tables.specs.Store.{store, at-store}
+use Rattle.model.specs.declared.sizes.Sizes.{Sizes}
+use Rattle.model.specs.declared.frame.Pool.{Pool}
+use Rattle.model.specs.Lines.{FREE, RELEASED}
+use Rattle.model.specs.State.{State, freeCount}
+use Rattle.model.specs.Setters.{counted}
+use Rattle.model.specs.Questions.{questions}
+use Rattle.model.specs.Writeback
+use Rattle.model.specs.Step.{Outcome, carried, result}
+use Rattle.model.specs.Own.{own, completed}
+use Rattle.leaves.specs.Counts.{free-same}
+use Rattle.leaves.specs.FreeMap.{freeMap, free-map-same}
+use Rattle.leaves.specs.Freed.{Freed, leaverOf}
+use Rattle.writeback.specs.declared.map_done.Freed as Handed
+use Rattle.model.specs.OwnLaws.{own-yes, own-no}
+use Rattle.writeback.specs.MapDone.{mapDone, seen, MapReady, MapLeft}
+use Rattle.tables.specs.StoreLoops.{part-fits}
+
+abbrev pub handed : Pool → ℕ → ℕ → Handed.Freed
+handed pool free n = record { pool = record { hand = pool .hand; free = free }; answer = record { refusal = n; result = 0 } }
+
+-- a released record is as little free as a leaving one
+still-taken : (ss os : List ℕ) (s r : ℕ) → r < length ss → eqb (at ss r) FREE ≡ eqb (at (store ss (leaverOf ss os s) (λ k. RELEASED)) r) FREE
+still-taken ss os s r h = elim (at-store ss (leaverOf ss os s) (λ k. RELEASED) r h) [
+  | inl x ↦ rw (x .1) (ne-eqb (at ss r) FREE (λ e. omega (arith, x .0 .0)))
+  | inr x ↦ rw (x .1)
+]
+
+module _ (z : Sizes) (pool : Pool) (ns ms ss os fm ac us is : List ℕ) (s good : ℕ) where
+  abbrev st : State
+  st = seen pool ns ms ss os fm ac us is
+
+  abbrev out : Outcome State
+  out = own z st (mapDone s good)
+
+  abbrev Left : Handed.Freed → List ℕ → List ℕ → List ℕ → List ℕ → List ℕ → List ℕ → Type 0
+  Left x ms' ss' os' fm' us' is' = MapLeft out (x .pool) (x .answer) ms' ss' os' fm' us' is'
+
+  left-by : {p : Outcome State} {x : Handed.Freed} {ms' ss' os' fm' us' is' : List ℕ} → out ≡ p → MapLeft p (x .pool) (x .answer) ms' ss' os' fm' us' is' → Left x ms' ss' os' fm' us' is'
+  left-by {x = x} {ms' = ms'} {ss' = ss'} {os' = os'} {fm' = fm'} {us' = us'} {is' = is'} e h = subst (λ (o : Outcome State). MapLeft o (x .pool) (x .answer) ms' ss' os' fm' us' is') (sym e) h
+
+  module _ {n : ℕ} (e : n ≡ firstNo (questions z st (mapDone s good))) where
+    pub refused : ¬ (n ≡ 0) → {x : Handed.Freed} → x ≡ handed pool (pool .free) n → Left x ms ss os fm us is
+    refused d {x} y = left-by {x = x} (sym (own-no z st (mapDone s good) _ e d))
+        (record { answer = ap (λ (a : Handed.Freed). a .answer) y; pool = ap (λ (a : Handed.Freed). a .pool) y; maps = refl; states = refl; owners = refl; free-map = refl; updating = refl; images = refl })
+
+    module _ (yes : n ≡ 0) where
+      asked : Asked (questions z st (mapDone s good))
+      asked = all-yes 2 (questions z st (mapDone s good)) tt (sym e ∙ yes)
+
+      inside : s < z .slots
+      inside = asked .0 .0
+
+      module _ (ready : MapReady z pool ms ss os fm is) where
+        pub maps-fit : s * z .pages + z .pages ≤ length ms
+        maps-fit = rw (ready .maps-long) (part-fits (z .slots) (z .pages) s inside)
+
+        pub images-fit : s * z .pages + z .pages ≤ length is
+        images-fit = rw (ready .images-long) (part-fits (z .slots) (z .pages) s inside)
+
+        pub good-left : good ≡ 1 → {ms' ss' os' fm' us' is' : List ℕ} {k : ℕ} {x : Handed.Freed} → us' ≡ set us s 0 → ms' ≡ store ms (λ i. same (i / z .pages) s) (at is)
+            → is' ≡ store is (λ i. same (i / z .pages) s) (λ i. 0) → Freed z s ss os ss' os' fm' k → x ≡ handed pool k 0 → Left x ms' ss' os' fm' us' is'
+        unfolding carried result Writeback.mapDone Writeback.storeImage Writeback.updateOver counted
+        good-left g {x = x} a b d w y = left-by {x = x} (sym (own-yes z st (mapDone s good) _ e yes) ∙ ap (completed 0) (ap (λ (m : ℕ). carried z st (mapDone s m)) g))
+            (record {
+              answer = ap (λ (v : Handed.Freed). v .answer) y;
+              pool = ap (λ (v : Handed.Freed). v .pool) y ∙ ap (λ (m : ℕ). record { hand = pool .hand; free = m }) (w .the-count ∙ ap (λ (l : List ℕ). freeCount z (at l)) (w .the-states));
+              maps = b;
+              states = w .the-states;
+              owners = w .the-owners;
+              free-map = w .the-map ∙ ap (λ (l : List ℕ). freeMap z (at l)) (w .the-states);
+              updating = a;
+              images = d;
+            })
+
+        pub failed-left : ¬ (good ≡ 1) → {ss' us' is' : List ℕ} {x : Handed.Freed} → us' ≡ set us s 0
+            → is' ≡ store is (λ i. same (i / z .pages) s) (λ i. 0) → ss' ≡ store ss (leaverOf ss os s) (λ r. RELEASED) → x ≡ handed pool (pool .free) 0 → Left x ms ss' os fm us' is'
+        unfolding carried result Writeback.mapDone Writeback.updateOver counted
+        failed-left g {x = x} a d w y = left-by {x = x} (sym (own-yes z st (mapDone s good) _ e yes)) (rw (ne-eqb good 1 g)
+            (record {
+              answer = ap (λ (v : Handed.Freed). v .answer) y;
+              pool = ap (λ (v : Handed.Freed). v .pool) y ∙ ap (λ (m : ℕ). record { hand = pool .hand; free = m }) (ready .counted ∙ free-same z (at ss) (at (store ss (leaverOf ss os s) (λ r. RELEASED))) taken);
+              maps = refl;
+              states = w;
+              owners = refl;
+              free-map = ready .told ∙ free-map-same z (at ss) (at (store ss (leaverOf ss os s) (λ r. RELEASED))) taken;
+              updating = a;
+              images = d;
+            }))
+          where
+            taken : (r : ℕ) → r < z .records → eqb (at ss r) FREE ≡ eqb (at (store ss (leaverOf ss os s) (λ k. RELEASED)) r) FREE
+            taken r h = still-taken ss os s r (rw (ready .states-long) h)

@@ -1,0 +1,193 @@
+-- Truncate: what the code's passes leave is what the definition says.
+use mathlib.Core.Path.{_≡_, refl, ap, sym, _∙_, subst}
+use mathlib.Core.Bool.{Bool, _&&_}
+use mathlib.Core.List.{List, _++_, map}
+use mathlib.Core.Logic.{inl, inr}
+use Prim.Native.Nat.{ℕ, zero, suc, _+_, _-_, _*_, _<_, _≤_}
+use native.Mathlib.Omega.{arith}
+use lib.Dec.{leb}
+use lib.ListN.{length, take, set, length-take}
+use lib.Seq.{ext-getD}
+use Rattle.tables.specs.Base.{at, if, count, those, tab}
+use Rattle.tables.specs.Laws.{at-tab0, length-tab, count-same, if-true, if-false}
+use Rattle.tables.specs.Queue.{members, packed, without}
+use Rattle.tables.specs.QueueLaws.{members-within}
+use Rattle.tables.specs.Questions.{firstNo, Asked, all-yes}
+use Rattle.tables.specs.Rule.{Holds, same, some, _and_, test, alike, complete, sound}
+use Rattle.tables.specs.Store.{Split, store}
+use Rattle.tables.specs.StoreLoops.{from-inside, inside-from}
+use Rattle.tables.specs.ThoseLaws.{those-same}
+use Rattle.model.specs.declared.sizes.Sizes.{Sizes}
+use Rattle.model.specs.declared.frame.Frame.{Frame}
+use Rattle.model.specs.declared.applied.Framed.{Framed}
+use Rattle.model.specs.Lines.{RELEASED}
+use Rattle.model.specs.State.{State, frames, frameAt, noFrame, pageOf, allPages, framed, charged, payer}
+use Rattle.model.specs.Setters.{counted}
+use Rattle.model.specs.Parts.{fromPage}
+use Rattle.model.specs.Questions.{questions}
+use Rattle.model.specs.Writeback
+use Rattle.model.specs.Step.{Outcome, outcome, carried, result}
+use Rattle.model.specs.Own.{own, completed}
+use Rattle.leaves.specs.FrameLaws.{frame-take, frame-found}
+use Rattle.leaves.specs.Released.{Releasing}
+use Rattle.model.specs.OwnLaws.{own-yes, own-no}
+use Rattle.writeback.specs.Truncate.{truncate, quiet, allQuiet, chargedPage, number, cutUpTo, frameIn, cutList, Cutting, seen, usedThen, TruncateReady, TruncateLeft}
+use Rattle.writeback.proofs.CutFrames.{without-alike}
+use Rattle.writeback.proofs.DoneWork.{answered}
+use Rattle.tables.specs.StoreLoops.{part-fits}
+
+-- ── the code's frames and the model's, which are the first n of them ──
+module _ (n : ℕ) (fs : List Frame) where
+  abbrev page-of : Frame → ℕ
+  page-of g = g .page
+
+  same-page : (f : ℕ) → f < n → frameAt fs f .page ≡ frameAt (take n fs) f .page
+  same-page f h = ap page-of (sym (frame-take n fs f h))
+
+  pub quiet-model : (w pages s k : ℕ) → Holds (allQuiet w n pages s k fs) → Holds (allQuiet w n pages s k (take n fs))
+  quiet-model w pages s k h p b d f c e = subst (λ (g : Frame). Holds (quiet w g)) (sym (frame-take n fs f c)) (h p b d f c (same-page f c ∙ e))
+
+  pub model-quiet : (w pages s k : ℕ) → Holds (allQuiet w n pages s k (take n fs)) → Holds (allQuiet w n pages s k fs)
+  model-quiet w pages s k h p b d f c e = subst (λ (g : Frame). Holds (quiet w g)) (frame-take n fs f c) (h p b d f c (sym (same-page f c) ∙ e))
+
+  framed-alike : (i : ℕ) → test (some n λ f. same (frameAt fs f .page) (suc i)) ≡ test (some n λ f. same (frameAt (take n fs) f .page) (suc i))
+  framed-alike i = alike (some n λ f. same (frameAt fs f .page) (suc i)) (some n λ f. same (frameAt (take n fs) f .page) (suc i)) (λ h. (h .0, h .1, sym (same-page (h .0) (h .1)) ∙ h .2)) (λ h. (h .0, h .1, same-page (h .0) (h .1) ∙ h .2))
+
+  charged-alike : (ds ss : List ℕ) (i : ℕ) → test (chargedPage n fs ds ss i) ≡ test (chargedPage n (take n fs) ds ss i)
+  charged-alike ds ss i = alike (chargedPage n fs ds ss i) (chargedPage n (take n fs) ds ss i)
+      (λ h. elim h [ inl l ↦ inl l | inr q ↦ inr (q .0, q .1, sym (same-page (q .0) (q .1)) ∙ q .2) ])
+      (λ h. elim h [ inl l ↦ inl l | inr q ↦ inr (q .0, q .1, same-page (q .0) (q .1) ∙ q .2) ])
+
+module _ (z : Sizes) (fs : List Frame) (ns ac fq rl ds ss act us : List ℕ) (s k : ℕ) where
+  abbrev st : State
+  st = seen z fs ns ac fq rl ds ss act us
+
+  abbrev out : Outcome State
+  out = own z st (truncate s k)
+
+  abbrev Left : Framed → List ℕ → List ℕ → List ℕ → List ℕ → List ℕ → Type 0
+  Left x fq' rl' ds' ss' us' = TruncateLeft z st s k (x .frames) (x .answer) fq' rl' ds' ss' us'
+
+  module _ {n : ℕ} (e : n ≡ firstNo (questions z st (truncate s k))) where
+    pub refused : ¬ (n ≡ 0) → {x : Framed} → x ≡ answered fs n 0 → Left x fq rl ds ss us
+    refused d {x} y = record {
+      answer = ap (λ (v : Framed). v .answer) y ∙ sym (ap (λ (o : Outcome State). o .answer) no);
+      frames = ap (λ (v : Framed). take (z .frames) (v .frames)) y ∙ sym (ap (λ (o : Outcome State). o .left .memory .core .frames) no);
+      free-queue = sym (ap (λ (o : Outcome State). o .left .memory .core .free-queue) no);
+      removal-list = sym (ap (λ (o : Outcome State). o .left .memory .core .removal-list) no);
+      addresses = sym (ap (λ (o : Outcome State). o .left .memory .held .addresses) no);
+      states = sym (ap (λ (o : Outcome State). o .left .memory .held .states) no);
+      used = stays n d ∙ ap (λ (m : ℕ). outcome m 0 us (usedThen z st s k) .left) e;
+    }
+      where
+        no : out ≡ record { answer = record { refusal = n; result = 0 }; left = st }
+        no = sym (own-no z st (truncate s k) _ e d)
+
+        stays : (m : ℕ) → ¬ (m ≡ 0) → us ≡ outcome m 0 us (usedThen z st s k) .left
+        stays zero d = absurd (d refl)
+        stays (suc m) d = refl
+
+    module _ (yes : n ≡ 0) (ready : TruncateReady z (take (z .frames) fs) ac fq rl ds ss us) where
+      asked : Asked (questions z st (truncate s k))
+      asked = all-yes 2 (questions z st (truncate s k)) tt (sym e ∙ yes)
+
+      pub inside : s < z .slots
+      inside = asked .0 .0
+
+      pub from : k ≤ z .pages
+      from = omega (arith, asked .0 .1)
+
+      pub small : s < 65
+      small = omega (arith, inside, ready .slots-most)
+
+      pub addresses-fit : s * z .pages + z .pages ≤ length ds
+      addresses-fit = rw (ready .addresses-long) (part-fits (z .slots) (z .pages) s inside)
+
+      pub cutting : Cutting (z .frames) (z .pages) s k fs fq rl
+      cutting = record {
+        most = ready .most;
+        pages-most = ready .pages-most;
+        slots-most = small;
+        from = from;
+        queue-long = ready .queue-long;
+        list-long = ready .list-long;
+        queued = ready .queued;
+        listed = ready .listed;
+        queue-once = ready .queue-once;
+        list-once = ready .list-once;
+        unqueued = λ f h b. ready .unqueued f h (rw (same-page (z .frames) fs f h) at b);
+        framed-once = λ f g h i b q. ready .framed-once f g h i (rw (same-page (z .frames) fs f h) at b) (sym (same-page (z .frames) fs g i) ∙ q ∙ same-page (z .frames) fs f h);
+      }
+
+      pub releasing : Releasing z s k ss ds
+      releasing = record {
+        pages-some = ready .pages-some;
+        from = from;
+        inside = part-fits (z .slots) (z .pages) s inside;
+        addresses-long = ready .addresses-long;
+        held-once = ready .held-once;
+        along = λ i r h a. ready .along i r (omega (arith, from-inside (z .pages) s (ready .pages-some) k i h .1, part-fits (z .slots) (z .pages) s inside)) a;
+      }
+
+      -- the charges counted
+      charges-are : count (z .pages) (λ p. leb k p && test (chargedPage (z .frames) fs ds ss (s * z .pages + p))) ≡ count (z .pages) (λ p. leb k p && test (chargedPage (z .frames) (take (z .frames) fs) ds ss (s * z .pages + p)))
+      charges-are = count-same (z .pages) _ _ (λ p h. ap (λ (b : Bool). leb k p && b) (charged-alike (z .frames) fs ds ss (s * z .pages + p)))
+
+      pub pays : {m : ℕ} → m ≡ number (z .pages) (λ p. leb k p && test (chargedPage (z .frames) fs ds ss (s * z .pages + p))) → m ≤ at us (at ac s)
+      pays q = rw (q ∙ charges-are) (ready .pays s k inside)
+
+      -- a frame is cut off
+      to-cut : (f : ℕ) → f < z .frames → Holds (cutUpTo (z .pages) s k (z .pages) (frameAt fs f)) → Holds (Writeback.cutFrame z st s k f)
+      to-cut f h y = let p = frameAt fs f .page - 1 in (p, sym (same-page (z .frames) fs f h) ∙ omega (arith, y .0), inside-from (z .pages) s (ready .pages-some) k p (λ l. omega (arith, y .0), omega (arith, y .0, y .1)))
+
+      from-cut : (f : ℕ) → f < z .frames → Holds (Writeback.cutFrame z st s k f) → Holds (cutUpTo (z .pages) s k (z .pages) (frameAt fs f))
+      from-cut f h y = let b = from-inside (z .pages) s (ready .pages-some) k (y .0) (y .2) in let q : frameAt fs f .page ≡ suc (y .0) = same-page (z .frames) fs f h ∙ y .1 in (omega (arith, b .0), omega (arith, b .1))
+
+      cut-alike : (f : ℕ) → f < z .frames → test (cutUpTo (z .pages) s k (z .pages) (frameAt fs f)) ≡ test (Writeback.cutFrame z st s k f)
+      cut-alike f h = alike (cutUpTo (z .pages) s k (z .pages) (frameAt fs f)) (Writeback.cutFrame z st s k f) (to-cut f h) (from-cut f h)
+
+      frames-are : (gs : List Frame) → length fs ≡ 64 → length gs ≡ length fs → ((f : ℕ) → f < z .frames → Split (Holds (cutUpTo (z .pages) s k (z .pages) (frameAt fs f))) (frameAt gs f) noFrame (frameAt fs f))
+          → take (z .frames) gs ≡ tab (length (take (z .frames) fs)) (λ f. if (test (Writeback.cutFrame z st s k f)) noFrame (frameAt (take (z .frames) fs) f)) 0
+      frames-are gs l m t = ext-getD noFrame (take (z .frames) gs) (tab (length (take (z .frames) fs)) then 0) (long gs m ∙ sym (length-tab (length (take (z .frames) fs)) then 0 ∙ long fs refl))
+          (λ f h. let b : f < z .frames = omega (arith, long gs m) in frame-take (z .frames) gs f b ∙ elim (t f b) [
+            | inl y ↦ y .1 ∙ sym (at-tab0 (length (take (z .frames) fs)) then f noFrame (omega (arith, long fs refl)) ∙ if-true (test (Writeback.cutFrame z st s k f)) noFrame (frameAt (take (z .frames) fs) f) (complete (Writeback.cutFrame z st s k f) (to-cut f b (y .0))))
+            | inr y ↦ y .1 ∙ sym (frame-take (z .frames) fs f b) ∙ sym (at-tab0 (length (take (z .frames) fs)) then f noFrame (omega (arith, long fs refl)) ∙ if-false (test (Writeback.cutFrame z st s k f)) noFrame (frameAt (take (z .frames) fs) f) (λ q. y .0 (from-cut f b (sound (Writeback.cutFrame z st s k f) q))))
+          ])
+        where
+          then : ℕ → Frame
+          then f = if (test (Writeback.cutFrame z st s k f)) noFrame (frameAt (take (z .frames) fs) f)
+
+          long : (xs : List Frame) → length xs ≡ length fs → length (take (z .frames) xs) ≡ z .frames
+          long xs q = simp length-take (omega (arith, q, l, ready .most))
+
+      queue-is : cutList (z .frames) (z .pages) s k fs (z .pages) ≡ Writeback.cutFrames z st s k
+      unfolding Writeback.cutFrames
+      queue-is = ap (map (λ p. frameIn (z .frames) fs (s * z .pages + p))) (those-same (z .pages) _ _ 0 (λ p a b. ap (λ (t : Bool). leb k p && t) (framed-alike (z .frames) fs (s * z .pages + p))))
+          ∙ ap (λ (g : ℕ → ℕ). map g (those (z .pages) (λ p. leb k p && test (framed z (frames st) (pageOf z s p))) 0)) (λ j p. frame-found z (frames st) fs (pageOf z s p) (λ f h. frame-take (z .frames) fs f h) j)
+
+      list-is : without (λ f. test (cutUpTo (z .pages) s k (z .pages) (frameAt fs f))) (members rl) ≡ without (λ f. test (Writeback.cutFrame z st s k f)) (members rl)
+      list-is = without-alike _ _ (members rl) (λ f h. cut-alike f (members-within rl (ready .list-long) (ready .listed) f h))
+
+      used-is : {m : ℕ} → m ≡ number (z .pages) (λ p. leb k p && test (chargedPage (z .frames) fs ds ss (s * z .pages + p))) → set us (at ac s) (at us (at ac s) - m) ≡ usedThen z st s k
+      unfolding usedThen payer charged
+      used-is q = ap (λ (m : ℕ). set us (at ac s) (at us (at ac s) - m)) (q ∙ charges-are)
+
+      pub cut-off : {m : ℕ} {gs : List Frame} {fq' rl' ds' ss' us' : List ℕ} {x : Framed} → length fs ≡ 64 → m ≡ number (z .pages) (λ p. leb k p && test (chargedPage (z .frames) fs ds ss (s * z .pages + p)))
+          → us' ≡ set us (at ac s) (at us (at ac s) - m) → fq' ≡ packed (length fq) (members fq ++ cutList (z .frames) (z .pages) s k fs (z .pages))
+          → rl' ≡ packed (length rl) (without (λ f. test (cutUpTo (z .pages) s k (z .pages) (frameAt fs f))) (members rl))
+          → ss' ≡ store ss (λ r. some (allPages z) λ i. fromPage z s k i and same (at ds i) (suc r)) (λ r. RELEASED) → ds' ≡ store ds (fromPage z s k) (λ i. 0)
+          → (length gs ≡ length fs) × ((f : ℕ) → f < z .frames → Split (Holds (cutUpTo (z .pages) s k (z .pages) (frameAt fs f))) (frameAt gs f) noFrame (frameAt fs f))
+          → x ≡ answered gs 0 0 → Left x fq' rl' ds' ss' us'
+      unfolding carried result Writeback.truncate counted
+      cut-off {gs = gs} l q u a b c d g y = record {
+        answer = ap (λ (v : Framed). v .answer) y ∙ sym (ap (λ (o : Outcome State). o .answer) way);
+        frames = ap (λ (v : Framed). take (z .frames) (v .frames)) y ∙ frames-are gs l (g .0) (g .1) ∙ sym (ap (λ (o : Outcome State). o .left .memory .core .frames) way);
+        free-queue = a ∙ ap (λ (xs : List ℕ). packed (length fq) (members fq ++ xs)) queue-is ∙ sym (ap (λ (o : Outcome State). o .left .memory .core .free-queue) way);
+        removal-list = b ∙ ap (packed (length rl)) list-is ∙ sym (ap (λ (o : Outcome State). o .left .memory .core .removal-list) way);
+        addresses = d ∙ sym (ap (λ (o : Outcome State). o .left .memory .held .addresses) way);
+        states = c ∙ sym (ap (λ (o : Outcome State). o .left .memory .held .states) way);
+        used = u ∙ used-is q ∙ sym (ap (λ (m : ℕ). outcome m 0 us (usedThen z st s k) .left) (sym e ∙ yes));
+      }
+        where
+          way : out ≡ completed 0 (carried z st (truncate s k))
+          way = sym (own-yes z st (truncate s k) _ e yes)

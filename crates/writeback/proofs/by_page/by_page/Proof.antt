@@ -1,0 +1,42 @@
+-- `by_page` meets its contract: the frames passed are in the table.
+use borrow.Author.Needs.{needs}
+use mathlib.Core.Path.{_≡_}
+use mathlib.Core.Logic.{⊎-elim}
+use Prim.Native.Nat.{_-_, _≤_}
+use native.Mathlib.Omega.{arith}
+use Rattle.writeback.specs.ByPage.{ByPage}
+use Rattle.writeback.proofs.ByPage.{begun, passed, stored}
+use Rattle.writeback.proofs.Named.{fits}
+use Rattle.writeback.proofs.by_page.by_page.Statement.{statement}
+use Rattle.writeback.proofs.by_page.by_page.Tie as tie
+
+abbrev Inv-loop : tie.InvT-loop
+Inv-loop count pages slot frames start table₀ f₀ table f = (f ≤ count) × ByPage f pages slot frames table
+
+abbrev μ-loop : tie.MeasureT-loop
+μ-loop count pages slot frames start table₀ f₀ table f = count - f
+
+mul-start : tie.Need-mul-start Inv-loop μ-loop
+mul-start c = omega (arith, fits (c .args .slot) (c .args .pages) (c .pre .2) (c .pre .1))
+
+loop-holds : tie.Need-loop-holds Inv-loop μ-loop
+loop-holds c = (omega arith, begun _ _ _ _ (c .pre .3) (c .pre .4) (c .pre .1))
+
+add-if2 : tie.Need-add-if2 Inv-loop μ-loop
+add-if2 c = let s = c .before .before .before .before .before in omega (arith, fits (s .args .slot) (s .args .pages) (s .pre .2) (s .pre .1), s .pre .1)
+
+loop-again : tie.Need-loop-again Inv-loop μ-loop
+loop-again c =
+    let l = c .before .before .before .before in (
+      omega arith,
+      ⊎-elim
+          (λ w. stored _ _ _ (l .loop .f) (l .loop .inv .1) (l .before .pre .1) (omega (arith, w .0 .taken)) (omega (arith, w .1 .taken)) (w .2))
+          (λ v. ⊎-elim (λ w. passed _ _ _ (l .loop .f) (l .loop .inv .1) (λ a b. omega (arith, a, b, w .1 .left)) (w .2)) (λ w. passed _ _ _ (l .loop .f) (l .loop .inv .1) (λ a b. omega (arith, a, b, w .0 .left)) (w .1)) v)
+          (c .if1 .came),
+    )
+
+returns : tie.Need-returns Inv-loop μ-loop
+returns c = let e : c .before .loop .f ≡ c .before .before .args .count = omega (arith, c .loop-test .left) in rw e at (c .before .loop .inv .1)
+
+pub by-page-spec : {M : Type 1} → statement M
+by-page-spec = tie.close (tie.spec Inv-loop μ-loop mul-start loop-holds (λ c. search needs) (λ c. search needs) (λ c. search needs) add-if2 (λ c. search needs) (λ c. search needs) (λ c. search needs) (λ c. search needs) (λ c. search needs) (λ c. search needs) (λ c. search needs) loop-again returns)

@@ -1,0 +1,79 @@
+-- `clear_frames` meets its contract: the frames passed are cleared where they are cut off, and the others stand.
+use borrow.Author.Needs.{needs}
+use mathlib.Core.Path.{_≡_, refl, ap, _∙_}
+use mathlib.Core.Logic.{⊎-elim, inl, inr}
+use mathlib.Core.List.{List}
+use Prim.Native.Nat.{ℕ, _+_, _-_, _<_, _≤_}
+use native.Mathlib.Omega.{arith}
+use native.Mathlib.Decide.{ℕ-discrete}
+use lib.ListN.{length, set, length-set}
+use lib.Seq.{getD-set-same, getD-set-other}
+use Rattle.tables.specs.Rule.{Holds}
+use Rattle.tables.specs.Store.{Split}
+use Rattle.model.specs.declared.frame.Frame.{Frame}
+use Rattle.model.specs.State.{frameAt, noFrame}
+use Rattle.writeback.specs.Truncate.{cutUpTo}
+use Rattle.writeback.proofs.Named.{fits}
+use Rattle.writeback.proofs.truncate.clear_frames.Statement.{statement}
+use Rattle.writeback.proofs.truncate.clear_frames.Tie as tie
+
+-- the frames below f are done, the others are as they were
+pub record Cleared (pages slot k : ℕ) (fs : List Frame) (f : ℕ) (kept : List Frame) : Type 0 where
+  pub so-far : (i : ℕ) → i < f → Split (Holds (cutUpTo pages slot k pages (frameAt fs i))) (frameAt kept i) noFrame (frameAt fs i)
+  pub ahead : (i : ℕ) → f ≤ i → frameAt kept i ≡ frameAt fs i
+  pub long : length kept ≡ length fs
+
+module _ {pages slot k : ℕ} {fs kept : List Frame} (f : ℕ) (c : Cleared pages slot k fs f kept) where
+  turn-off : ¬ Holds (cutUpTo pages slot k pages (frameAt fs f)) → {kept' : List Frame} → kept' ≡ kept → Cleared pages slot k fs (f + 1) kept'
+  turn-off d e = rw e (record {
+    so-far = λ i h. elim (ℕ-discrete i f) [ yes q ↦ inr (rw q d, c .ahead i (omega arith)) | no q ↦ c .so-far i (omega arith) ];
+    ahead = λ i h. c .ahead i (omega arith);
+    long = c .long;
+  })
+
+  turn-on : f < length fs → Holds (cutUpTo pages slot k pages (frameAt fs f)) → {g : Frame} → g ≡ noFrame → {kept' : List Frame} → kept' ≡ set kept f g → Cleared pages slot k fs (f + 1) kept'
+  turn-on b d {g} w e = rw (e, w) (record {
+    so-far = λ i h. elim (ℕ-discrete i f) [
+      | yes q ↦ inl (rw q d, rw q (getD-set-same kept f noFrame noFrame (rw (c .long) b)))
+      | no q ↦ elim (c .so-far i (omega arith)) [ inl y ↦ inl (y .0, getD-set-other kept f i noFrame noFrame q ∙ y .1) | inr y ↦ inr (y .0, getD-set-other kept f i noFrame noFrame q ∙ y .1) ]
+    ];
+    ahead = λ i h. getD-set-other kept f i noFrame noFrame (λ q. omega arith) ∙ c .ahead i (omega arith);
+    long = length-set kept f noFrame ∙ c .long;
+  })
+
+abbrev Inv-loop : tie.InvT-loop
+Inv-loop count pages slot k start kept₀ f₀ kept f = (f ≤ count) × Cleared pages slot k kept₀ f kept
+
+abbrev μ-loop : tie.MeasureT-loop
+μ-loop count pages slot k start kept₀ f₀ kept f = count - f
+
+mul-start : tie.Need-mul-start Inv-loop μ-loop
+mul-start c = omega (arith, fits (c .args .slot) (c .args .pages) (c .pre .2) (c .pre .1))
+
+loop-holds : tie.Need-loop-holds Inv-loop μ-loop
+loop-holds c = (omega arith, record { so-far = λ i h. absurd (omega arith); ahead = λ i h. refl; long = refl })
+
+add-if1 : tie.Need-add-if1 Inv-loop μ-loop
+add-if1 c = omega (arith, fits (c .before .before .before .before .args .slot) (c .before .before .before .before .args .pages) (c .before .before .before .before .pre .2) (c .before .before .before .before .pre .1), c .before .before .before .before .pre .3, c .before .before .before .before .pre .1)
+
+add-if2 : tie.Need-add-if2 Inv-loop μ-loop
+add-if2 c = omega (arith, fits (c .before .before .before .before .before .args .slot) (c .before .before .before .before .before .args .pages) (c .before .before .before .before .before .pre .2) (c .before .before .before .before .before .pre .1), c .before .before .before .before .before .pre .1)
+
+loop-again : tie.Need-loop-again Inv-loop μ-loop
+loop-again c =
+    let old = ap (λ (g : Frame). g .page) (c .before .before .before .before .loop .inv .1 .ahead (c .before .before .before .before .loop .f) (omega arith)) in (
+      omega arith,
+      ⊎-elim
+          (λ w. turn-on (c .before .before .before .before .loop .f) (c .before .before .before .before .loop .inv .1) (omega (arith, c .before .before .before .before .before .good .1 .1 .1 .1 .0, c .before .before .before .before .before .pre .0)) (omega (arith, old, w .0 .taken), omega (arith, old, w .1 .taken)) (w .2 .ensures) (w .3))
+          (λ v. ⊎-elim
+          (λ w. turn-off (c .before .before .before .before .loop .f) (c .before .before .before .before .loop .inv .1) (λ h. omega (arith, old, h .1, w .1 .left)) (w .2))
+          (λ w. turn-off (c .before .before .before .before .loop .f) (c .before .before .before .before .loop .inv .1) (λ h. omega (arith, old, h .0, w .0 .left)) (w .1))
+          v)
+          (c .if1 .came),
+    )
+
+returns : tie.Need-returns Inv-loop μ-loop
+returns c = (c .before .loop .inv .1 .long, λ f h. c .before .loop .inv .1 .so-far f (omega arith))
+
+pub clear-frames-spec : {M : Type 1} → statement M
+clear-frames-spec = tie.close (tie.spec Inv-loop μ-loop mul-start loop-holds (λ c. search needs) (λ c. search needs) (λ c. search needs) add-if1 add-if2 (λ c κs. search needs) (λ c. search needs) (λ c. search needs) (λ c. search needs) (λ c. search needs) loop-again returns)

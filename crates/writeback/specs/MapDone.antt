@@ -1,0 +1,51 @@
+-- Map done: the tables that it reads, what they keep when it is asked, and what it leaves.
+use mathlib.Core.Path.{_≡_}
+use mathlib.Core.List.{List, []}
+use Prim.Native.Nat.{ℕ, _<_}
+use lib.ListN.{length}
+use Rattle.tables.specs.Base.{at}
+use Rattle.model.specs.declared.sizes.Sizes.{Sizes}
+use Rattle.model.specs.declared.frame.Pool.{Pool}
+use Rattle.model.specs.declared.event.Answer.{Answer}
+use Rattle.model.specs.declared.event.Event.{Event}
+use Rattle.model.specs.declared.event.Event.the-variants as Event
+use Rattle.model.specs.declared.event.Writeback.the-variants.{MapDone}
+use Rattle.model.specs.State.{State, allPages, freeCount}
+use Rattle.model.specs.Step.{Outcome}
+use Rattle.model.specs.Lent.{stateOf, noPool}
+use Rattle.leaves.specs.FreeMap.{freeMap}
+
+abbrev pub mapDone : ℕ → ℕ → Event
+mapDone s good = Event.Writeback (MapDone s good)
+
+-- the tables that map done reads; no definition of it looks at the others
+abbrev pub seen : Pool → List ℕ → List ℕ → List ℕ → List ℕ → List ℕ → List ℕ → List ℕ → List ℕ → State
+seen pool numbers maps states owners free-map active updating images =
+    stateOf [] pool [] numbers [] maps [] [] [] [] [] states owners free-map active updating images []
+
+-- .. and its questions
+abbrev pub asked : List ℕ → List ℕ → List ℕ → List ℕ → List ℕ → State
+asked numbers states active updating images = seen noPool numbers [] states [] [] active updating images
+
+pub record MapReady (z : Sizes) (pool : Pool) (maps states owners free-map images : List ℕ) : Type 0 where
+  pub pages-some : 0 < z .pages
+  pub pages-most : z .pages < 257
+  pub slots-most : z .slots < 65
+  pub records-most : z .records < 4097
+  pub maps-long : length maps ≡ allPages z
+  pub images-long : length images ≡ allPages z
+  pub states-long : length states ≡ z .records
+  pub owners-long : length owners ≡ z .records
+  pub told : free-map ≡ freeMap z (at states)
+  pub counted : pool .free ≡ freeCount z (at states)
+
+-- the answer and every table that map done changes, by the outcome
+pub record MapLeft (o : Outcome State) (p : Pool) (a : Answer) (ms ss os fm us is : List ℕ) : Type 0 where
+  pub answer : a ≡ o .answer
+  pub pool : p ≡ o .left .memory .held .pool
+  pub maps : ms ≡ o .left .disk .maps
+  pub states : ss ≡ o .left .memory .held .states
+  pub owners : os ≡ o .left .memory .held .owners
+  pub free-map : fm ≡ o .left .memory .held .free-map
+  pub updating : us ≡ o .left .memory .slots .updating
+  pub images : is ≡ o .left .memory .slots .images

@@ -1,0 +1,115 @@
+-- Truncate: the tables that it reads, what they keep when it is asked, and what it leaves.
+use mathlib.Core.Path.{_≡_}
+use mathlib.Core.Bool.{Bool, _&&_}
+use mathlib.Core.List.{List, [], map}
+use Prim.Native.Nat.{ℕ, zero, suc, _+_, _-_, _*_, _<_, _≤_}
+use lib.Dec.{T, leb, eqb}
+use lib.ListN.{length, take, set}
+use Rattle.tables.specs.Base.{at, count, find, those}
+use Rattle.tables.specs.Queue.{queue, members, times}
+use Rattle.tables.specs.Questions.{firstNo}
+use Rattle.tables.specs.TimesLaws.{Once}
+use Rattle.tables.specs.Rule.{Rule, Holds, same, below, non, each, some, names, _and_, _or_, _then_, test}
+use Rattle.model.specs.declared.sizes.Sizes.{Sizes}
+use Rattle.model.specs.declared.frame.Frame.{Frame}
+use Rattle.model.specs.declared.event.Answer.{Answer}
+use Rattle.model.specs.declared.event.Event.{Event}
+use Rattle.model.specs.declared.event.Event.the-variants as Event
+use Rattle.model.specs.declared.event.Writeback.the-variants.{Truncate}
+use Rattle.model.specs.Lines.{LIVE, RELEASED, allowed}
+use Rattle.model.specs.State.{State, NONE, frameAt, files, frames, pageOf, allPages, charged, payer}
+use Rattle.model.specs.Rules.{once}
+use Rattle.model.specs.Questions.{questions}
+use Rattle.model.specs.Step.{outcome}
+use Rattle.model.specs.Own.{own}
+use Rattle.model.specs.Lent.{stateOf, noPool}
+
+abbrev pub truncate : ℕ → ℕ → Event
+truncate s k = Event.Writeback (Truncate s k)
+
+-- how many numbers below n pass
+abbrev pub number : ℕ → (ℕ → Bool) → ℕ
+number = count
+
+-- what questions 14 and 16 ask of a frame: no transfer; not wired
+abbrev pub quiet : ℕ → Frame → Rule
+quiet zero g = same (g .transfer) NONE
+quiet (suc n) g = non (same (g .wired) 1)
+
+-- .. of every frame of the pages from k up
+abbrev pub allQuiet : ℕ → ℕ → ℕ → ℕ → ℕ → List Frame → Rule
+allQuiet which n pages s k fs = each pages λ p. non (below p k) then each n λ f. same (frameAt fs f .page) (suc (s * pages + p)) then quiet which (frameAt fs f)
+
+-- the page is charged: its address is live, or it is in a frame
+abbrev pub chargedPage : ℕ → List Frame → List ℕ → List ℕ → ℕ → Rule
+chargedPage n fs addresses states i = (names (at addresses i) λ r. same (at states r) LIVE) or (some n λ f. same (frameAt fs f .page) (suc i))
+
+-- a frame whose page is one of the slot's, from k up to m
+abbrev pub cutUpTo : ℕ → ℕ → ℕ → ℕ → Frame → Rule
+cutUpTo pages s k m g = below (s * pages + k) (g .page) and below (g .page) (suc (s * pages + m))
+
+-- the frame that a page is in, of the first n
+abbrev pub frameIn : ℕ → List Frame → ℕ → ℕ
+frameIn n fs i = find n (λ f. eqb (frameAt fs f .page) (suc i)) 0
+
+-- the frames of the slot's pages from k up to m, in page order
+abbrev pub cutList : ℕ → ℕ → ℕ → ℕ → List Frame → ℕ → List ℕ
+cutList n pages s k fs m = map (λ p. frameIn n fs (s * pages + p)) (those m (λ p. leb k p && test (some n λ f. same (frameAt fs f .page) (suc (s * pages + p)))) 0)
+
+-- what the frames and the queues keep, for the pass over the pages
+pub record Cutting (n pages s k : ℕ) (fs : List Frame) (free-queue removal-list : List ℕ) : Type 0 where
+  pub most : n < 65
+  pub pages-most : pages < 257
+  pub slots-most : s < 65
+  pub from : k ≤ pages
+  pub queue-long : length free-queue ≡ n
+  pub list-long : length removal-list ≡ n
+  pub queued : Holds (queue n free-queue)
+  pub listed : Holds (queue n removal-list)
+  pub queue-once : Once n (members free-queue)
+  pub list-once : Once n (members removal-list)
+  pub unqueued : (f : ℕ) → f < n → 0 < frameAt fs f .page → times (members free-queue) f ≡ 0
+  pub framed-once : (f g : ℕ) → f < n → g < n → 0 < frameAt fs f .page → frameAt fs g .page ≡ frameAt fs f .page → f ≡ g
+
+-- the tables that truncate reads; no definition of it looks at the others
+abbrev pub seen : Sizes → List Frame → List ℕ → List ℕ → List ℕ → List ℕ → List ℕ → List ℕ → List ℕ → List ℕ → State
+seen z fs numbers accounts free-queue removal-list addresses states active used =
+    stateOf (take (z .frames) fs) noPool [] numbers accounts [] [] [] free-queue removal-list addresses states [] [] active [] [] used
+
+-- .. and its questions
+abbrev pub asked : Sizes → List Frame → List ℕ → List ℕ → State
+asked z fs numbers active = seen z fs numbers [] [] [] [] [] active []
+
+-- the used counts: one charge less for each charged page that is cut off
+unfoldable pub usedThen : Sizes → State → ℕ → ℕ → List ℕ
+usedThen z st s k =
+    let q = payer (files st) s in let u = st .memory .used in
+    set u q (at u q - count (z .pages) (λ p. leb k p && test (charged z (files st) (frames st) (pageOf z s p))))
+
+pub record TruncateReady (z : Sizes) (fs : List Frame) (accounts free-queue removal-list addresses states used : List ℕ) : Type 0 where
+  pub most : z .frames < 65
+  pub pages-some : 0 < z .pages
+  pub pages-most : z .pages < 257
+  pub slots-most : z .slots < 65
+  pub queue-long : length free-queue ≡ z .frames
+  pub list-long : length removal-list ≡ z .frames
+  pub addresses-long : length addresses ≡ allPages z
+  pub queued : Holds (queue (z .frames) free-queue)
+  pub listed : Holds (queue (z .frames) removal-list)
+  pub queue-once : Once (z .frames) (members free-queue)
+  pub list-once : Once (z .frames) (members removal-list)
+  pub unqueued : (f : ℕ) → f < z .frames → 0 < frameAt fs f .page → times (members free-queue) f ≡ 0
+  pub framed-once : (f g : ℕ) → f < z .frames → g < z .frames → 0 < frameAt fs f .page → frameAt fs g .page ≡ frameAt fs f .page → f ≡ g
+  pub held-once : Holds (once (allPages z) (at addresses))
+  pub along : (i r : ℕ) → i < allPages z → at addresses i ≡ suc r → (r < length states) × T (allowed (at states r) RELEASED)
+  pub pays : (s k : ℕ) → s < z .slots → number (z .pages) (λ p. leb k p && test (chargedPage (z .frames) fs addresses states (s * z .pages + p))) ≤ at used (at accounts s)
+
+-- the answer and every table that truncate changes, by the outcome
+pub record TruncateLeft (z : Sizes) (st : State) (s k : ℕ) (fs : List Frame) (a : Answer) (fq rl ds ss us : List ℕ) : Type 0 where
+  pub answer : a ≡ own z st (truncate s k) .answer
+  pub frames : take (z .frames) fs ≡ own z st (truncate s k) .left .memory .core .frames
+  pub free-queue : fq ≡ own z st (truncate s k) .left .memory .core .free-queue
+  pub removal-list : rl ≡ own z st (truncate s k) .left .memory .core .removal-list
+  pub addresses : ds ≡ own z st (truncate s k) .left .memory .held .addresses
+  pub states : ss ≡ own z st (truncate s k) .left .memory .held .states
+  pub used : us ≡ outcome (firstNo (questions z st (truncate s k))) 0 (st .memory .used) (usedThen z st s k) .left

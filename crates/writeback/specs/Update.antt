@@ -1,0 +1,66 @@
+-- Update: the tables that it reads, what they keep when it is asked, and what it leaves.
+use mathlib.Core.Path.{_≡_}
+use mathlib.Core.List.{List, []}
+use Prim.Native.Nat.{ℕ, suc, _+_, _*_, _/_, _<_, _≤_}
+use lib.ListN.{length, take}
+use Rattle.tables.specs.Base.{at}
+use Rattle.tables.specs.Rule.{Rule, Holds, same, non, some, names, _and_}
+use Rattle.model.specs.declared.sizes.Sizes.{Sizes}
+use Rattle.model.specs.declared.frame.Frame.{Frame}
+use Rattle.model.specs.declared.event.Answer.{Answer}
+use Rattle.model.specs.declared.event.Event.{Event}
+use Rattle.model.specs.declared.event.Event.the-variants as Event
+use Rattle.model.specs.declared.event.Writeback.the-variants.{Update}
+use Rattle.model.specs.Lines.{NULLED}
+use Rattle.model.specs.State.{State, frameAt, allPages}
+use Rattle.model.specs.Rules.{once}
+use Rattle.model.specs.Step.{Outcome}
+use Rattle.model.specs.Lent.{stateOf, noPool}
+
+abbrev pub update : ℕ → Event
+update s = Event.Writeback (Update s)
+
+-- the tables that update reads; no definition of it looks at the others
+abbrev pub seen : Sizes → List Frame → List ℕ → List ℕ → List ℕ → List ℕ → List ℕ → List ℕ → List ℕ → State
+seen z fs numbers addresses states owners active updating images =
+    stateOf (take (z .frames) fs) noPool [] numbers [] [] [] [] [] [] addresses states owners [] active updating images []
+
+-- .. and its questions
+abbrev pub asked : List ℕ → List ℕ → List ℕ → State
+asked numbers active updating = stateOf [] noPool [] numbers [] [] [] [] [] [] [] [] [] [] active updating [] []
+
+-- the page's record is nulled, and the page is in no frame
+abbrev pub leaves : ℕ → List Frame → List ℕ → List ℕ → ℕ → Rule
+leaves n fs addresses states i = (names (at addresses i) λ r. same (at states r) NULLED) and non (some n λ f. same (frameAt fs f .page) (suc i))
+
+-- .. and it is of the slot
+abbrev pub leavesSlot : Sizes → List Frame → List ℕ → List ℕ → ℕ → ℕ → Rule
+leavesSlot z fs addresses states s i = same (i / z .pages) s and leaves (z .frames) fs addresses states i
+
+-- what the pages of a slot keep, for the pass over them
+pub record Leaving (z : Sizes) (s : ℕ) (addresses states : List ℕ) : Type 0 where
+  pub frames-most : z .frames < 65
+  pub pages-some : 0 < z .pages
+  pub long : s * z .pages + z .pages ≤ length addresses
+  pub short : length addresses < 65535
+  pub inside : (i r : ℕ) → i < length addresses → at addresses i ≡ suc r → r < length states
+  pub held-once : Holds (once (length addresses) (at addresses))
+
+pub record UpdateReady (z : Sizes) (addresses states owners images : List ℕ) : Type 0 where
+  pub frames-most : z .frames < 65
+  pub pages-some : 0 < z .pages
+  pub pages-most : z .pages < 257
+  pub slots-most : z .slots < 65
+  pub addresses-long : length addresses ≡ allPages z
+  pub images-long : length images ≡ allPages z
+  pub owners-long : length owners ≡ length states
+  pub inside : (i r : ℕ) → i < allPages z → at addresses i ≡ suc r → r < length states
+  pub held-once : Holds (once (allPages z) (at addresses))
+
+-- the answer and every table that update changes, by the outcome
+pub record UpdateLeft (o : Outcome State) (a : Answer) (ds ss us is : List ℕ) : Type 0 where
+  pub answer : a ≡ o .answer
+  pub addresses : ds ≡ o .left .memory .held .addresses
+  pub states : ss ≡ o .left .memory .held .states
+  pub updating : us ≡ o .left .memory .slots .updating
+  pub images : is ≡ o .left .memory .slots .images

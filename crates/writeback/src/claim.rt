@@ -1,0 +1,143 @@
+// Claim: the removal list is looked through for a frame to free or to write.
+ghost use mathlib.Core.Path.{_≡_};
+ghost use mathlib.Core.Bool.{false, not};
+ghost use mathlib.Core.Logic.{_⊎_};
+ghost use Prim.Native.Nat.{_+_, _-_, _*_, _/_, _<_, _≤_};
+ghost use lib.Dec.{eqb};
+ghost use lib.ListN.{length, take, set};
+ghost use Rattle.tables.specs.Base.{at, all, if};
+ghost use Rattle.tables.specs.Queue.{queue, size};
+ghost use Rattle.tables.specs.Rule.{Holds};
+ghost use Rattle.model.specs.Lines.{NULLED, LIVE};
+ghost use Rattle.model.specs.Writeback.{warm};
+ghost use Rattle.writeback.specs.Claim.{seen, LooksLeft, ClaimReady, ClaimLeft};
+use crate::names::named;
+use crate::names::record_of;
+use crate::switches::cool;
+use crate::switches::writing;
+use leaves::cells::at8;
+use leaves::cells::at16;
+use leaves::cells::put16;
+use leaves::frames::frame_at;
+use leaves::frames::with_frame;
+use leaves::queue::first;
+use leaves::queue::pop;
+use leaves::queue::push_back;
+use leaves::queue::rotate;
+use leaves::states::move_record;
+use leaves::words::all_zero;
+use model::applied::Framed;
+use model::applied::answered;
+use model::frame::Frame;
+use model::frame::no_frame;
+use model::lines::LIVE;
+use model::lines::NULLED;
+use model::sizes::Sizes;
+
+// What the looks hand back by value: the frames then, and how many looks there were.
+pub struct Looks {
+    pub frames: [Frame; 64],
+    pub looks: u32,
+}
+
+// Whether initial or used is on.
+fn is_warm(frame: Frame) -> bool
+    ensures { λ r. ⌜ r ≡ warm frame ⌝ }
+{
+    if frame.initial == 1 {
+        return true;
+    }
+    frame.used == 1
+}
+
+// The first entry goes to the list's end, cooled, while it is warm; then it is the one to take.
+fn turn(frames: [Frame; 64], list: &mut [u16]) -> Looks
+    requires { ⌜ Holds (queue (length (now list)) (now list)) × (0 < size (now list)) × (length (now list) < 65) ⌝ }
+    ensures { λ r. ⌜ LooksLeft frames (now (list .entry)) (r .frames) (r .looks) (now (list .exit)) ⌝ }
+{
+    let mut kept = frames;
+    let mut looks = 1;
+    let mut f = first(list);
+    let mut g = frame_at(kept, f);
+    while is_warm(g) {
+        kept[f] = cool(g);
+        rotate(list);
+        f = first(list);
+        g = frame_at(kept, f);
+        looks += 1;
+    }
+    Looks {
+        frames: kept,
+        looks,
+    }
+}
+
+// Whether the frame is to be written: modified, and not all its words 0.
+fn begins(size: usize, modified: u8, words: &[u32], f: usize) -> bool
+    requires { ⌜ f * size + size ≤ length (now words) ⌝ }
+    ensures { λ r. ⌜ r ≡ if (eqb modified 1) (not (all size (λ w. eqb (at (now (words .entry)) (f * size + w)) 0))) false ⌝ }
+{
+    if modified == 1 {
+        return !all_zero(words, size, f);
+    }
+    false
+}
+
+// A live record becomes nulled where the frame was modified.
+fn make_nulled(states: &mut [u8], r: usize, modified: u8)
+    requires { ⌜ (at (now states) r ≡ NULLED) ⊎ (at (now states) r ≡ LIVE) ⌝ }
+    ensures { λ _. ⌜ now (states .exit) ≡ if (eqb modified 1) (set (now (states .entry)) r NULLED) (now (states .entry)) ⌝ }
+{
+    if modified == 1 {
+        if at8(states, r) == LIVE {
+            move_record(states, r, NULLED);
+        }
+    }
+}
+
+// One charge less for the slot's account where the record is nulled.
+fn uncharge(used: &mut [u16], states: &[u8], r: usize, accounts: &[u16], slot: usize)
+    requires { ⌜ 0 < at (now used) (at (now accounts) slot) ⌝ }
+    ensures { λ _. ⌜ now (used .exit) ≡ if (eqb (at (now (states .entry)) r) NULLED) (set (now (used .entry)) (at (now (accounts .entry)) slot) (at (now (used .entry)) (at (now (accounts .entry)) slot) - 1)) (now (used .entry)) ⌝ }
+{
+    if at8(states, r) == NULLED {
+        let q = at16(accounts, slot) as usize;
+        put16(used, q, at16(used, q) - 1);
+    }
+}
+
+pub fn claim(
+    sizes: Sizes,
+    frames: [Frame; 64],
+    accounts: &[u16],
+    words: &[u32],
+    free_queue: &mut [u16],
+    removal_list: &mut [u16],
+    addresses: &[u16],
+    states: &mut [u8],
+    used: &mut [u16],
+) -> Framed
+    requires { ⌜ ClaimReady sizes (take (sizes .frames) frames) (now accounts) (now words) (now «free_queue») (now «removal_list») (now addresses) (now states) (now used) ⌝ }
+    ensures { λ r. ⌜ ClaimLeft sizes (seen sizes frames (now (accounts .entry)) (now (words .entry)) (now («free_queue» .entry)) (now («removal_list» .entry)) (now (addresses .entry)) (now (states .entry)) (now (used .entry))) (r .frames) (r .answer) (now («free_queue» .exit)) (now («removal_list» .exit)) (now (states .exit)) (now (used .exit)) ⌝ }
+{
+    if at16(removal_list, 0) == 0 {
+        return answered(frames, 21, 0);
+    }
+    let looked = turn(frames, removal_list);
+    let kept = looked.frames;
+    let f = first(removal_list);
+    pop(removal_list);
+    let old = frame_at(frames, f);
+    if begins(sizes.words, old.modified, words, f) {
+        return answered(
+            with_frame(kept, f, writing(frame_at(kept, f))),
+            0,
+            looked.looks,
+        );
+    }
+    let r = record_of(addresses, old.page);
+    make_nulled(states, r, old.modified);
+    uncharge(used, states, r, accounts, named(old.page) / sizes.pages);
+    push_back(free_queue, f);
+    answered(with_frame(kept, f, no_frame()), 0, looked.looks)
+}

@@ -1,0 +1,131 @@
+// Map done: an update of a slot's map has ended, good or failed.
+ghost use mathlib.Core.Path.{_≡_};
+ghost use Prim.Native.Nat.{_+_, _*_, _<_};
+ghost use Rattle.tables.specs.Base.{at};
+ghost use Rattle.tables.specs.Questions.{firstNo};
+ghost use Rattle.tables.specs.Rule.{same, non, each, named, test};
+ghost use Rattle.model.specs.Lines.{LEAVING};
+ghost use Rattle.model.specs.Questions.{questions};
+ghost use Rattle.model.specs.Own.{own};
+ghost use Rattle.writeback.specs.MapDone.{mapDone, asked, seen, MapReady, MapLeft};
+use leaves::cells::at8;
+use leaves::cells::at16;
+use leaves::cells::at32;
+use leaves::cells::put8;
+use leaves::records::free_leaving;
+use leaves::slots::clear_slot;
+use leaves::slots::copy_slot;
+use leaves::states::move_all;
+use model::event::Answer;
+use model::frame::Pool;
+use model::lines::LEAVING;
+use model::lines::RELEASED;
+use model::sizes::Sizes;
+
+// What the work of map done hands back by value.
+pub struct Freed {
+    pub pool: Pool,
+    pub answer: Answer,
+}
+
+// Whether no entry of the slot's image names a leaving record.
+fn none_leaving(pages: usize, slot: usize, states: &[u8], images: &[u16]) -> bool
+    requires { ⌜ (pages < 257) × (slot < 65) ⌝ }
+    ensures { λ r. ⌜ r ≡ test (each pages λ p. named (at (now (images .entry)) (slot * pages + p)) λ r. non (same (at (now (states .entry)) r) LEAVING)) ⌝ }
+{
+    let start = slot * pages;
+    let mut p = 0;
+    while p < pages {
+        let entry = at16(images, start + p);
+        if entry != 0 {
+            if at8(states, entry as usize - 1) == LEAVING {
+                return false;
+            }
+        }
+        p += 1;
+    }
+    true
+}
+
+// Questions 3, 4, 8, 22 and 23.
+fn ask_map_done(
+    sizes: Sizes,
+    slot: usize,
+    good: usize,
+    numbers: &[u32],
+    states: &[u8],
+    active: &[u8],
+    updating: &[u8],
+    images: &[u16],
+) -> u32
+    requires { ⌜ (sizes .pages < 257) × (sizes .slots < 65) ⌝ }
+    ensures { λ r. ⌜ r ≡ firstNo (questions sizes (asked (now (numbers .entry)) (now (states .entry)) (now (active .entry)) (now (updating .entry)) (now (images .entry))) (mapDone slot good)) ⌝ }
+{
+    if slot >= sizes.slots {
+        return 3;
+    }
+    if good > 1 {
+        return 3;
+    }
+    if at32(numbers, slot) == 0 {
+        return 4;
+    }
+    if at8(active, slot) != 1 {
+        return 8;
+    }
+    if at8(updating, slot) != 1 {
+        return 22;
+    }
+    if good == 1 {
+        if none_leaving(sizes.pages, slot, states, images) {} else {
+            return 23;
+        }
+    }
+    0
+}
+
+pub fn map_done(
+    sizes: Sizes,
+    slot: usize,
+    good: usize,
+    pool: Pool,
+    numbers: &[u32],
+    maps: &mut [u16],
+    states: &mut [u8],
+    owners: &mut [u8],
+    free_map: &mut [u32],
+    active: &[u8],
+    updating: &mut [u8],
+    images: &mut [u16],
+) -> Freed
+    requires { ⌜ MapReady sizes pool (now maps) (now states) (now owners) (now «free_map») (now images) ⌝ }
+    ensures { λ r. ⌜ MapLeft (own sizes (seen pool (now (numbers .entry)) (now (maps .entry)) (now (states .entry)) (now (owners .entry)) (now («free_map» .entry)) (now (active .entry)) (now (updating .entry)) (now (images .entry))) (mapDone slot good)) (r .pool) (r .answer) (now (maps .exit)) (now (states .exit)) (now (owners .exit)) (now («free_map» .exit)) (now (updating .exit)) (now (images .exit)) ⌝ }
+{
+    let refusal = ask_map_done(sizes, slot, good, numbers, states, active, updating, images);
+    if refusal != 0 {
+        return with_free(pool, pool.free, refusal);
+    }
+    put8(updating, slot, 0);
+    if good == 1 {
+        copy_slot(images, maps, sizes.pages, slot);
+        clear_slot(images, sizes.pages, slot);
+        let free = free_leaving(sizes, states, owners, free_map, slot, pool.free);
+        return with_free(pool, free, 0);
+    }
+    clear_slot(images, sizes.pages, slot);
+    move_all(states, owners, slot, LEAVING, RELEASED);
+    with_free(pool, pool.free, 0)
+}
+
+// The pool with another count of free records, and the answer.
+fn with_free(pool: Pool, free: u32, refusal: u32) -> Freed
+    ensures { λ r. ⌜ r ≡ record { pool = record { hand = pool .hand; free = free }; answer = record { refusal = refusal; result = 0 } } ⌝ }
+{
+    Freed {
+        pool: Pool {
+            hand: pool.hand,
+            free,
+        },
+        answer: Answer { refusal, result: 0 },
+    }
+}

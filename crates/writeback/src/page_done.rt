@@ -1,0 +1,96 @@
+// Page done: a frame's read or write has ended, good or failed.
+ghost use mathlib.Core.Path.{_≡_};
+ghost use lib.ListN.{set, take};
+ghost use mathlib.Core.Logic.{_⊎_};
+ghost use Rattle.tables.specs.Base.{at};
+ghost use Rattle.tables.specs.Questions.{firstNo};
+ghost use Rattle.model.specs.Lines.{NULLED, LIVE};
+ghost use Rattle.model.specs.Questions.{questions};
+ghost use Rattle.model.specs.Own.{own};
+ghost use Rattle.writeback.specs.Done.{pageDone, asked, seen, DoneReady, DoneLeft};
+use crate::names::record_of;
+use crate::switches::served;
+use crate::switches::unwritten;
+use leaves::cells::at8;
+use leaves::frames::frame_at;
+use leaves::frames::with_frame;
+use leaves::queue::push_back;
+use leaves::queue::push_front;
+use leaves::states::move_record;
+use leaves::words::copy_part;
+use model::applied::Framed;
+use model::applied::answered;
+use model::frame::Frame;
+use model::frame::NONE;
+use model::frame::READING;
+use model::frame::no_frame;
+use model::lines::LIVE;
+use model::lines::NULLED;
+use model::sizes::Sizes;
+
+// Questions 3 and 22.
+fn ask_done(sizes: Sizes, frame: usize, good: usize, frames: [Frame; 64]) -> u32
+    ensures { λ r. ⌜ r ≡ firstNo (questions sizes (asked sizes frames) (pageDone frame good)) ⌝ }
+{
+    if frame >= sizes.frames {
+        return 3;
+    }
+    if good > 1 {
+        return 3;
+    }
+    let asked = frame_at(frames, frame);
+    if asked.transfer == NONE {
+        return 22;
+    }
+    0
+}
+
+// A record that is nulled becomes live.
+fn make_live(states: &mut [u8], r: usize)
+    requires { ⌜ (at (now states) r ≡ NULLED) ⊎ (at (now states) r ≡ LIVE) ⌝ }
+    ensures { λ _. ⌜ now (states .exit) ≡ set (now (states .entry)) r LIVE ⌝ }
+{
+    if at8(states, r) == NULLED {
+        move_record(states, r, LIVE);
+    }
+}
+
+pub fn page_done(
+    sizes: Sizes,
+    frame: usize,
+    good: usize,
+    frames: [Frame; 64],
+    records: &mut [u32],
+    words: &mut [u32],
+    free_queue: &mut [u16],
+    removal_list: &mut [u16],
+    addresses: &[u16],
+    states: &mut [u8],
+) -> Framed
+    requires { ⌜ DoneReady sizes (take (sizes .frames) frames) (now records) (now words) (now «free_queue») (now «removal_list») (now addresses) (now states) ⌝ }
+    ensures { λ r. ⌜ DoneLeft (own sizes (seen sizes frames (now (records .entry)) (now (words .entry)) (now («free_queue» .entry)) (now («removal_list» .entry)) (now (addresses .entry)) (now (states .entry))) (pageDone frame good)) (sizes .frames) (r .frames) (r .answer) (now (records .exit)) (now (words .exit)) (now («free_queue» .exit)) (now («removal_list» .exit)) (now (states .exit)) ⌝ }
+{
+    let refusal = ask_done(sizes, frame, good, frames);
+    if refusal != 0 {
+        return answered(frames, refusal, 0);
+    }
+    let old = frame_at(frames, frame);
+    let r = record_of(addresses, old.page);
+    if old.transfer == READING {
+        if good == 1 {
+            copy_part(records, r, words, frame, sizes.words);
+            push_front(removal_list, frame);
+            return answered(with_frame(frames, frame, served(old)), 0, 0);
+        }
+        push_back(free_queue, frame);
+        return answered(with_frame(frames, frame, no_frame()), 0, 0);
+    }
+    if good == 1 {
+        copy_part(words, frame, records, r, sizes.words);
+        make_live(states, r);
+        push_back(free_queue, frame);
+        return answered(with_frame(frames, frame, no_frame()), 0, 0);
+    }
+    push_back(removal_list, frame);
+    answered(with_frame(frames, frame, unwritten(old)), 0, 0)
+}

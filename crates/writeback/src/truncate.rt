@@ -1,0 +1,239 @@
+// Truncate: the pages of a slot from page k up become zeros.
+ghost use mathlib.Core.Path.{_≡_};
+ghost use mathlib.Core.Bool.{_&&_};
+ghost use mathlib.Core.List.{_++_};
+ghost use lib.ListN.{length, take, set};
+ghost use Rattle.tables.specs.Queue.{members, packed, without};
+ghost use Prim.Native.Nat.{ℕ, _+_, _-_, _*_, _<_, _≤_};
+ghost use Rattle.tables.specs.Questions.{firstNo};
+ghost use Rattle.model.specs.Questions.{questions};
+ghost use lib.Dec.{leb};
+ghost use Rattle.tables.specs.Base.{at};
+ghost use Rattle.writeback.specs.ByPage.{chargedEntry};
+ghost use Rattle.writeback.specs.Truncate.{number};
+ghost use Rattle.tables.specs.Rule.{Holds, test};
+ghost use Rattle.tables.specs.Store.{Split};
+ghost use Rattle.model.specs.State.{frameAt, noFrame};
+ghost use Rattle.writeback.specs.Truncate.{quiet, allQuiet, chargedPage, cutUpTo, cutList, Cutting, truncate, asked, seen, TruncateReady, TruncateLeft};
+use crate::by_page::by_page;
+use crate::by_page::wide;
+use leaves::cells::at8;
+use leaves::cells::at16;
+use leaves::cells::at32;
+use leaves::cells::put16;
+use leaves::queue::push_back;
+use leaves::queue::remove;
+use leaves::slots::clear_from;
+use leaves::states::release_from;
+use model::applied::Framed;
+use model::applied::answered;
+use model::frame::Frame;
+use model::frame::NONE;
+use model::frame::no_frame;
+use model::lines::LIVE;
+use model::sizes::Sizes;
+
+// Whether the frame is in no transfer (which 0, question 14), or not wired (which 1, question 16).
+fn is_quiet(which: u8, frame: Frame) -> bool
+    ensures { λ r. ⌜ r ≡ test (quiet which frame) ⌝ }
+{
+    if which == 0 {
+        return frame.transfer == NONE;
+    }
+    frame.wired != 1
+}
+
+// Whether every frame of the slot's pages from k up is so.
+fn all_quiet(
+    which: u8,
+    count: usize,
+    pages: usize,
+    slot: usize,
+    k: usize,
+    frames: [Frame; 64],
+) -> bool
+    requires { ⌜ (count < 65) × (pages < 257) × (slot < 65) × (k ≤ pages) ⌝ }
+    ensures { λ r. ⌜ r ≡ test (allQuiet which count pages slot k frames) ⌝ }
+{
+    let start = slot * pages;
+    let mut f = 0;
+    while f < count {
+        let frame = frames[f];
+        let page = frame.page as usize;
+        if page > start + k {
+            if page <= start + pages {
+                if is_quiet(which, frame) {} else {
+                    return false;
+                }
+            }
+        }
+        f += 1;
+    }
+    true
+}
+
+// Whether the page is charged, by the entry of its frame.
+fn is_charged(entry: u8, addresses: &[u16], states: &[u8], i: usize) -> bool
+    ensures { λ r. ⌜ r ≡ test (chargedEntry entry (now (addresses .entry)) (now (states .entry)) i) ⌝ }
+{
+    if entry != 0 {
+        return true;
+    }
+    let address = at16(addresses, i);
+    if address == 0 {
+        return false;
+    }
+    at8(states, address as usize - 1) == LIVE
+}
+
+// How many pages of the slot from k up are charged.
+fn charges(
+    count: usize,
+    pages: usize,
+    slot: usize,
+    k: usize,
+    frames: [Frame; 64],
+    addresses: &[u16],
+    states: &[u8],
+) -> usize
+    requires { ⌜ (count < 65) × (pages < 257) × (slot < 65) × (k ≤ pages) ⌝ }
+    ensures { λ r. ⌜ r ≡ number pages (λ p. leb k p && test (chargedPage count frames (now (addresses .entry)) (now (states .entry)) (slot * pages + p))) ⌝ }
+{
+    let start = slot * pages;
+    let entries = by_page(count, pages, slot, frames, [0; 256]);
+    let mut n = 0;
+    let mut p = k;
+    while p < pages {
+        if is_charged(entries[p], addresses, states, start + p) {
+            n += 1;
+        }
+        p += 1;
+    }
+    n
+}
+
+// The frames of the slot's pages from k up lose their page and switches.
+fn clear_frames(
+    count: usize,
+    pages: usize,
+    slot: usize,
+    k: usize,
+    frames: [Frame; 64],
+) -> [Frame; 64]
+    requires { ⌜ (count < 65) × (pages < 257) × (slot < 65) × (k ≤ pages) ⌝ }
+    ensures { λ r. ⌜ (length r ≡ length frames) × ((f : ℕ) → f < count → Split (Holds (cutUpTo pages slot k pages (frameAt frames f))) (frameAt r f) noFrame (frameAt frames f)) ⌝ }
+{
+    let start = slot * pages;
+    let mut kept = frames;
+    let mut f = 0;
+    while f < count {
+        let old = kept[f];
+        let page = old.page as usize;
+        if page > start + k {
+            if page <= start + pages {
+                kept[f] = no_frame();
+            }
+        }
+        f += 1;
+    }
+    kept
+}
+
+// The frames of the slot's pages from k up join the free queue's end, in page order, and leave the removal list.
+fn free_frames(
+    count: usize,
+    pages: usize,
+    slot: usize,
+    k: usize,
+    frames: [Frame; 64],
+    free_queue: &mut [u16],
+    removal_list: &mut [u16],
+)
+    requires { ⌜ Cutting count pages slot k frames (now «free_queue») (now «removal_list») ⌝ }
+    ensures { λ _. ⌜ (now («free_queue» .exit) ≡ packed (length (now («free_queue» .entry))) (members (now («free_queue» .entry)) ++ cutList count pages slot k frames pages)) × (now («removal_list» .exit) ≡ packed (length (now («removal_list» .entry))) (without (λ f. test (cutUpTo pages slot k pages (frameAt frames f))) (members (now («removal_list» .entry))))) ⌝ }
+{
+    let entries = by_page(count, pages, slot, frames, [0; 256]);
+    let mut p = k;
+    while p < pages {
+        let entry = wide(entries[p]);
+        if entry != 0 {
+            push_back(free_queue, entry - 1);
+            remove(removal_list, entry - 1);
+        }
+        p += 1;
+    }
+}
+
+// Questions 3, 4, 8, 14 and 16.
+fn ask_truncate(
+    sizes: Sizes,
+    slot: usize,
+    k: usize,
+    frames: [Frame; 64],
+    numbers: &[u32],
+    active: &[u8],
+) -> u32
+    requires { ⌜ (sizes .frames < 65) × (sizes .pages < 257) × (sizes .slots < 65) ⌝ }
+    ensures { λ r. ⌜ r ≡ firstNo (questions sizes (asked sizes frames (now (numbers .entry)) (now (active .entry))) (truncate slot k)) ⌝ }
+{
+    if slot >= sizes.slots {
+        return 3;
+    }
+    if k > sizes.pages {
+        return 3;
+    }
+    if at32(numbers, slot) == 0 {
+        return 4;
+    }
+    if at8(active, slot) != 1 {
+        return 8;
+    }
+    if all_quiet(0, sizes.frames, sizes.pages, slot, k, frames) {} else {
+        return 14;
+    }
+    if all_quiet(1, sizes.frames, sizes.pages, slot, k, frames) {} else {
+        return 16;
+    }
+    0
+}
+
+// So many charges less for the slot's account.
+fn uncharge(used: &mut [u16], accounts: &[u16], slot: usize, n: usize)
+    requires { ⌜ n ≤ at (now used) (at (now accounts) slot) ⌝ }
+    ensures { λ _. ⌜ now (used .exit) ≡ set (now (used .entry)) (at (now (accounts .entry)) slot) (at (now (used .entry)) (at (now (accounts .entry)) slot) - n) ⌝ }
+{
+    let q = at16(accounts, slot) as usize;
+    let less = at16(used, q) as usize - n;
+    put16(used, q, less as u16);
+}
+
+pub fn truncate(
+    sizes: Sizes,
+    slot: usize,
+    k: usize,
+    frames: [Frame; 64],
+    numbers: &[u32],
+    accounts: &[u16],
+    free_queue: &mut [u16],
+    removal_list: &mut [u16],
+    addresses: &mut [u16],
+    states: &mut [u8],
+    active: &[u8],
+    used: &mut [u16],
+) -> Framed
+    requires { ⌜ TruncateReady sizes (take (sizes .frames) frames) (now accounts) (now «free_queue») (now «removal_list») (now addresses) (now states) (now used) ⌝ }
+    ensures { λ r. ⌜ TruncateLeft sizes (seen sizes frames (now (numbers .entry)) (now (accounts .entry)) (now («free_queue» .entry)) (now («removal_list» .entry)) (now (addresses .entry)) (now (states .entry)) (now (active .entry)) (now (used .entry))) slot k (r .frames) (r .answer) (now («free_queue» .exit)) (now («removal_list» .exit)) (now (addresses .exit)) (now (states .exit)) (now (used .exit)) ⌝ }
+{
+    let refusal = ask_truncate(sizes, slot, k, frames, numbers, active);
+    if refusal != 0 {
+        return answered(frames, refusal, 0);
+    }
+    let count = sizes.frames;
+    let pages = sizes.pages;
+    let n = charges(count, pages, slot, k, frames, addresses, states);
+    uncharge(used, accounts, slot, n);
+    free_frames(count, pages, slot, k, frames, free_queue, removal_list);
+    release_from(sizes, states, addresses, slot, k);
+    clear_from(addresses, pages, slot, k);
+    answered(clear_frames(count, pages, slot, k, frames), 0, 0)
+}

@@ -1,0 +1,130 @@
+// Update: a slot's map image is made, and the records that its design gives up leave.
+ghost use mathlib.Core.Path.{_≡_};
+ghost use Prim.Native.Nat.{suc, _+_, _*_, _/_, _<_, _≤_};
+ghost use lib.ListN.{length};
+ghost use Rattle.tables.specs.Base.{at};
+ghost use Rattle.tables.specs.Questions.{firstNo};
+ghost use Rattle.tables.specs.Rule.{Holds, same, some, _and_};
+ghost use Rattle.tables.specs.Store.{store, Split};
+ghost use Rattle.model.specs.Lines.{LEAVING};
+ghost use Rattle.model.specs.Questions.{questions};
+ghost use Rattle.model.specs.Own.{own};
+ghost use Rattle.leaves.specs.Addresses.{liveAddress};
+ghost use Rattle.writeback.specs.Update.{update, asked, seen, leaves, leavesSlot, Leaving, UpdateReady, UpdateLeft};
+use leaves::addresses::live_address;
+use leaves::cells::at8;
+use leaves::cells::at16;
+use leaves::cells::at32;
+use leaves::cells::put8;
+use leaves::frames::frame_of;
+use leaves::states::move_all;
+use leaves::states::move_record;
+use model::event::Answer;
+use model::frame::Frame;
+use model::lines::LEAVING;
+use model::lines::NULLED;
+use model::lines::RELEASED;
+use model::sizes::Sizes;
+
+// Questions 3, 4, 8 and 10.
+fn ask_update(sizes: Sizes, slot: usize, numbers: &[u32], active: &[u8], updating: &[u8]) -> u32
+    ensures { λ r. ⌜ r ≡ firstNo (questions sizes (asked (now (numbers .entry)) (now (active .entry)) (now (updating .entry))) (update slot)) ⌝ }
+{
+    if slot >= sizes.slots {
+        return 3;
+    }
+    if at32(numbers, slot) == 0 {
+        return 4;
+    }
+    if at8(active, slot) != 1 {
+        return 8;
+    }
+    if at8(updating, slot) != 0 {
+        return 10;
+    }
+    0
+}
+
+// The image lists the slot's live addresses, others 0.
+fn fill_image(pages: usize, slot: usize, addresses: &[u16], states: &[u8], images: &mut [u16])
+    requires { ⌜ (0 < pages) × (slot * pages + pages ≤ length (now images)) ⌝ }
+    ensures { λ _. ⌜ now (images .exit) ≡ store (now (images .entry)) (λ i. same (i / pages) slot) (liveAddress (now (addresses .entry)) (now (states .entry))) ⌝ }
+{
+    let end = slot * pages + pages;
+    let mut i = slot * pages;
+    while i < end {
+        images[i] = live_address(addresses, states, i);
+        i += 1;
+    }
+}
+
+// A page's address where its record is nulled and it is in no frame, else 0.
+fn leaving_of(count: usize, frames: [Frame; 64], addresses: &[u16], states: &[u8], i: usize) -> u16
+    requires { ⌜ (count < 65) × (i < 65535) ⌝ }
+    ensures { λ r. ⌜ Split (Holds (leaves count frames (now (addresses .entry)) (now (states .entry)) i)) r (at (now (addresses .entry)) i) 0 ⌝ }
+{
+    let address = at16(addresses, i);
+    if address == 0 {
+        return 0;
+    }
+    if at8(states, address as usize - 1) != NULLED {
+        return 0;
+    }
+    if frame_of(frames, count, i) < count {
+        return 0;
+    }
+    address
+}
+
+// These pages of the slot lose their address, and their records leave.
+fn leave_pages(
+    sizes: Sizes,
+    slot: usize,
+    frames: [Frame; 64],
+    addresses: &mut [u16],
+    states: &mut [u8],
+)
+    requires { ⌜ Leaving sizes slot (now addresses) (now states) ⌝ }
+    ensures { λ _. ⌜ (now (addresses .exit) ≡ store (now (addresses .entry)) (leavesSlot sizes frames (now (addresses .entry)) (now (states .entry)) slot) (λ i. 0)) × (now (states .exit) ≡ store (now (states .entry)) (λ r. some (length (now (addresses .entry))) λ i. leavesSlot sizes frames (now (addresses .entry)) (now (states .entry)) slot i and same (at (now (addresses .entry)) i) (suc r)) (λ r. LEAVING)) ⌝ }
+{
+    let pages = sizes.pages;
+    let end = slot * pages + pages;
+    let mut i = slot * pages;
+    while i < end {
+        let address = leaving_of(sizes.frames, frames, addresses, states, i);
+        if address != 0 {
+            move_record(states, address as usize - 1, LEAVING);
+            addresses[i] = 0;
+        }
+        i += 1;
+    }
+}
+
+pub fn update(
+    sizes: Sizes,
+    slot: usize,
+    frames: [Frame; 64],
+    numbers: &[u32],
+    addresses: &mut [u16],
+    states: &mut [u8],
+    owners: &[u8],
+    active: &[u8],
+    updating: &mut [u8],
+    images: &mut [u16],
+) -> Answer
+    requires { ⌜ UpdateReady sizes (now addresses) (now states) (now owners) (now images) ⌝ }
+    ensures { λ r. ⌜ UpdateLeft (own sizes (seen sizes frames (now (numbers .entry)) (now (addresses .entry)) (now (states .entry)) (now (owners .entry)) (now (active .entry)) (now (updating .entry)) (now (images .entry))) (update slot)) r (now (addresses .exit)) (now (states .exit)) (now (updating .exit)) (now (images .exit)) ⌝ }
+{
+    let refusal = ask_update(sizes, slot, numbers, active, updating);
+    if refusal != 0 {
+        return Answer { refusal, result: 0 };
+    }
+    put8(updating, slot, 1);
+    fill_image(sizes.pages, slot, addresses, states, images);
+    leave_pages(sizes, slot, frames, addresses, states);
+    move_all(states, owners, slot, RELEASED, LEAVING);
+    Answer {
+        refusal: 0,
+        result: 0,
+    }
+}
