@@ -264,7 +264,7 @@ keeper-restart-spec 𝓤 H 𝓜 𝓖 𝓡 =
     (tables 𝓤 H 𝓜 𝓡 code.env .C) (tables 𝓤 H 𝓜 𝓡 code.env .Λ) #key code.function (code.unfolded 𝓤 H 𝓜 𝓡)
     (meets 𝓤 H (𝓖 .A) (givenOf 𝓤 H 𝓜 𝓖) (𝓜 .mem) (𝓡 .run) (tablesOf 𝓤 H 𝓜 (tables 𝓤 H 𝓜 𝓡 code.env))
     (cited-load 𝓤 H 𝓜 𝓖 𝓡 code.env code.calls-keeper·frames·load)
-    (cited 𝓤 H (Core 𝓤 H (𝓖 .A) (𝓜 .mem) (𝓡 .run)) 𝓜 𝓡 code.env #core core-def.routine code.calls-events·restart-core (core-thm.met 𝓤 H 𝓜 𝓖 𝓡))
+    (cited 𝓤 H (Core 𝓤 H (𝓖 .A) (𝓜 .mem) (𝓡 .run)) 𝓜 𝓡 code.env #core core-def.routine code.calls-calls·restart-core (core-thm.met 𝓤 H 𝓜 𝓖 𝓡))
     (cited-save 𝓤 H 𝓜 𝓖 𝓡 code.env code.calls-keeper·frames·save)
     (cited-take 𝓤 H 𝓜 𝓖 𝓡 code.env code.calls-keeper·pool·take)
     (cited-deposit 𝓤 H 𝓜 𝓖 𝓡 code.env code.calls-keeper·pool·deposit))
