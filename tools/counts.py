@@ -9,6 +9,8 @@
 import pathlib
 import sys
 
+from crates import listed
+
 ROOT = pathlib.Path(__file__).resolve().parent.parent
 START, END = "<!-- sizes: made by tools/counts.py -->\n", "<!-- end of sizes -->\n"
 
@@ -22,12 +24,6 @@ COLUMNS = [
 
 class Bad(Exception):
     """A file that has no place for the table; says which."""
-
-
-def crates(text):
-    """The crates in the order of crates.txt: what stands before the colon."""
-    rows = (line.split("#", 1)[0].partition(":") for line in text.splitlines())
-    return [name.strip() for name, colon, _ in rows if colon]
 
 
 def counted(text, comment):
@@ -50,7 +46,7 @@ def row(name, numbers):
 
 def table():
     """The counts of all crates as a Markdown table, with a total."""
-    names = crates((ROOT / "crates.txt").read_text())
+    names = listed((ROOT / "crates.txt").read_text())
     rows = [sizes(name) for name in names]
     heading = "| crate | " + " | ".join(name for name, _, _ in COLUMNS) + " |\n"
     rule = "|---|" + "---:|" * len(COLUMNS) + "\n"
