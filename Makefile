@@ -1,5 +1,5 @@
 # make test: the gate. make replay: the event program on a readable example. make mutants: every wrong definition that a theorem must refuse.
-# make docs: what the documents take from the code. make bench: the keeper's speed beside the C port's and the reference's (docs/BENCHMARKS.md).
+# make docs: what the documents take from the code, and whatever repeats the lent tables. make bench: the keeper's speed beside the C port's and the reference's (docs/BENCHMARKS.md).
 .PHONY: test replay mutants docs bench
 EXAMPLE = examples/two-mills.txt
 LIBRARY = target/staticlib/libkeeper.a
@@ -17,6 +17,7 @@ mutants:
 	python3 tests/mutants/run.py
 
 docs:
+	python3 tools/tables.py --write
 	python3 tools/pictures.py --write
 	python3 tools/counts.py --write docs/PROOF.md
 

@@ -29,21 +29,31 @@ struct halves { uint16_t *at; size_t len; };
 struct bytes { uint8_t *at; size_t len; };
 struct frames { struct frame *at; size_t len; };
 
+/* tables: made by tools/tables.py from tools/tables.txt */
 struct disk {
-    struct words records, numbers;
-    struct halves accounts, maps, limits;
+    struct words records;
+    struct words numbers;
+    struct halves accounts;
+    struct halves maps;
+    struct halves limits;
 };
 
 struct memory {
     struct frames frames;
     struct words frame_words;
-    struct halves free_queue, removal_list, addresses;
-    struct bytes states, owners;
+    struct halves free_queue;
+    struct halves removal_list;
+    struct halves addresses;
+    struct bytes states;
+    struct bytes owners;
     struct words free_map;
-    struct bytes active, updating;
-    struct halves images, used;
+    struct bytes active;
+    struct bytes updating;
+    struct halves images;
+    struct halves used;
     struct pool *pool;
 };
+/* end of tables */
 
 struct keeper {
     struct sizes sizes;

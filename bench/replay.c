@@ -5,22 +5,54 @@
 
 enum { W = 2, R = 4, F = 2, S = 2, N = 3, Q = 1 };
 
-static uint32_t records[R * W], numbers[S], frame_words[F * W], free_map[1];
-static uint16_t accounts[S], maps[S * N], limits[Q];
-static uint16_t free_queue[F], removal_list[F], addresses[S * N], images[S * N], used[Q];
-static uint8_t states[R], owners[R], active[S], updating[S];
-static struct frame frames[F];
-static struct pool pool;
-
 #define SLICE(table) {table, sizeof table / sizeof *table}
+
+/* tables: made by tools/tables.py from tools/tables.txt */
+static uint32_t records[R * W];
+static uint32_t numbers[S];
+static uint16_t accounts[S];
+static uint16_t maps[S * N];
+static uint16_t limits[Q];
+static struct frame frames[F];
+static uint32_t frame_words[F * W];
+static uint16_t free_queue[F];
+static uint16_t removal_list[F];
+static uint16_t addresses[S * N];
+static uint8_t states[R];
+static uint8_t owners[R];
+static uint32_t free_map[(R + 31) / 32];
+static uint8_t active[S];
+static uint8_t updating[S];
+static uint16_t images[S * N];
+static uint16_t used[Q];
+static struct pool pool;
 
 static struct keeper keeper = {
     .sizes = {W, R, F, S, N, Q},
-    .disk = {SLICE(records), SLICE(numbers), SLICE(accounts), SLICE(maps), SLICE(limits)},
-    .memory = {SLICE(frames), SLICE(frame_words), SLICE(free_queue), SLICE(removal_list), SLICE(addresses),
-               SLICE(states), SLICE(owners), SLICE(free_map), SLICE(active), SLICE(updating), SLICE(images),
-               SLICE(used), &pool},
+    .disk = {
+        SLICE(records),
+        SLICE(numbers),
+        SLICE(accounts),
+        SLICE(maps),
+        SLICE(limits),
+    },
+    .memory = {
+        SLICE(frames),
+        SLICE(frame_words),
+        SLICE(free_queue),
+        SLICE(removal_list),
+        SLICE(addresses),
+        SLICE(states),
+        SLICE(owners),
+        SLICE(free_map),
+        SLICE(active),
+        SLICE(updating),
+        SLICE(images),
+        SLICE(used),
+        &pool,
+    },
 };
+/* end of tables */
 
 /* The widths of a tag's values, 0 after the last. */
 static const uint8_t widths[CUT + 1][4] = {

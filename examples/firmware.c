@@ -8,30 +8,19 @@ enum { W = 4, R = 8, F = 3, S = 2, N = 4, Q = 2 };
 
 static const KeeperSizes sizes = {.words = W, .records = R, .frames = F, .slots = S, .pages = N, .accounts = Q};
 
-/* What survives a cut: here the device and the copy of it that is lent are one. */
+/* What survives a cut: a header block with the sizes that the disk was formatted with, and the disk part. Here the device and the
+ * copy of it that is lent are one. */
 static struct {
-    uint32_t records[R * W], numbers[S];
-    uint16_t accounts[S], maps[S * N], limits[Q];
+    KeeperSizes header;
+    KEEPER_DISK_TABLES(W, R, F, S, N, Q)
 } disk;
 
 /* What does not. */
 static struct {
-    KeeperFrame frames[F];
-    KeeperPool pool;
-    uint32_t frame_words[F * W];
-    uint16_t free_queue[F], removal_list[F], addresses[S * N];
-    uint8_t states[R], owners[R];
-    uint32_t free_map[(R + 31) / 32];
-    uint8_t active[S], updating[S];
-    uint16_t images[S * N], used[Q];
+    KEEPER_MEMORY_TABLES(W, R, F, S, N, Q)
 } memory;
 
-#define TABLE(t) t, sizeof(t) / sizeof(*(t))
-#define DISK TABLE(disk.records), TABLE(disk.numbers), TABLE(disk.accounts), TABLE(disk.maps), TABLE(disk.limits)
-#define MEMORY                                                                                                        \
-    TABLE(memory.frame_words), TABLE(memory.free_queue), TABLE(memory.removal_list), TABLE(memory.addresses),         \
-        TABLE(memory.states), TABLE(memory.owners), TABLE(memory.free_map), TABLE(memory.active),                     \
-        TABLE(memory.updating), TABLE(memory.images), TABLE(memory.used)
+#define EVERYTHING KEEPER_LEND(memory.frames), &memory.pool, KEEPER_LEND_DISK(disk), KEEPER_LEND_MEMORY(memory)
 
 static unsigned refused; /* calls that were refused */
 
@@ -51,12 +40,33 @@ static uint32_t done(const char *what, KeeperAnswer answer)
 static uint32_t ask(const char *what, uint32_t kind, uint32_t first, uint32_t second, uint32_t third, uint32_t fourth)
 {
     KeeperRequest request = {kind, first, second, third, fourth};
-    return done(what, keeper_apply(sizes, request, TABLE(memory.frames), &memory.pool, DISK, MEMORY));
+    return done(what, keeper_apply(sizes, request, EVERYTHING));
+}
+
+static void print_sizes(const char *before, const KeeperSizes *z)
+{
+    printf("%s W %zu R %zu F %zu S %zu N %zu Q %zu", before, z->words, z->records, z->frames, z->slots, z->pages, z->accounts);
+}
+
+/* Whether the disk was formatted with these sizes. Asked before every restart: the keeper itself sees only lengths, and other
+ * sizes can have the same ones. */
+static int opens(const KeeperSizes *wanted)
+{
+    if (memcmp(&disk.header, wanted, sizeof *wanted) == 0)
+        return 1;
+    print_sizes("not opened with", wanted);
+    print_sizes(": this disk has", &disk.header);
+    puts("");
+    return 0;
 }
 
 static void restart(void)
 {
-    done("restart", keeper_restart(sizes, TABLE(memory.frames), &memory.pool, DISK, MEMORY));
+    if (!opens(&sizes)) {
+        refused++;
+        return;
+    }
+    done("restart", keeper_restart(sizes, EVERYTHING));
     printf("restart: %u records free\n", (unsigned)memory.pool.free);
 }
 
@@ -87,7 +97,8 @@ static uint32_t weave(uint32_t slot, uint32_t page, uint32_t first)
 static void show(uint32_t slot, uint32_t page)
 {
     bring(slot, page);
-    KeeperPart part = keeper_page_look(sizes, slot, page, TABLE(memory.frames), memory.pool, DISK, MEMORY);
+    KeeperPart part = keeper_page_look(sizes, slot, page, KEEPER_LEND(memory.frames), memory.pool, KEEPER_LEND_DISK(disk),
+                                       KEEPER_LEND_MEMORY(memory));
     printf("mill %u page %u:", slot, page);
     for (size_t word = part.start; word < part.start + part.count; word++)
         printf(" %u", (unsigned)memory.frame_words[word]);
@@ -109,7 +120,8 @@ static void land_map(uint32_t slot)
 
 static void set_up(void)
 {
-    done("format", keeper_format(sizes, DISK));
+    done("format", keeper_format(sizes, KEEPER_LEND_DISK(disk)));
+    disk.header = sizes; /* after the tables: a disk that was half formatted has no header */
     restart();
     for (uint32_t mill = 0; mill < S; mill++) {
         ask("limit", KEEPER_LIMIT, mill, N, 0, 0);
@@ -141,6 +153,11 @@ int main(void)
     if (frame < F)
         land_page(frame);
     memset(&memory, 0xA5, sizeof memory);
+
+    /* Firmware for pages of twice the words, half as many: every table of the disk part has its length there too. */
+    const KeeperSizes other = {.words = 2 * W, .records = R / 2, .frames = F, .slots = S, .pages = N, .accounts = Q};
+    if (opens(&other))
+        refused++;
 
     restart();
     for (uint32_t mill = 0; mill < S; mill++)

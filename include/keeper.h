@@ -2,8 +2,10 @@
  *
  * All tables are lent by the caller, as a pointer and a count of elements each; the keeper keeps no memory of its own, never
  * allocates, never blocks, and every call ends. A table of a wrong length is answered 1. After a refusal everything lent is as it
- * was. What the caller owes: no pointer is null, each is aligned as its elements, no two tables overlap, and one call at a time on
- * one set of tables. */
+ * was. What the caller owes: no pointer is null, each is aligned as its elements, no two tables overlap, one call at a time on
+ * one set of tables; and for one disk the same sizes at every call, from its format on. The keeper does not store the sizes and
+ * cannot tell: a disk formatted with W 16 and R 8 has all its lengths with W 8 and R 16 too, restart answers 0, and then one
+ * design shows another's words. Keep the sizes on the device and refuse others, as examples/firmware.c does. */
 #ifndef KEEPER_H
 #define KEEPER_H
 
@@ -116,41 +118,136 @@ enum {
     KEEPER_LEAVING = 23         /* map done: a leaving record in the image; question 2 keeps it from being answered */
 };
 
-/* The lent tables, in the order of every call: a pointer and a count of elements each. The comment is the count that is asked for. */
-#define KEEPER_DISK(CONST)                                                                                                       \
-    CONST uint32_t *records, size_t records_count,          /* R * W */                                                          \
-        CONST uint32_t *numbers, size_t numbers_count,      /* S */                                                              \
-        CONST uint16_t *accounts, size_t accounts_count,    /* S */                                                              \
-        CONST uint16_t *maps, size_t maps_count,            /* S * N */                                                          \
-        CONST uint16_t *limits, size_t limits_count         /* Q */
-#define KEEPER_MEMORY(CONST)                                                                                                     \
-    CONST uint32_t *frame_words, size_t frame_words_count,  /* F * W */                                                          \
-        CONST uint16_t *free_queue, size_t free_queue_count, /* F */                                                             \
-        CONST uint16_t *removal_list, size_t removal_list_count, /* F */                                                         \
-        CONST uint16_t *addresses, size_t addresses_count,  /* S * N */                                                          \
-        CONST uint8_t *states, size_t states_count,         /* R */                                                              \
-        CONST uint8_t *owners, size_t owners_count,         /* R */                                                              \
-        CONST uint32_t *free_map, size_t free_map_count,    /* (R + 31) / 32 */                                                  \
-        CONST uint8_t *active, size_t active_count,         /* S */                                                              \
-        CONST uint8_t *updating, size_t updating_count,     /* S */                                                              \
-        CONST uint16_t *images, size_t images_count,        /* S * N */                                                          \
-        CONST uint16_t *used, size_t used_count             /* Q */
+/* tables and calls: made by tools/tables.py from tools/tables.txt */
+/* The lent tables as members of a struct, where the sizes are constants: each with exactly its length. */
+#define KEEPER_DISK_TABLES(W, R, F, S, N, Q)                                             \
+    uint32_t records[(R) * (W)]; /* the records' words */                                \
+    uint32_t numbers[S];         /* the slot's unique number, 0 for an empty slot */     \
+    uint16_t accounts[S];        /* the slot's account */                                \
+    uint16_t maps[(S) * (N)];    /* file maps: 0 for a page of zeros, else record + 1 */ \
+    uint16_t limits[Q];          /* the account's limit, in pages */
+#define KEEPER_MEMORY_TABLES(W, R, F, S, N, Q)                                                                                   \
+    KeeperFrame frames[F];              /* the frames: page, switches, transfer */                                               \
+    uint32_t frame_words[(F) * (W)];    /* the frames' words */                                                                  \
+    uint16_t free_queue[F];             /* the free frames, a queue: frame + 1, packed at the front, then 0 */                   \
+    uint16_t removal_list[F];           /* the frames that a claim looks at, a queue; it looks at the front first */             \
+    uint16_t addresses[(S) * (N)];      /* the page's address: 0, or record + 1 */                                               \
+    uint8_t states[R];                  /* the record's state, 0 to 5 */                                                         \
+    uint8_t owners[R];                  /* the record's slot; 0 for a free record */                                             \
+    uint32_t free_map[((R) + 31) / 32]; /* one bit a record, on where it is free: bit r % 32 of word r / 32 */                   \
+    uint8_t active[S];                  /* the slot's active switch, 0 or 1 */                                                   \
+    uint8_t updating[S];                /* the slot's update-under-way switch, 0 or 1 */                                         \
+    uint16_t images[(S) * (N)];         /* map images: 0, or record + 1 */                                                       \
+    uint16_t used[Q];                   /* the account's used count */                                                           \
+    KeeperPool pool;                    /* the hand, where the search for a free record starts, and the count of free records */
+
+/* A table as arguments, a pointer and a count of elements; and a struct's tables of numbers, in the order of the calls. */
+#define KEEPER_LEND(table) (table), sizeof(table) / sizeof *(table)
+#define KEEPER_LEND_DISK(disk)    \
+    KEEPER_LEND((disk).records),  \
+    KEEPER_LEND((disk).numbers),  \
+    KEEPER_LEND((disk).accounts), \
+    KEEPER_LEND((disk).maps),     \
+    KEEPER_LEND((disk).limits)
+#define KEEPER_LEND_MEMORY(memory)      \
+    KEEPER_LEND((memory).frame_words),  \
+    KEEPER_LEND((memory).free_queue),   \
+    KEEPER_LEND((memory).removal_list), \
+    KEEPER_LEND((memory).addresses),    \
+    KEEPER_LEND((memory).states),       \
+    KEEPER_LEND((memory).owners),       \
+    KEEPER_LEND((memory).free_map),     \
+    KEEPER_LEND((memory).active),       \
+    KEEPER_LEND((memory).updating),     \
+    KEEPER_LEND((memory).images),       \
+    KEEPER_LEND((memory).used)
+
+/* The calls; beside each table the count that is asked for. */
 
 /* Zeroes the disk part, once for a new disk. Lent: the disk part. Answers 0 or 1. */
-KeeperAnswer keeper_format(KeeperSizes sizes, KEEPER_DISK());
+KeeperAnswer keeper_format(
+    KeeperSizes sizes,
+    uint32_t *records, size_t records_count,   /* R * W */
+    uint32_t *numbers, size_t numbers_count,   /* S */
+    uint16_t *accounts, size_t accounts_count, /* S */
+    uint16_t *maps, size_t maps_count,         /* S * N */
+    uint16_t *limits, size_t limits_count      /* Q */
+);
 
-/* Sets up the memory part from the disk part alone: the first call after a format or a cut, made again while it is refused.
- * Lent: everything; frames_count is F. The disk part is only read. Answers 0, 1 or 2. */
-KeeperAnswer keeper_restart(KeeperSizes sizes, KeeperFrame *frames, size_t frames_count, KeeperPool *pool, KEEPER_DISK(const),
-                            KEEPER_MEMORY());
+/* Sets up the memory part from the disk part alone: the first call after a format or a cut, made again while it is
+ * refused. Lent: everything. Answers 0, 1 or 2. */
+KeeperAnswer keeper_restart(
+    KeeperSizes sizes,
+    KeeperFrame *frames, size_t frames_count,          /* F */
+    KeeperPool *pool,
+    const uint32_t *records, size_t records_count,     /* R * W */
+    const uint32_t *numbers, size_t numbers_count,     /* S */
+    const uint16_t *accounts, size_t accounts_count,   /* S */
+    const uint16_t *maps, size_t maps_count,           /* S * N */
+    const uint16_t *limits, size_t limits_count,       /* Q */
+    uint32_t *frame_words, size_t frame_words_count,   /* F * W */
+    uint16_t *free_queue, size_t free_queue_count,     /* F */
+    uint16_t *removal_list, size_t removal_list_count, /* F */
+    uint16_t *addresses, size_t addresses_count,       /* S * N */
+    uint8_t *states, size_t states_count,              /* R */
+    uint8_t *owners, size_t owners_count,              /* R */
+    uint32_t *free_map, size_t free_map_count,         /* (R + 31) / 32 */
+    uint8_t *active, size_t active_count,              /* S */
+    uint8_t *updating, size_t updating_count,          /* S */
+    uint16_t *images, size_t images_count,             /* S * N */
+    uint16_t *used, size_t used_count                  /* Q */
+);
 
 /* Every other event, asked for by a request. Lent: everything. */
-KeeperAnswer keeper_apply(KeeperSizes sizes, KeeperRequest request, KeeperFrame *frames, size_t frames_count, KeeperPool *pool,
-                          KEEPER_DISK(), KEEPER_MEMORY());
+KeeperAnswer keeper_apply(
+    KeeperSizes sizes,
+    KeeperRequest request,
+    KeeperFrame *frames, size_t frames_count,          /* F */
+    KeeperPool *pool,
+    uint32_t *records, size_t records_count,           /* R * W */
+    uint32_t *numbers, size_t numbers_count,           /* S */
+    uint16_t *accounts, size_t accounts_count,         /* S */
+    uint16_t *maps, size_t maps_count,                 /* S * N */
+    uint16_t *limits, size_t limits_count,             /* Q */
+    uint32_t *frame_words, size_t frame_words_count,   /* F * W */
+    uint16_t *free_queue, size_t free_queue_count,     /* F */
+    uint16_t *removal_list, size_t removal_list_count, /* F */
+    uint16_t *addresses, size_t addresses_count,       /* S * N */
+    uint8_t *states, size_t states_count,              /* R */
+    uint8_t *owners, size_t owners_count,              /* R */
+    uint32_t *free_map, size_t free_map_count,         /* (R + 31) / 32 */
+    uint8_t *active, size_t active_count,              /* S */
+    uint8_t *updating, size_t updating_count,          /* S */
+    uint16_t *images, size_t images_count,             /* S * N */
+    uint16_t *used, size_t used_count                  /* Q */
+);
 
-/* A page look: which part of frame_words the page is. Lent: everything, only read; the pool goes by value. Refused as a read is. */
-KeeperPart keeper_page_look(KeeperSizes sizes, size_t slot, size_t page, const KeeperFrame *frames, size_t frames_count,
-                            KeeperPool pool, KEEPER_DISK(const), KEEPER_MEMORY(const));
+/* A page look: which part of frame_words the page is. Lent: everything, only read; the pool goes by value. Refused as a
+ * read is. */
+KeeperPart keeper_page_look(
+    KeeperSizes sizes,
+    size_t slot,
+    size_t page,
+    const KeeperFrame *frames, size_t frames_count,          /* F */
+    KeeperPool pool,
+    const uint32_t *records, size_t records_count,           /* R * W */
+    const uint32_t *numbers, size_t numbers_count,           /* S */
+    const uint16_t *accounts, size_t accounts_count,         /* S */
+    const uint16_t *maps, size_t maps_count,                 /* S * N */
+    const uint16_t *limits, size_t limits_count,             /* Q */
+    const uint32_t *frame_words, size_t frame_words_count,   /* F * W */
+    const uint16_t *free_queue, size_t free_queue_count,     /* F */
+    const uint16_t *removal_list, size_t removal_list_count, /* F */
+    const uint16_t *addresses, size_t addresses_count,       /* S * N */
+    const uint8_t *states, size_t states_count,              /* R */
+    const uint8_t *owners, size_t owners_count,              /* R */
+    const uint32_t *free_map, size_t free_map_count,         /* (R + 31) / 32 */
+    const uint8_t *active, size_t active_count,              /* S */
+    const uint8_t *updating, size_t updating_count,          /* S */
+    const uint16_t *images, size_t images_count,             /* S * N */
+    const uint16_t *used, size_t used_count                  /* Q */
+);
+/* end of tables and calls */
 
 #ifdef __cplusplus
 }

@@ -10,6 +10,7 @@ import pathlib
 import sys
 
 from crates import listed
+from regions import Bad, parts
 
 ROOT = pathlib.Path(__file__).resolve().parent.parent
 START, END = "<!-- sizes: made by tools/counts.py -->\n", "<!-- end of sizes -->\n"
@@ -20,10 +21,6 @@ COLUMNS = [
     ("specs", "specs/**/*.antt", "--"),
     ("proofs", "proofs/**/*.antt", "--"),
 ]
-
-
-class Bad(Exception):
-    """A file that has no place for the table; says which."""
 
 
 def counted(text, comment):
@@ -54,15 +51,6 @@ def table():
     return heading + rule + body + row("total", map(sum, zip(*rows)))
 
 
-def parts(text, name):
-    """What stands in a file before the table, the table, and what stands after it."""
-    before, start, rest = text.partition(START)
-    inside, end, after = rest.partition(END)
-    if not start or not end:
-        raise Bad(f"{name} has not the two marker lines of the table")
-    return before + start, inside, end + after
-
-
 def main(words):
     if not words:
         print(table(), end="")
@@ -71,7 +59,7 @@ def main(words):
         print(__doc__, file=sys.stderr)
         return 1
     path = pathlib.Path(words[1])
-    before, inside, after = parts(path.read_text(), words[1])
+    before, inside, after = parts(path.read_text(), START, END, words[1])
     if words[0] == "--write":
         path.write_text(before + table() + after)
         return 0

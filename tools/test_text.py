@@ -8,6 +8,8 @@ import unittest
 ROOT = pathlib.Path(__file__).resolve().parent.parent
 LONGEST_LINE = 400
 LONGEST_CHAIN = 8
+LONGEST_FUNCTION = 40
+DECISIONS = (ROOT / "docs" / "DECISIONS.md").read_text()
 
 
 def sources():
@@ -27,6 +29,40 @@ def long_chains(text):
     return [(text.count("\n", 0, start) + 1, length) for start, length in chains if length > LONGEST_CHAIN]
 
 
+def functions(text):
+    """Each function: its name, and how many lines it has with parameters and contract, and its body alone, braces counted."""
+    lines = text.split("\n")
+    for start, line in enumerate(lines):
+        found = re.match(r"(\s*)(?:pub )?(?:extern \"C\" )?fn (\w+)", line)
+        if not found:
+            continue
+        margin, name = found.groups()
+        body = start if line.endswith("{") else start + 1
+        while body > start and not (lines[body] == margin + "{" or lines[body].startswith(margin + ")") and lines[body].endswith("{")):
+            body += 1
+        end = body
+        while lines[end] != margin + "}":
+            end += 1
+        yield name, end - start + 1, end - body + 1
+
+
+def long_functions(body_alone):
+    """The functions of the crates that are too long: crate and name."""
+    return {
+        (path.relative_to(ROOT / "crates").parts[0], name)
+        for path in sources() if path.suffix == ".rt"
+        for name, whole, body in functions(path.read_text())
+        if (body > LONGEST_FUNCTION) == body_alone and whole > LONGEST_FUNCTION
+    }
+
+
+def excused(start, end):
+    """The functions that docs/DECISIONS.md names between two words: crate and name."""
+    part = DECISIONS[DECISIONS.index(start) :].split(end)[0]
+    groups = re.findall(r"((?:`\w+`(?:, )?)+) \((\w+)\)", part)
+    return {(crate, name) for names, crate in groups for name in re.findall(r"\w+", names)}
+
+
 class Found(unittest.TestCase):
     def test_lines(self):
         self.assertEqual(long_lines("é" * 400 + "\nshort\n" + "é" * 401), [(3, 401)])
@@ -36,6 +72,11 @@ class Found(unittest.TestCase):
         self.assertEqual(long_chains(f"{chain} .args\n{chain}\n    .before .args"), [(2, 9)])
         self.assertEqual(long_chains("c" + ".before" * 9), [(1, 9)])
         self.assertEqual(long_chains("c" + " .beforehand" * 9), [])
+
+
+    def test_functions(self):
+        text = "pub fn a(\n    x: u8,\n) -> u8\n    ensures {\n        record {\n        }\n    }\n{\n    x\n}\n\nfn b() {\n    if c {\n    }\n}\n"
+        self.assertEqual(list(functions(text)), [("a", 10, 3), ("b", 4, 4)])
 
 
 class Text(unittest.TestCase):
@@ -52,6 +93,10 @@ class Text(unittest.TestCase):
 
     def test_no_long_chain(self):
         self.nowhere(long_chains, "{}:{}: a chain of {} times .before")
+
+    def test_long_functions(self):
+        self.assertEqual(excused("By their bodies alone", "Only with"), long_functions(True))
+        self.assertEqual(excused("Only with parameters", "Of them"), long_functions(False))
 
 
 if __name__ == "__main__":

@@ -3,7 +3,7 @@
 use crate::drive::Subject;
 use crate::event::{Answer, Part, Request};
 use crate::keeper::Keeper;
-use crate::tables::{Frame, Pool, Sizes};
+use crate::tables::{self, Frame, Pool, Sizes};
 use std::marker::PhantomData;
 
 #[repr(C)]
@@ -12,6 +12,7 @@ struct Slice<T> {
     len: usize,
 }
 
+// layout: made by tools/tables.py from tools/tables.txt
 #[repr(C)]
 struct Disk {
     records: Slice<u32>,
@@ -37,6 +38,7 @@ struct Memory {
     used: Slice<u16>,
     pool: *mut Pool,
 }
+// end of layout
 
 /// `struct keeper` of bench/keeper.h over a keeper's tables.
 #[repr(C)]
@@ -59,33 +61,42 @@ fn slice<T>(table: &mut Vec<T>) -> Slice<T> {
     Slice { at: table.as_mut_ptr(), len: table.len() }
 }
 
+// lent: made by tools/tables.py from tools/tables.txt
+fn lent_disk(disk: &mut tables::Disk) -> Disk {
+    Disk {
+        records: slice(&mut disk.records),
+        numbers: slice(&mut disk.numbers),
+        accounts: slice(&mut disk.accounts),
+        maps: slice(&mut disk.maps),
+        limits: slice(&mut disk.limits),
+    }
+}
+
+fn lent_memory(memory: &mut tables::Memory) -> Memory {
+    Memory {
+        frames: slice(&mut memory.frames),
+        frame_words: slice(&mut memory.frame_words),
+        free_queue: slice(&mut memory.free_queue),
+        removal_list: slice(&mut memory.removal_list),
+        addresses: slice(&mut memory.addresses),
+        states: slice(&mut memory.states),
+        owners: slice(&mut memory.owners),
+        free_map: slice(&mut memory.free_map),
+        active: slice(&mut memory.active),
+        updating: slice(&mut memory.updating),
+        images: slice(&mut memory.images),
+        used: slice(&mut memory.used),
+        pool: &mut memory.pool,
+    }
+}
+// end of lent
+
 impl Lent<'_> {
     pub fn of(keeper: &mut Keeper) -> Lent<'_> {
-        let (disk, memory) = (&mut keeper.disk, &mut keeper.memory);
         Lent {
             sizes: keeper.sizes,
-            disk: Disk {
-                records: slice(&mut disk.records),
-                numbers: slice(&mut disk.numbers),
-                accounts: slice(&mut disk.accounts),
-                maps: slice(&mut disk.maps),
-                limits: slice(&mut disk.limits),
-            },
-            memory: Memory {
-                frames: slice(&mut memory.frames),
-                frame_words: slice(&mut memory.frame_words),
-                free_queue: slice(&mut memory.free_queue),
-                removal_list: slice(&mut memory.removal_list),
-                addresses: slice(&mut memory.addresses),
-                states: slice(&mut memory.states),
-                owners: slice(&mut memory.owners),
-                free_map: slice(&mut memory.free_map),
-                active: slice(&mut memory.active),
-                updating: slice(&mut memory.updating),
-                images: slice(&mut memory.images),
-                used: slice(&mut memory.used),
-                pool: &mut memory.pool,
-            },
+            disk: lent_disk(&mut keeper.disk),
+            memory: lent_memory(&mut keeper.memory),
             tables: PhantomData,
         }
     }

@@ -1,0 +1,172 @@
+"""The lent tables as C and Rust text: the header, the C port's layout, and the calls that the reference links."""
+
+import re
+
+import lent
+from lent import CALLS, PARTS, in_call, of_part
+
+C_TYPES = {"u8": "uint8_t", "u16": "uint16_t", "u32": "uint32_t", "Frame": "KeeperFrame", "Pool": "KeeperPool"}
+# how the C port calls a slice of such elements
+SLICES = {"u8": "bytes", "u16": "halves", "u32": "words", "Frame": "frames"}
+RUST_TYPES = {"KeeperSizes": "Sizes", "KeeperRequest": "Request", "size_t": "usize"}
+
+# each call's name, its answer, what it takes before the tables, and what the header says of it
+NAMES = {"format": "keeper_format", "restart": "keeper_restart", "apply": "keeper_apply", "look": "keeper_page_look"}
+ANSWERS = {"format": "Answer", "restart": "Answer", "apply": "Answer", "look": "Part"}
+FIRST = {
+    "format": ["KeeperSizes sizes"],
+    "restart": ["KeeperSizes sizes"],
+    "apply": ["KeeperSizes sizes", "KeeperRequest request"],
+    "look": ["KeeperSizes sizes", "size_t slot", "size_t page"],
+}
+COMMENTS = {
+    "format": ["Zeroes the disk part, once for a new disk. Lent: the disk part. Answers 0 or 1."],
+    "restart": [
+        "Sets up the memory part from the disk part alone: the first call after a format or a cut, made again while it is",
+        "refused. Lent: everything. Answers 0, 1 or 2.",
+    ],
+    "apply": ["Every other event, asked for by a request. Lent: everything."],
+    "look": [
+        "A page look: which part of frame_words the page is. Lent: everything, only read; the pool goes by value. Refused as a",
+        "read is.",
+    ],
+}
+
+
+# ── the header ──
+def parameter(table, call):
+    """A table as parameters in C."""
+    const, kind = "const " if table.lent[call] == "ref" else "", C_TYPES[table.element]
+    if table.lent[call] == "val":
+        return f"{kind} {table.name}"
+    pointer = f"{const}{kind} *{table.name}"
+    return pointer if table.is_one() else f"{pointer}, size_t {table.name}_count"
+
+
+def prototype(call):
+    """A call as the header declares it, with the count of each table."""
+    tables = in_call(call)
+    words = FIRST[call] + [parameter(table, call) for table in tables]
+    lengths = [""] * len(FIRST[call]) + ["" if table.is_one() else table.length for table in tables]
+    words = [word + "," for word in words[:-1]] + words[-1:]
+    width = max(map(len, words)) + 1
+    body = [f"    {word:{width}}/* {length} */\n" if length else f"    {word}\n" for word, length in zip(words, lengths)]
+    comment = "\n * ".join(COMMENTS[call])
+    return f"/* {comment} */\nKeeper{ANSWERS[call]} {NAMES[call]}(\n{''.join(body)});\n"
+
+
+def macro(head, lines):
+    """A macro of several lines, the line ends in one column."""
+    lines = [head] + ["    " + line for line in lines]
+    width = max(map(len, lines)) + 1
+    return "".join(f"{line:{width}}\\\n" for line in lines[:-1]) + lines[-1] + "\n"
+
+
+def held(length):
+    """A length in a macro whose parameters are the sizes."""
+    letters = "".join(lent.letters())
+    return re.sub(rf"\b([{letters}])\b", r"(\1)", length) if " " in length else length
+
+
+def members(part):
+    """A part's tables as members of a struct, for sizes that are constants."""
+    tables = of_part(part)
+    words = [f"{C_TYPES[t.element]} {t.name}{'' if t.is_one() else f'[{held(t.length)}]'};" for t in tables]
+    width = max(map(len, words)) + 1
+    lines = [f"{word:{width}}/* {table.meaning} */" for word, table in zip(words, tables)]
+    return macro(f"#define KEEPER_{part.upper()}_TABLES({', '.join(lent.letters())})", lines)
+
+
+def arguments(part):
+    """A part's tables of numbers as arguments."""
+    words = [f"KEEPER_LEND(({part}).{table.name})" for table in of_part(part) if not table.is_struct()]
+    return macro(f"#define KEEPER_LEND_{part.upper()}({part})", [word + "," for word in words[:-1]] + words[-1:])
+
+
+def header():
+    return (
+        "/* The lent tables as members of a struct, where the sizes are constants: each with exactly its length. */\n"
+        + "".join(map(members, PARTS))
+        + "\n/* A table as arguments, a pointer and a count of elements; and a struct's tables of numbers, in the order of the calls. */\n"
+        + "#define KEEPER_LEND(table) (table), sizeof(table) / sizeof *(table)\n"
+        + "".join(map(arguments, PARTS))
+        + "\n/* The calls; beside each table the count that is asked for. */\n\n"
+        + "\n".join(map(prototype, CALLS))
+    )
+
+
+# ── the C port ──
+def port_layout():
+    """The structs of bench/keeper.h."""
+    def member(table):
+        return f"    struct {'pool *' if table.is_one() else SLICES[table.element] + ' '}{table.name};\n"
+
+    return "\n".join(f"struct {part} {{\n{''.join(map(member, of_part(part)))}}};\n" for part in PARTS)
+
+
+def port_tables():
+    """The tables of bench/replay.c, and the keeper over them."""
+    def static(table):
+        kind = f"struct {table.element.lower()}" if table.is_struct() else C_TYPES[table.element]
+        return f"static {kind} {table.name}{'' if table.is_one() else f'[{table.length}]'};\n"
+
+    def lend(table):
+        return f"        {f'&{table.name}' if table.is_one() else f'SLICE({table.name})'},\n"
+
+    sizes = f"    .sizes = {{{', '.join(lent.letters())}}},\n"
+    lends = "".join(f"    .{part} = {{\n{''.join(map(lend, of_part(part)))}    }},\n" for part in PARTS)
+    return "".join(map(static, lent.TABLES)) + "\nstatic struct keeper keeper = {\n" + sizes + lends + "};\n"
+
+
+# ── the calls that the reference links ──
+def linked_layout():
+    """The structs of bench/keeper.h in Rust."""
+    def member(table):
+        return f"    {table.name}: {'*mut Pool' if table.is_one() else f'Slice<{table.element}>'},\n"
+
+    return "\n".join(f"#[repr(C)]\nstruct {part.title()} {{\n{''.join(map(member, of_part(part)))}}}\n" for part in PARTS)
+
+
+def linked_lent():
+    """A keeper's tables in these structs."""
+    def member(table):
+        at = f"&mut {table.part}.{table.name}"
+        return f"        {table.name}: {at if table.is_one() else f'slice({at})'},\n"
+
+    def lend(part):
+        name, body = part.title(), "".join(map(member, of_part(part)))
+        return f"fn lent_{part}({part}: &mut tables::{name}) -> {name} {{\n    {name} {{\n{body}    }}\n}}\n"
+
+    return "\n".join(map(lend, PARTS))
+
+
+def linked_calls():
+    """The proved keeper's calls as Rust declares them."""
+    def first(word):
+        kind, name = word.split()
+        return f"        {name}: {RUST_TYPES[kind]},\n"
+
+    def declared(table, call):
+        how = {"mut": "*mut ", "ref": "*const ", "val": ""}[table.lent[call]]
+        count = "" if table.is_one() else f"        {table.name}_count: usize,\n"
+        return f"        {table.name}: {how}{table.element},\n{count}"
+
+    def call_text(call):
+        body = "".join(map(first, FIRST[call])) + "".join(declared(table, call) for table in in_call(call))
+        return f"    fn {NAMES[call]}(\n{body}    ) -> {ANSWERS[call]};\n"
+
+    return '#[link(name = "keeper", kind = "static")]\nextern "C" {\n' + "".join(map(call_text, CALLS)) + "}\n"
+
+
+def linked_lends():
+    """The arguments of those calls: the tables behind the first values."""
+    def argument(table):
+        at = f"$keeper.{table.part}.{table.name}"
+        return "                $pool,\n" if table.is_one() else f"                {at}.$at(),\n                {at}.len(),\n"
+
+    def lend(pattern, first, call):
+        body = "                $keeper.sizes,\n" + first + "".join(map(argument, in_call(call)))
+        return f"    ({pattern}) => {{\n        unsafe {{\n            $name(\n{body}            )\n        }}\n    }};\n"
+
+    everything = lend("$name:ident($keeper:ident; $($first:expr),*; $pool:expr; $at:ident)", "                $($first,)*\n", "apply")
+    return "macro_rules! lend {\n" + everything + lend("$name:ident($keeper:ident; disk; $at:ident)", "", "format") + "}\n"

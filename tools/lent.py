@@ -1,0 +1,71 @@
+"""The list of the lent tables, tools/tables.txt, as data."""
+
+import pathlib
+from typing import NamedTuple
+
+from regions import Bad
+
+ROOT = pathlib.Path(__file__).resolve().parent.parent
+LIST = ROOT / "tools" / "tables.txt"
+CALLS = ("format", "restart", "apply", "look")
+PARTS = ("disk", "memory")
+WIDTHS = {"u8": 1, "u16": 2, "u32": 4, "Frame": 8, "Pool": 8}
+LENDING = {"mut", "ref", "val", "-"}
+
+
+class Size(NamedTuple):
+    letter: str
+    name: str
+    most: int
+    program: int
+    middle: int
+
+
+class Table(NamedTuple):
+    name: str
+    part: str
+    element: str
+    length: str
+    field: str
+    lent: dict
+    meaning: str
+
+    def is_struct(self):
+        return self.element in ("Frame", "Pool")
+
+    def is_one(self):
+        """One value, no slice."""
+        return self.element == "Pool"
+
+
+def read(text):
+    """The sizes and the tables of a list."""
+    sizes, tables = [], []
+    for line in text.splitlines():
+        cells = [cell.strip() for cell in line.split("|")]
+        if line.startswith("#") or not line.strip():
+            continue
+        if len(cells) == 5:
+            sizes.append(Size(cells[0], cells[1], *map(int, cells[2:])))
+        elif len(cells) == 10 and cells[1] in PARTS and cells[2] in WIDTHS and set(cells[5:9]) <= LENDING:
+            tables.append(Table(*cells[:5], dict(zip(CALLS, cells[5:9])), cells[9]))
+        else:
+            raise Bad(f"tools/tables.txt: no size and no table: {line}")
+    return sizes, tables
+
+
+SIZES, TABLES = read(LIST.read_text())
+
+
+def letters():
+    return [size.letter for size in SIZES]
+
+
+def of_part(part):
+    return [table for table in TABLES if table.part == part]
+
+
+def in_call(call):
+    """The tables that a call takes, in its order: frames and pool, the disk part, the memory part."""
+    lent = [table for table in TABLES if table.lent[call] != "-"]
+    return sorted(lent, key=lambda table: 0 if table.is_struct() else 1 + PARTS.index(table.part))

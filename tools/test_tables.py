@@ -1,0 +1,160 @@
+#!/usr/bin/env python3
+"""Tests of tables.py, and that the list of the lent tables is the code's: python3 tools/test_tables.py"""
+
+import re
+import subprocess
+import unittest
+from unittest import mock
+
+import ctext
+import lent
+import tables
+from regions import Bad
+
+CRATES = lent.ROOT / "crates"
+STATE = (CRATES / "model" / "specs" / "State.antt").read_text()
+LENT = (CRATES / "model" / "specs" / "Lent.antt").read_text()
+STEP = (CRATES / "model" / "specs" / "Step.antt").read_text()
+KEEPER = (CRATES / "keeper" / "src" / "lib.rt").read_text()
+REFERENCE = (lent.ROOT / "tests" / "reference" / "src" / "tables.rs").read_text()
+# the calls of the source, and the column of the list that says how each lends a table
+CODE_CALLS = {"keeper_format": "format", "keeper_restart": "restart", "keeper_apply": "apply", "page_look": "look", "keeper_page_look": "look"}
+# what a call takes beside the tables
+BESIDE = {"sizes", "request", "slot", "page", "refusal"}
+
+
+def parameters(name):
+    """The parameters of a call of the source, its tables alone: name and type."""
+    found = re.search(rf"fn {name}(?:<'a>)?\((.*?)\) ->", KEEPER, re.S).group(1)
+    pairs = re.findall(r"(\w+): ([^,]+),", found)
+    return [(parameter, kind.replace("'a ", "")) for parameter, kind in pairs if parameter not in BESIDE]
+
+
+def expected(table, call):
+    """A table's type in a call of the source."""
+    kind = table.element if table.is_one() else f"[{table.element}]"
+    return {"mut": f"&mut {kind}", "ref": f"&{kind}", "val": kind}[table.lent[call]]
+
+
+def fields(record):
+    """The fields of a record of State.antt."""
+    text = re.search(rf"^pub record {record} : .*?(?=\n\n)", STATE, re.S | re.M).group()
+    return re.findall(r"^  pub ([\w-]+) :", text, re.M)
+
+
+def lengths():
+    """The lengths that question 1 asks for: field, and the length by letters."""
+    letters = {size.name: size.letter for size in lent.SIZES}
+    found = re.findall(r"same \(length \(\w ((?:\.[\w-]+ ?)+)\)\) (\([^)]*\))", STEP)
+    out = {}
+    for path, length in found:
+        length = length[1:-1].replace("allPages z", "S * N").replace("mapWords z", "(R + 31) / 32")
+        out[path.split(".")[-1].strip()] = re.sub(r"z \.(\w+)", lambda size: letters[size.group(1)], length)
+    return out
+
+
+class Code(unittest.TestCase):
+    def test_parameters(self):
+        for name, call in CODE_CALLS.items():
+            with self.subTest(name):
+                self.assertEqual(parameters(name), [(table.name, expected(table, call)) for table in lent.in_call(call)])
+
+    def test_no_other_call(self):
+        self.assertEqual(set(re.findall(r"^pub (?:extern \"C\" )?fn (\w+)", KEEPER, re.M)), set(CODE_CALLS))
+
+    def test_state(self):
+        groups = [name for name in fields("Memory") if name in ("core", "held", "slots")]
+        memory = [field for group in groups for field in fields(group.title())] + [name for name in fields("Memory") if name not in groups]
+        self.assertEqual(sorted(memory), sorted(table.field for table in lent.of_part("memory")))
+        self.assertEqual(fields("Disk"), [table.field for table in lent.of_part("disk")])
+
+    def test_state_of(self):
+        for name, tables_ in (("stateOf", lent.in_call("apply")), ("diskOf", lent.in_call("format"))):
+            taken = re.search(rf"^{name} (.*?) = ", LENT, re.M).group(1).split()
+            self.assertEqual(taken, [table.field for table in tables_])
+
+    def test_lengths(self):
+        self.assertEqual(lengths(), {table.field: table.length for table in lent.TABLES if not table.is_one()})
+
+    def test_limits(self):
+        most = dict(re.findall(r"^most(\w+) = (\d+)$", (CRATES / "model" / "specs" / "Sizes.antt").read_text(), re.M))
+        self.assertEqual({size.name.title(): str(size.most) for size in lent.SIZES}, most)
+
+    def test_reference(self):
+        for part in lent.PARTS:
+            text = re.search(rf"pub struct {part.title()} \{{(.*?)\}}", REFERENCE, re.S).group(1)
+            listed = [(t.name, t.element if t.is_one() else f"Vec<{t.element}>") for t in lent.of_part(part)]
+            self.assertEqual(re.findall(r"pub (\w+): ([\w<>]+),", text), listed)
+
+
+class List(unittest.TestCase):
+    def test_bad_lines(self):
+        good = "a | disk | u16 | Q | a | mut | ref | mut | ref | what it is"
+        self.assertEqual(len(lent.read(good)[1]), 1)
+        for bad in (good.replace("disk", "tape"), good.replace("u16", "u64"), good.replace("ref", "own", 1), "a | b"):
+            with self.subTest(bad), self.assertRaises(Bad):
+                lent.read(bad)
+
+    def test_lengths(self):
+        sizes = {"R": 33, "W": 2, "B": 4}
+        for length, count, words in (("R * W", 66, "R·W"), ("(R + 31) / 32", 2, "⌈R/32⌉"), ("1", 1, "1"), ("B + 1", 5, "B + 1")):
+            self.assertEqual((tables.entries(length, sizes), tables.shown(length)), (count, words))
+        self.assertEqual([tables.times(4, "1"), tables.times(1, "R"), tables.times(2, "B + 1")], ["4", "R", "2·(B + 1)"])
+
+
+class NewTable(unittest.TestCase):
+    """One more line of the list is all that the files made from it need."""
+
+    ROWS = """
+        parents | disk | u16 | Q | parents | mut | ref | mut | ref | the account's parent
+        highest | disk | u32 | 1 | highest | mut | mut | mut | ref | the highest number given
+        line | memory | u16 | 32 | line | - | mut | mut | ref | pages that wait
+    """
+
+    def setUp(self):
+        more = lent.read(self.ROWS)[1]
+        self.tables = lent.TABLES + more
+        patch = mock.patch.object(lent, "TABLES", self.tables)
+        patch.start()
+        self.addCleanup(patch.stop)
+
+    def test_everywhere(self):
+        for _, name, make in tables.MADE:
+            for table in ("parents", "highest", "line"):
+                self.assertIn(table, make(), name)
+
+    def test_order(self):
+        self.assertEqual([table.name for table in lent.in_call("restart")][:2], ["frames", "pool"])
+        self.assertEqual([table.name for table in lent.in_call("format")][-2:], ["parents", "highest"])
+        self.assertEqual([table.name for table in lent.in_call("apply")][-2:], ["used", "line"])
+
+    def test_the_header_compiles(self):
+        text = (lent.ROOT / "include" / "keeper.h").read_text()
+        before, _, after = tables.parts(text, *tables.marks("keeper.h", "tables and calls"), "keeper.h")
+        use = (
+            "static struct { KEEPER_DISK_TABLES(2, 33, 2, 2, 3, 1) } disk;\nstatic struct { KEEPER_MEMORY_TABLES(2, 33, 2, 2, 3, 1) } memory;\n"
+            "_Static_assert(sizeof disk.parents == 2 && sizeof disk.highest == 4 && sizeof memory.line == 64 && sizeof memory.free_map == 8, \"\");\n"
+            "KeeperAnswer call(KeeperSizes sizes);\nKeeperAnswer call(KeeperSizes sizes)\n{\n    return keeper_restart(sizes, KEEPER_LEND(memory.frames),"
+            " &memory.pool, KEEPER_LEND_DISK(disk), KEEPER_LEND_MEMORY(memory));\n}\n"
+        )
+        command = ["gcc", "-std=c11", "-Wall", "-Wextra", "-Werror", "-pedantic", "-fsyntax-only", "-x", "c", "-"]
+        ran = subprocess.run(command, input=before + ctext.header() + after + use, capture_output=True, text=True)
+        self.assertEqual(ran.stderr, "")
+
+
+class Files(unittest.TestCase):
+    def test_committed(self):
+        for file, name, make in tables.MADE:
+            with self.subTest(file):
+                text = (lent.ROOT / file).read_text()
+                self.assertEqual(tables.parts(text, *tables.marks(file, name), file)[1], make())
+
+    def test_words(self):
+        tool = ["python3", lent.ROOT / "tools" / "tables.py"]
+        self.assertEqual(subprocess.run(tool, capture_output=True).returncode, 1)
+        checked = subprocess.run([*tool, "--check"], capture_output=True, text=True)
+        self.assertEqual((checked.returncode, checked.stdout), (0, f"{len(tables.MADE)} passed, 0 failed\n"))
+
+
+if __name__ == "__main__":
+    unittest.main()
