@@ -125,7 +125,7 @@ enum {
     uint32_t numbers[S];         /* the slot's unique number, 0 for an empty slot */     \
     uint16_t accounts[S];        /* the slot's account */                                \
     uint16_t maps[(S) * (N)];    /* file maps: 0 for a page of zeros, else record + 1 */ \
-    uint16_t limits[Q];          /* the account's limit, in pages */
+    uint16_t limits[Q];          /* the account's limit, 0 to 65,535 pages */
 #define KEEPER_MEMORY_TABLES(W, R, F, S, N, Q)                                                                                   \
     KeeperFrame frames[F];              /* the frames: page, switches, transfer */                                               \
     uint32_t frame_words[(F) * (W)];    /* the frames' words */                                                                  \
