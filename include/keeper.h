@@ -26,6 +26,7 @@ enum {
     KEEPER_MOST_ACCOUNTS = 16   /* Q */
 };
 
+/* The sizes; for one disk the same ones at every call. */
 typedef struct {
     size_t words, records, frames, slots, pages, accounts;
 } KeeperSizes;
