@@ -118,6 +118,8 @@ def judge(name):
 
 
 def main():
+    # ended from outside, it still ends what it started and removes the copy
+    signal.signal(signal.SIGTERM, lambda *_: sys.exit(1))
     names = sys.argv[1:] or sorted(f[:-5] for f in os.listdir(HERE) if f.endswith(".edit"))
     passed = 0
     for name in names:

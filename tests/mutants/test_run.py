@@ -7,6 +7,7 @@ import shutil
 import subprocess
 import sys
 import tempfile
+import time
 import unittest
 
 RUN = pathlib.Path(__file__).resolve().parent / "run.py"
@@ -93,6 +94,21 @@ class Mutants(unittest.TestCase):
 
     def test_time(self):
         self.failed("sleep 600\n", "no verdict: rt check took more than 1 s", seconds=1)
+
+    def test_ended_from_outside(self):
+        self.put("bin/rt", f"#!/bin/sh\necho $$ > '{self.root}/started'\nexec sleep 600\n").chmod(0o755)
+        run = subprocess.Popen(
+            [sys.executable, self.root / "tests" / "mutants" / "run.py"],
+            env={**os.environ, "PATH": f"{self.root / 'bin'}:/usr/bin:/bin"}, stdout=subprocess.DEVNULL,
+        )
+        started = self.root / "started"
+        while not (started.exists() and started.read_text()):
+            time.sleep(0.01)
+        run.terminate()
+        self.assertEqual(run.wait(60), 1)
+        self.assertEqual(list((self.root / "target" / "mutants").iterdir()), [])
+        with self.assertRaises(ProcessLookupError):
+            os.kill(int(started.read_text()), 0)
 
     def test_bad_edits(self):
         self.put("tests/mutants/an_edit.edit", EDIT.replace("old: one", "old: three"))
