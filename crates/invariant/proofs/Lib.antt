@@ -32,3 +32,4 @@ pub mod FramesRestart
 pub mod FramesKept
 pub mod Kept
 pub mod Never
+pub mod Tidy
