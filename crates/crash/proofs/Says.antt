@@ -72,8 +72,7 @@ module _ (z : Sizes) (w : World) (k : Good z w) where
       let start = frameOf z (frames (w .state)) (pageOf z s p) * z .words in
       let o = not-refused (firstNo (asked z (w .state) (lookQuestions z (w .state) s p))) 0 [] (take (z .words) (drop start words)) e in
       let q = all-yes 0 (asked z (w .state) (lookQuestions z (w .state) s p)) tt (o .0) .1 .1 in
-      let fits = part-fits (z .frames) (z .words) _ (frame-of z (frames (w .state)) (pageOf z s p) (q .1 .1 .1 .0) .0) in
-      (
+      let fits = part-fits (z .frames) (z .words) _ (frame-of z (frames (w .state)) (pageOf z s p) (q .1 .1 .1 .0) .0) in (
         ap length (o .1 .1) ∙ simp (length-take, length-drop) (omega (arith, fits, k .fit .memory .words)),
         λ n l. ap (λ (x : List ℕ). at x n) (o .1 .1) ∙ rw (getD-take, getD-drop) (in-frame s p n up l (q .1 .1 .1 .0) (q .1 .1 .1 .1 .0)),
       )

@@ -33,3 +33,4 @@ pub mod FramesKept
 pub mod Kept
 pub mod Never
 pub mod Tidy
+pub mod EdgesAll
