@@ -20,7 +20,7 @@ use Rattle.model.specs.Fit.{Fit, memory-fit}
 use Rattle.model.specs.Restart.{restarted}
 use Rattle.model.specs.Ledger as L
 use Rattle.model.specs.Ledger.{Ledger, note, lose, finishWrite, finishUpdate, finishWrites, finishUpdates}
-use Rattle.model.specs.Acts.{Act, event, restarting, cutting, World, fed, landed, noted, act, allowed, legal, run, start}
+use Rattle.model.specs.Acts.{Act, event, looking, restarting, cutting, World, fed, landed, noted, act, allowed, legal, run, start}
 use Rattle.model.specs.Demand3.{Demand3}
 use Rattle.invariant.proofs.Kept.{carried-kept, restarted-good}
 use Rattle.crash.proofs.Writes.{no-write, no-update}
@@ -108,8 +108,9 @@ module _ (z : Sizes) where
           subst (λ (l : Ledger). Good z (after (w .state .disk) l)) (sym same) (lost z (w .state) (w .ledger) junk lengths (k .fit) (k .rules) (k .disk))
 
   act-keeps : (w : World) (a : Act) → T (allowed z w a) → Good z w → Good z (act z w a)
-  unfolding allowed
+  unfolding allowed act
   act-keeps w (event e) t k = event-keeps w e t k
+  act-keeps w (looking s p) t k = k
   act-keeps w restarting t k = restart-keeps w k
   act-keeps w (cutting writes updates junk) t k = cut-keeps w writes updates junk (sound (memoryLengths z junk) t) k
 

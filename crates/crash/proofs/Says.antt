@@ -5,10 +5,11 @@ use mathlib.Core.Logic.{inl}
 use Prim.Native.Nat.{ℕ, zero, suc, _+_, _*_, _<_}
 use native.Mathlib.Omega.{arith}
 use lib.Dec.{T}
-use lib.ListN.{take, drop}
+use lib.ListN.{length, take, drop, length-take, length-drop}
 use lib.Seq.{getD-drop, getD-take}
 use Rattle.tables.specs.Base.{at}
 use Rattle.tables.specs.Rule.{Holds}
+use Rattle.tables.specs.StoreLoops.{part-fits}
 use Rattle.tables.specs.Questions.{firstNo, all-yes}
 use Rattle.model.specs.declared.sizes.Sizes.{Sizes}
 use Rattle.model.specs.declared.event.Page.the-variants.{Read}
@@ -63,13 +64,18 @@ module _ (z : Sizes) (w : World) (k : Good z w) where
       let q = all-yes 0 (asked z (w .state) (questions z (w .state) e′)) (in-order z (w .state) e′) (o .0) .1 .1 in
       o .1 .0 ∙ in-frame s p n up (q .0 .1 .1) (q .1 .1 .1 .0) (q .1 .1 .1 .1 .0)
 
-  look-right : (s p n : ℕ) → T (w .up) → n < z .words → (let o = look z (w .state) s p in o .answer .refusal ≡ 0 → at (o .left) n ≡ w .ledger .pages .text (pageOf z s p) n)
+  -- W words, each the page's text
+  look-right : (s p : ℕ) → T (w .up) → (let o = look z (w .state) s p in o .answer .refusal ≡ 0 → (length (o .left) ≡ z .words) × ((n : ℕ) → n < z .words → at (o .left) n ≡ w .ledger .pages .text (pageOf z s p) n))
   unfolding look Pages.lookStart
-  look-right s p n up l e =
-      let part = take (z .words) (drop (Pages.lookStart z (w .state) s p) (w .state .memory .core .words)) in
-      let o = not-refused (firstNo (asked z (w .state) (lookQuestions z (w .state) s p))) 0 [] part e in
+  look-right s p up e =
+      let words = w .state .memory .core .words in
+      let start = frameOf z (frames (w .state)) (pageOf z s p) * z .words in
+      let o = not-refused (firstNo (asked z (w .state) (lookQuestions z (w .state) s p))) 0 [] (take (z .words) (drop start words)) e in
       let q = all-yes 0 (asked z (w .state) (lookQuestions z (w .state) s p)) tt (o .0) .1 .1 in
-      ap (λ (x : List ℕ). at x n) (o .1 .1) ∙ rw (getD-take, getD-drop) (in-frame s p n up l (q .1 .1 .1 .0) (q .1 .1 .1 .1 .0))
+      let fits = part-fits (z .frames) (z .words) _ (frame-of z (frames (w .state)) (pageOf z s p) (q .1 .1 .1 .0) .0) in (
+        ap length (o .1 .1) ∙ simp (length-take, length-drop) (omega (arith, fits, k .fit .memory .words)),
+        λ n l. ap (λ (x : List ℕ). at x n) (o .1 .1) ∙ rw (getD-take, getD-drop) (in-frame s p n up l (q .1 .1 .1 .0) (q .1 .1 .1 .1 .0)),
+      )
 
   pub says : After z w
   unfolding demand3

@@ -58,16 +58,6 @@ kept z st e g = go (answer z st e) refl
     go zero h = good-carried z st e h
     go (suc n) h = g
 
--- An answer above 0 leaves the whole state as it was, with result 0.
-pub refused-same : (z : Sizes) (st : State) (e : Event) → ¬ (step z st e .answer .refusal ≡ 0) → (step z st e .left ≡ st) × (step z st e .answer .result ≡ 0)
-unfolding step
-refused-same z st e = go (answer z st e)
-  where
-    go : (n : ℕ) → ¬ (outcome n (result z st e) st (carried z st e) .answer .refusal ≡ 0)
-        → (outcome n (result z st e) st (carried z st e) .left ≡ st) × (outcome n (result z st e) st (carried z st e) .answer .result ≡ 0)
-    go zero h = absurd (h refl)
-    go (suc n) h = (refl, refl)
-
 -- A carried-out claim looks at least once, and at most once more than the list is long.
 pub looks-bound : (z : Sizes) (st : State) → answer z st (Event.Writeback Claim) ≡ 0 → (1 ≤ result z st (Event.Writeback Claim)) × (result z st (Event.Writeback Claim) ≤ size (st .memory .core .removal-list) + 1)
 unfolding result

@@ -32,3 +32,5 @@ pub mod FramesRestart
 pub mod FramesKept
 pub mod Kept
 pub mod Never
+pub mod Tidy
+pub mod EdgesAll

@@ -1,4 +1,4 @@
--- Over every legal list of acts from a finished format no event is answered 1 or 2, and no restart is refused.
+-- Over every legal list of acts from a finished format no event and no page look is answered 1 or 2, and no restart is refused.
 use mathlib.Core.Path.{_≡_, refl, _∙_}
 use mathlib.Core.Bool.{Bool, true, false}
 use mathlib.Core.List.{List, [], _∷_}
@@ -20,7 +20,7 @@ use Rattle.model.specs.Step.{outcome, diskLengths, memoryLengths, allFit, asked
 use Rattle.model.specs.Restart as R
 use Rattle.model.specs.Fit.{fit-disk, fit}
 use Rattle.model.specs.Own.{first-yes}
-use Rattle.model.specs.Acts.{Act, event, restarting, cutting, World, act, allowed, legal, run, start}
+use Rattle.model.specs.Acts.{Act, event, looking, restarting, cutting, World, act, allowed, legal, run, start}
 use Rattle.model.specs.Acts as A
 use Rattle.invariant.proofs.Records.{disk-alone}
 use Rattle.invariant.proofs.RecordsCut.{formatted-fit, landed-fit}
@@ -30,9 +30,10 @@ use Rattle.invariant.proofs.Kept.{Good, kept, restarted, formatted, lan
 abbrev pub Blameless : ℕ → Type 0
 Blameless n = (¬ (n ≡ 1)) × (¬ (n ≡ 2))
 
--- what is said of one act in a world: an event is not answered 1 or 2, a restart is carried out
+-- what is said of one act in a world: an event and a page look are not answered 1 or 2, a restart is carried out
 abbrev pub Answered : Sizes → World → Act → Type 0
 Answered z w (event e) = Blameless (step z (w .state) e .answer .refusal)
+Answered z w (looking s p) = Blameless (look z (w .state) s p .answer .refusal)
 Answered z w restarting = restart z (w .state) .answer .refusal ≡ 0
 Answered z w (cutting writes updates junk) = Unit {0}
 
@@ -49,7 +50,7 @@ pub record Safe (z : Sizes) (w : World) : Type 0 where
   pub rules : Holds (diskRules z (w .state))
   pub up : T (w .up) → Good z (w .state)
 
-safe-fit : (z : Sizes) (w : World) → Safe z w → Holds (allFit z (w .state))
+pub safe-fit : (z : Sizes) (w : World) → Safe z w → Holds (allFit z (w .state))
 unfolding allFit
 safe-fit z w s = (s .sizes, (s .disk, s .memory))
 
@@ -58,7 +59,7 @@ unfolding allFit allRules
 good-safe z w g = record { sizes = g .0 .0; disk = g .0 .1 .0; memory = g .0 .1 .1; rules = g .1 .0; up = λ u. g }
 
 -- after a yes to 1 and 2, the answer is 0 or above 2
-later : (k : ℕ) (q : Questions) → T (above k q) → ¬ (firstNo q ≡ 0) → T (ltb k (firstNo q))
+pub later : (k : ℕ) (q : Questions) → T (above k q) → ¬ (firstNo q ≡ 0) → T (ltb k (firstNo q))
 unfolding firstNo
 later k none t n = absurd (n refl)
 later k (ask m r q) t n = go (test r) (later m q (and-right (ltb k m) (above m q) t)) n
@@ -90,9 +91,10 @@ unfolding look
 look-blameless z st s p g = said (firstNo (asked z st (lookQuestions z st s p))) 0 [] _ (blameless z st (lookQuestions z st s p) tt g)
 
 -- each act is answered so, and leaves a safe world
-one : (z : Sizes) (w : World) (a : Act) → T (allowed z w a) → Safe z w → Answered z w a × Safe z (act z w a)
+pub one : (z : Sizes) (w : World) (a : Act) → T (allowed z w a) → Safe z w → Answered z w a × Safe z (act z w a)
 unfolding allowed act
 one z w (event e) t s = (event-blameless z (w .state) e (s .up t), good-safe z _ (kept z (w .state) e (s .up t)))
+one z w (looking p q) t s = (look-blameless z (w .state) p q (s .up t), s)
 one z w restarting t s = let r = restarted z (w .state) (safe-fit z w s) (s .rules) in (r .0, good-safe z _ (r .1))
 one z w (cutting writes updates junk) t s = (tt, go (w .up) refl)
   where

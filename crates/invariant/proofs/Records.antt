@@ -10,7 +10,7 @@ use Rattle.tables.specs.Base.{if}
 use Rattle.tables.specs.Rule.{Rule, Holds, test, decided, told, untold, complete}
 use Rattle.tables.specs.Store.{Split}
 use Rattle.model.specs.declared.sizes.Sizes.{Sizes}
-use Rattle.model.specs.Lines.{LIVE, line, lines, led, allowed}
+use Rattle.model.specs.Lines.{FREE, LIVE, RELEASED, line, lines, led, allowed}
 use Rattle.model.specs.State.{State, Files, files, allPages, slotOf, live}
 use Rattle.model.specs.Setters.{counted}
 use Rattle.model.specs.Ruled.{OnDisk, OfRecords}
@@ -36,9 +36,18 @@ pub along-line : (k : ℕ) → k < length lines → {a b : ℕ} → a ≡ (getD 
 unfolding allowed
 along-line k h {a} {b} e f = complete (led a b) (k, h, (e, f))
 
--- the rules are kept and the records move along the lines
+-- ── what no rule asks, and every list keeps once restarted ──
+-- a free record is of slot 0, and a released one of an active slot
+pub record Tidy (z : Sizes) (state owner active : ℕ → ℕ) : Type 0 where
+  pub free : (r : ℕ) → r < z .records → state r ≡ FREE → owner r ≡ 0
+  pub released : (r : ℕ) → r < z .records → state r ≡ RELEASED → active (owner r) ≡ 1
+
+abbrev pub Tidied : Sizes → State → Type 0
+Tidied z st = Tidy z (files st .state) (files st .owner) (files st .active)
+
+-- the rules are kept, the records move along the lines, and what is tidy stays so
 abbrev pub Done : Sizes → State → State → Type 0
-Done z st st′ = Kept z st′ × Moves z (files st .state) (files st′ .state)
+Done z st st′ = Kept z st′ × Moves z (files st .state) (files st′ .state) × (Tidied z st → Tidied z st′)
 
 -- the counts are no table of these
 pub counted-done : (z : Sizes) (st st′ : State) → Done z st st′ → Done z st (counted z st′)

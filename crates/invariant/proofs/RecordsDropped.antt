@@ -10,7 +10,7 @@ use Rattle.tables.specs.Store.{Split, at-store}
 use Rattle.model.specs.declared.sizes.Sizes.{Sizes}
 use Rattle.model.specs.declared.event.Event.the-variants as Event
 use Rattle.model.specs.declared.event.Writeback.the-variants.{Truncate, Update}
-use Rattle.model.specs.Lines.{FILED, NULLED, LIVE, RELEASED, LEAVING, allowed}
+use Rattle.model.specs.Lines.{FREE, FILED, NULLED, LIVE, RELEASED, LEAVING, allowed}
 use Rattle.model.specs.State.{State, Files, files, allPages, slotOf}
 use Rattle.model.specs.Setters.{counted}
 use Rattle.model.specs.Parts.{ofSlot, fromPage}
@@ -20,7 +20,7 @@ use Rattle.model.specs.Ruled.{OnDisk, OfRecords, Ruled}
 use Rattle.model.specs.Fit.{Fit}
 use Rattle.model.specs.Writeback
 use Rattle.model.specs.Index.{slot-below, split-set}
-use Rattle.invariant.proofs.Records.{disk-alone, Kept, Moves, along-line, was, turns, stays, would-live}
+use Rattle.invariant.proofs.Records.{disk-alone, Kept, Moves, Tidy, along-line, was, turns, stays, would-live}
 
 -- The records D, all of the slot, become x, and their pages lose the address. Where B s, an update begins: its image lists what its pages still hold.
 pub record Dropped (z : Sizes) (s x : ℕ) (D B : ℕ → Type 0) (v : Files) (address′ state′ updating′ image′ : ℕ → ℕ) : Type 0 where
@@ -125,6 +125,13 @@ module _ (z : Sizes) (pos : 0 < z .pages) (s x : ℕ) (D B : ℕ → Type 0) (v 
 
   pub dropped-moves : Moves z (v .state) state′
   dropped-moves r h = elim (c .state r h) [ inl t ↦ inr (subst (λ (y : ℕ). T (allowed (v .state r) y)) (sym (t .1)) (c .line r (t .0))) | inr t ↦ inl (t .1) ]
+
+  -- what is released is of the slot, which is active
+  pub dropped-tidy : Tidy z (v .state) (v .owner) (v .active) → Tidy z state′ (v .owner) (v .active)
+  dropped-tidy t = record {
+    free = λ r h e. t .free r h (old r FREE h e (omega arith) (omega arith) .1);
+    released = λ r h e. elim (c .state r h) [ inl u ↦ subst (λ (m : ℕ). v .active m ≡ 1) (sym (c .own r (u .0))) (c .on) | inr u ↦ t .released r h (sym (u .1) ∙ e) ];
+  }
 
 module _ (z : Sizes) (st : State) (f : Fit z st) (r : Ruled z st) (s : ℕ) (on : files st .active s ≡ 1) where
   abbrev v : Files

@@ -37,7 +37,7 @@ module _ (z : Sizes) (st : State) (f : Fit z st) (r : Ruled z st) where
   c = frames st
 
   idle : Done z st st
-  idle = ((r .disk, r .records), λ q h. inl refl)
+  idle = ((r .disk, r .records), λ q h. inl refl, λ t. t)
 
   -- ── the record of a page in a frame ──
   -- a frame that is not free has a page, and the page a record

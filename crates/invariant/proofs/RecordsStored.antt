@@ -21,7 +21,7 @@ use Rattle.model.specs.Ruled.{OnDisk, OfRecords, Ruled}
 use Rattle.model.specs.Fit.{Fit}
 use Rattle.model.specs.Writeback
 use Rattle.model.specs.Index.{slot-below, split-set}
-use Rattle.invariant.proofs.Records.{Kept, Done, Moves, counted-done, along-line, was, turns, stays}
+use Rattle.invariant.proofs.Records.{Kept, Done, Moves, Tidy, counted-done, along-line, was, turns, stays}
 use Rattle.invariant.proofs.RecordsLanded.{landed-keeps}
 
 -- The slot's image goes, its leaving records become x. Good (L s): the image is stored and they become free. Failed: they become released.
@@ -33,7 +33,7 @@ pub record Stored (z : Sizes) (s x : ℕ) (L : ℕ → Type 0) (v : Files) (map�
   pub map : (i : ℕ) → i < allPages z → Split (L (slotOf z i)) (map′ i) (v .image i) (v .map i)
   pub image : (i : ℕ) → i < allPages z → Split (slotOf z i ≡ s) (image′ i) 0 (v .image i)
   pub state : (r : ℕ) → r < z .records → Split ((v .state r ≡ LEAVING) × (v .owner r ≡ s)) (state′ r) x (v .state r)
-  pub owner : (r : ℕ) → r < z .records → (owner′ r ≡ v .owner r) ⊎ ((state′ r ≡ FREE) × (owner′ r ≡ 0))
+  pub owner : (r : ℕ) → r < z .records → Split (((v .state r ≡ LEAVING) × (v .owner r ≡ s)) × (x ≡ FREE)) (owner′ r) 0 (v .owner r)
   pub updating : (t : ℕ) → t < z .slots → Split (t ≡ s) (updating′ t) 0 (v .updating t)
 
 module _ (z : Sizes) (pos : 0 < z .pages) (s x : ℕ) (hs : s < z .slots) (L : ℕ → Type 0) (v : Files) (d : OnDisk z v) (k : OfRecords z v) (map′ state′ owner′ updating′ image′ : ℕ → ℕ)
@@ -51,7 +51,7 @@ module _ (z : Sizes) (pos : 0 < z .pages) (s x : ℕ) (hs : s < z .slots) (L : �
 
   -- what is not free keeps its slot
   owns : (r y : ℕ) → r < z .records → state′ r ≡ y → ¬ (y ≡ FREE) → owner′ r ≡ v .owner r
-  owns r y h e n = elim (c .owner r h) [ inl t ↦ t | inr t ↦ absurd (n (sym e ∙ t .0)) ]
+  owns r y h e n = stays (c .owner r h) (λ t. n (sym e ∙ turns (c .state r h) (t .0) ∙ t .1))
 
   -- an image that lists a record is another slot's, and is as before
   elsewhere : (i : ℕ) → i < allPages z → (r : ℕ) → image′ i ≡ suc r → (¬ (slotOf z i ≡ s)) × (v .image i ≡ suc r)
@@ -82,7 +82,7 @@ module _ (z : Sizes) (pos : 0 < z .pages) (s x : ℕ) (hs : s < z .slots) (L : �
     ]
   ]
 
-  pub stored-keeps : OnDisk z after × OfRecords z after
+  stored-keeps : OnDisk z after × OfRecords z after
   stored-keeps = (
     landed-keeps z pos L v d k map′ (record { on = λ t l. subst (λ (u : ℕ). v .active u ≡ 1) (sym (c .only t l)) (c .on); map = c .map }) (v .address) state′ owner′ (v .active) updating′ image′,
     record {
@@ -92,7 +92,7 @@ module _ (z : Sizes) (pos : 0 < z .pages) (s x : ℕ) (hs : s < z .slots) (L : �
         | inl t ↦ elim (c .kind) [ inl g ↦ omega (arith, t .1, g .0) | inr g ↦ omega (arith, t .1, g) ]
         | inr t ↦ omega (arith, t .1, k .state-fit r h)
       ];
-      owner-fit = λ r h. elim (c .owner r h) [ inl t ↦ omega (arith, t, k .owner-fit r h) | inr t ↦ omega (arith, t .1, hs) ];
+      owner-fit = λ r h. elim (c .owner r h) [ inl t ↦ omega (arith, t .1, hs) | inr t ↦ omega (arith, t .1, k .owner-fit r h) ];
       active-fit = k .active-fit;
       updating-fit = λ t h. elim (c .updating t h) [ inl u ↦ omega (arith, u .1) | inr u ↦ omega (arith, u .1, k .updating-fit t h) ];
       held-once = k .held-once;
@@ -120,11 +120,27 @@ module _ (z : Sizes) (pos : 0 < z .pages) (s x : ℕ) (hs : s < z .slots) (L : �
   )
 
   -- leaving to free; leaving to released
-  pub stored-moves : Moves z (v .state) state′
+  stored-moves : Moves z (v .state) state′
   stored-moves r h = elim (c .state r h) [
     | inl t ↦ elim (c .kind) [ inl g ↦ inr (along-line 8 (omega arith) (t .0 .0) (t .1 ∙ g .0)) | inr g ↦ inr (along-line 9 (omega arith) (t .0 .0) (t .1 ∙ g)) ]
     | inr t ↦ inl (t .1)
   ]
+
+  -- what becomes free is of slot 0 then; what becomes released is of the slot, which is active
+  stored-tidy : Tidy z (v .state) (v .owner) (v .active) → Tidy z state′ owner′ (v .active)
+  stored-tidy t = record {
+    free = λ r h e. elim (c .state r h) [
+      | inl u ↦ turns (c .owner r h) (u .0, sym (u .1) ∙ e)
+      | inr u ↦ elim (c .owner r h) [ inl w ↦ w .1 | inr w ↦ w .1 ∙ t .free r h (sym (u .1) ∙ e) ]
+    ];
+    released = λ r h e. subst (λ (m : ℕ). v .active m ≡ 1) (sym (owns r RELEASED h e (omega arith))) (elim (c .state r h) [
+      | inl u ↦ subst (λ (m : ℕ). v .active m ≡ 1) (sym (u .0 .1)) (c .on)
+      | inr u ↦ t .released r h (sym (u .1) ∙ e)
+    ]);
+  }
+
+  pub stored-done : (OnDisk z after × OfRecords z after) × Moves z (v .state) state′ × (Tidy z (v .state) (v .owner) (v .active) → Tidy z state′ owner′ (v .active))
+  stored-done = (stored-keeps, stored-moves, stored-tidy)
 
 module _ (z : Sizes) (st : State) (f : Fit z st) (r : Ruled z st) (s : ℕ) where
   -- the two ends
@@ -151,13 +167,10 @@ module _ (z : Sizes) (st : State) (f : Fit z st) (r : Ruled z st) (s : ℕ) wher
       only = λ t e. e;
       map = λ i h. at-store (st .disk .maps) _ _ i (rw (f .disk .maps) h);
       image = image-split;
-      state = state;
-      owner = λ q h. elim (at-store (st .memory .held .owners) (Writeback.leaver z st s) (λ r. 0) q (rw (f .memory .owners) h)) [ inl t ↦ inr (turns (state q h) (t .0), t .1) | inr t ↦ inl (t .1) ];
+      state = λ q h. at-store (st .memory .held .states) (Writeback.leaver z st s) (λ r. FREE) q (rw (f .memory .states) h);
+      owner = λ q h. elim (at-store (st .memory .held .owners) (Writeback.leaver z st s) (λ r. 0) q (rw (f .memory .owners) h)) [ inl t ↦ inl ((t .0, refl), t .1) | inr t ↦ inr (λ u. t .0 (u .0), t .1) ];
       updating = updating-split;
     }
-      where
-        state : (q : ℕ) → q < z .records → Split (Holds (Writeback.leaver z st s q)) (files good-end .state q) FREE (files st .state q)
-        state q h = at-store (st .memory .held .states) (Writeback.leaver z st s) (λ r. FREE) q (rw (f .memory .states) h)
 
     pub failed-stored : (let w = files failed-end in Stored z s RELEASED (λ t. ⊥) (files st) (w .map) (w .state) (w .owner) (w .updating) (w .image))
     failed-stored = record {
@@ -167,17 +180,17 @@ module _ (z : Sizes) (st : State) (f : Fit z st) (r : Ruled z st) (s : ℕ) wher
       map = λ i h. inr (λ e. e, refl);
       image = image-split;
       state = λ q h. at-store (st .memory .held .states) (Writeback.leaver z st s) (λ r. RELEASED) q (rw (f .memory .states) h);
-      owner = λ q h. inl refl;
+      owner = λ q h. inr (λ u. omega (arith, u .1), refl);
       updating = updating-split;
     }
 
     good-kept : Done z st good-end
     unfolding Writeback.storeImage Writeback.updateOver
-    good-kept = (stored-keeps z (f .sizes .pages) s FREE hs (λ t. t ≡ s) (files st) (r .disk) (r .records) _ _ _ _ _ good-stored, stored-moves z (f .sizes .pages) s FREE hs (λ t. t ≡ s) (files st) (r .disk) (r .records) _ _ _ _ _ good-stored)
+    good-kept = stored-done z (f .sizes .pages) s FREE hs (λ t. t ≡ s) (files st) (r .disk) (r .records) _ _ _ _ _ good-stored
 
     failed-kept : Done z st failed-end
     unfolding Writeback.updateOver
-    failed-kept = (stored-keeps z (f .sizes .pages) s RELEASED hs (λ t. ⊥) (files st) (r .disk) (r .records) _ _ _ _ _ failed-stored, stored-moves z (f .sizes .pages) s RELEASED hs (λ t. ⊥) (files st) (r .disk) (r .records) _ _ _ _ _ failed-stored)
+    failed-kept = stored-done z (f .sizes .pages) s RELEASED hs (λ t. ⊥) (files st) (r .disk) (r .records) _ _ _ _ _ failed-stored
 
   pub mapDone-done : (good : ℕ) → Asked (questions z st (Event.Writeback (MapDone s good))) → Done z st (Writeback.mapDone z st s good)
   unfolding Writeback.mapDone

@@ -16,7 +16,7 @@ use Rattle.model.specs.Rules
 use Rattle.model.specs.Ruled.{OnDisk, OfRecords, Ruled}
 use Rattle.model.specs.Fit.{Fit}
 use Rattle.model.specs.Index.{slot-below, split-set}
-use Rattle.invariant.proofs.Records.{disk-alone, Done, Moves, along-line, was, turns, stays}
+use Rattle.invariant.proofs.Records.{disk-alone, Done, Moves, Tidy, along-line, was, turns, stays}
 
 -- Page i, of an active slot, holds record q then, nulled or live; before, it held q or had no address and q was free.
 pub record Taken (z : Sizes) (i q x : ℕ) (v : Files) (address′ state′ owner′ : ℕ → ℕ) : Type 0 where
@@ -86,7 +86,7 @@ module _ (z : Sizes) (pos : 0 < z .pages) (i q x : ℕ) (v : Files) (d : OnDisk 
     | no n ↦ let s = stays (c .state r) n in let b = k .held-by r h (elim e [ inl w ↦ inl (sym s ∙ w) | inr w ↦ inr (sym s ∙ w) ]) in (b .0, b .1, keeps (b .0) (b .1) r (b .2))
   ]
 
-  pub taken-keeps : OnDisk z after × OfRecords z after
+  taken-keeps : OnDisk z after × OfRecords z after
   taken-keeps = (
     disk-alone z v d _ _ _ _ _ _,
     record {
@@ -131,7 +131,7 @@ module _ (z : Sizes) (pos : 0 < z .pages) (i q x : ℕ) (v : Files) (d : OnDisk 
   )
 
   -- free to nulled; nulled to live; live to nulled
-  pub taken-moves : Moves z (v .state) state′
+  taken-moves : Moves z (v .state) state′
   taken-moves r h = elim (c .state r) [
     | inl t ↦ elim (c .before) [
       | inl b ↦ inr (along-line 0 (omega arith) (ap (v .state) (t .0) ∙ b .1) (t .1 ∙ b .2))
@@ -142,6 +142,15 @@ module _ (z : Sizes) (pos : 0 < z .pages) (i q x : ℕ) (v : Files) (d : OnDisk 
     ]
     | inr t ↦ inl (t .1)
   ]
+
+  taken-tidy : Tidy z (v .state) (v .owner) (v .active) → Tidy z state′ owner′ (v .active)
+  taken-tidy t = record {
+    free = λ r h e. let o = old r FREE e (omega arith) (omega arith) in stays (c .owner r) (o .0) ∙ t .free r h (o .1);
+    released = λ r h e. let o = old r RELEASED e (omega arith) (omega arith) in subst (λ (m : ℕ). v .active m ≡ 1) (sym (stays (c .owner r) (o .0))) (t .released r h (o .1));
+  }
+
+  pub taken-done : (OnDisk z after × OfRecords z after) × Moves z (v .state) state′ × (Tidy z (v .state) (v .owner) (v .active) → Tidy z state′ owner′ (v .active))
+  taken-done = (taken-keeps, taken-moves, taken-tidy)
 
 -- a record's state alone changes
 abbrev pub moved : State → ℕ → ℕ → State
@@ -164,7 +173,7 @@ module _ (z : Sizes) (st : State) (f : Fit z st) (r : Ruled z st) (i q : ℕ) (h
   }
 
   pub moved-kept : (x : ℕ) → (x ≡ NULLED) ⊎ (x ≡ LIVE) → v .address i ≡ suc q → Done z st (moved st q x)
-  moved-kept x e p = let c = moved-taken x e p in (taken-keeps z (f .sizes .pages) i q x v (r .disk) (r .records) _ _ _ c, taken-moves z (f .sizes .pages) i q x v (r .disk) (r .records) _ _ _ c)
+  moved-kept x e p = taken-done z (f .sizes .pages) i q x v (r .disk) (r .records) _ _ _ (moved-taken x e p)
 
   -- a free record is taken
   pub free-taken : q < z .records → v .active (slotOf z i) ≡ 1 → v .address i ≡ 0 → v .state q ≡ FREE →
@@ -183,5 +192,4 @@ module _ (z : Sizes) (st : State) (f : Fit z st) (r : Ruled z st) (i q : ℕ) (h
 
   pub free-kept : q < z .records → v .active (slotOf z i) ≡ 1 → v .address i ≡ 0 → v .state q ≡ FREE → Done z st (Pages.takeRecord z st i q)
   unfolding Pages.takeRecord
-  free-kept lt on p e = let c = free-taken lt on p e in
-      (taken-keeps z (f .sizes .pages) i q NULLED v (r .disk) (r .records) _ _ _ c, taken-moves z (f .sizes .pages) i q NULLED v (r .disk) (r .records) _ _ _ c)
+  free-kept lt on p e = taken-done z (f .sizes .pages) i q NULLED v (r .disk) (r .records) _ _ _ (free-taken lt on p e)

@@ -9,7 +9,7 @@ use Rattle.tables.specs.Store.{Split, at-store}
 use Rattle.model.specs.declared.sizes.Sizes.{Sizes}
 use Rattle.model.specs.declared.event.Event.the-variants as Event
 use Rattle.model.specs.declared.event.Design.the-variants.{Activate, Deactivate}
-use Rattle.model.specs.Lines.{FILED, LIVE, RELEASED, LEAVING}
+use Rattle.model.specs.Lines.{FREE, FILED, LIVE, RELEASED, LEAVING}
 use Rattle.model.specs.State.{State, Files, files, allPages, slotOf}
 use Rattle.model.specs.Setters.{counted}
 use Rattle.model.specs.Parts.{ofSlot}
@@ -19,7 +19,7 @@ use Rattle.model.specs.Ruled.{OnDisk, OfRecords, Ruled}
 use Rattle.model.specs.Fit.{Fit}
 use Rattle.model.specs.Designs
 use Rattle.model.specs.Index.{slot-below, split-set, of-pages}
-use Rattle.invariant.proofs.Records.{disk-alone, Kept, Moves, along-line, was, turns, stays, would-live, live-would}
+use Rattle.invariant.proofs.Records.{disk-alone, Kept, Moves, Tidy, along-line, was, turns, stays, would-live, live-would}
 
 -- the two ways: on, filed to live, addresses from the map; off, live to filed, no address
 pub record On (v : Files) (s x y b : ℕ) (new : ℕ → ℕ) : Type 0 where
@@ -179,6 +179,16 @@ module _ (z : Sizes) (pos : 0 < z .pages) (s x y b : ℕ) (new : ℕ → ℕ) (v
     ]
     | inr t ↦ inl (t .1)
   ]
+
+  -- a slot that is turned off has no released record
+  pub turned-tidy : (Off x y b new → (r : ℕ) → r < z .records → v .owner r ≡ s → ¬ (v .state r ≡ RELEASED)) → Tidy z (v .state) (v .owner) (v .active) → Tidy z state′ (v .owner) active′
+  turned-tidy none t = record {
+    free = λ r h e. t .free r h (old r FREE h e (omega arith) (omega arith));
+    released = λ r h e. let o = old r RELEASED h e (omega arith) (omega arith) in elim (c .active (v .owner r) (k .owner-fit r h)) [
+      | inl u ↦ u .1 ∙ elim (c .way) [ inl w ↦ w .switch | inr w ↦ absurd (none w r h (u .0) o) ]
+      | inr u ↦ u .1 ∙ t .released r h o
+    ];
+  }
 
 module _ (z : Sizes) (st : State) (f : Fit z st) (r : Ruled z st) where
   abbrev v : Files

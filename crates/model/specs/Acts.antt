@@ -1,4 +1,4 @@
--- Lists of acts: events, restarts, and cuts with any choice of what lands and anything in memory after.
+-- Lists of acts: events, page looks, restarts, and cuts with any choice of what lands and anything in memory after.
 use mathlib.Core.Bool.{Bool, true, false, _&&_}
 use mathlib.Core.List.{List, [], _∷_}
 use Prim.Native.Nat.{ℕ, zero, suc}
@@ -13,13 +13,16 @@ use Rattle.model.specs.declared.event.Event.{Event}
 use Rattle.model.specs.declared.event.Event.the-variants as Event
 use Rattle.model.specs.State.{Disk, Memory, State, files, frames, WRITING}
 use Rattle.model.specs.Pages.{faultFrame}
-use Rattle.model.specs.Writeback.{looking, beginsWrite, recordIn, storeFrame, storeImage}
+use Rattle.model.specs.Writeback
+use Rattle.model.specs.Writeback.{beginsWrite, recordIn, storeFrame, storeImage}
 use Rattle.model.specs.Step.{Outcome, memoryLengths, step, restart}
 use Rattle.model.specs.Restart.{formatted}
 use Rattle.model.specs.Ledger as L
 
 pub data Act : Type 0 where
   event : Event → Act
+  -- a page look: slot, page
+  looking : ℕ → ℕ → Act
   restarting : Act
   -- which open writes land, by frame; which open updates, by slot; what the memory holds after
   cutting : (ℕ → Bool) → (ℕ → Bool) → Memory → Act
@@ -36,7 +39,7 @@ fed z st (Event.Page (Read s p w)) = L.nothing
 fed z st (Event.Page (Write s p w x)) = L.wrote s p w x
 fed z st (Event.Page (Wire s p)) = L.nothing
 fed z st (Event.Page (Unwire s p)) = L.nothing
-fed z st (Event.Writeback Claim) = let f = looking z st .taken in L.claimed f (if (beginsWrite z st) (suc (recordIn z st f)) 0)
+fed z st (Event.Writeback Claim) = let f = Writeback.looking z st .taken in L.claimed f (if (beginsWrite z st) (suc (recordIn z st f)) 0)
 fed z st (Event.Writeback (Truncate s k)) = L.truncated s k
 fed z st (Event.Writeback (Update s)) = L.began s
 fed z st (Event.Writeback (PageDone f good)) = L.pageEnd f good
@@ -69,6 +72,8 @@ module _ (z : Sizes) where
 
   unfoldable pub act : World → Act → World
   act w (event e) = let o = step z (w .state) e in record { up = w .up; state = o .left; ledger = noted o (fed z (w .state) e) (w .ledger) }
+  -- a page look leaves all as it was, and is no event: the ledger is fed nothing
+  act w (looking s p) = w
   act w restarting = let o = restart z (w .state) in record { up = if (eqb (o .answer .refusal) 0) true (w .up); state = o .left; ledger = noted o (L.restarted (w .state .disk)) (w .ledger) }
   act w (cutting writes updates junk) = record {
     up = false;
@@ -80,6 +85,7 @@ module _ (z : Sizes) where
   -- Restart is the first call after a format or a cut, made again while refused. Memory keeps its lengths.
   unfoldable pub allowed : World → Act → Bool
   allowed w (event e) = w .up
+  allowed w (looking s p) = w .up
   allowed w restarting = true
   allowed w (cutting writes updates junk) = test (memoryLengths z junk)
 

@@ -3,6 +3,7 @@ use mathlib.Core.Path.{_≡_}
 use mathlib.Core.List.{List, [], _∷_}
 use Prim.Native.Nat.{ℕ, suc, _%_, _<_}
 use lib.Dec.{T, eqb}
+use lib.ListN.{length}
 use Rattle.tables.specs.Base.{at, if}
 use Rattle.tables.specs.Rule.{Rule, same, below, is, non, _and_, _or_, _then_, each, named, Holds}
 use Rattle.model.specs.declared.sizes.Sizes.{Sizes}
@@ -76,7 +77,8 @@ module _ (z : Sizes) (w : World) where
 pub record After (z : Sizes) (w : World) : Type 0 where
   pub disk : Holds (demand3 z w)
   pub reads : (s p n : ℕ) → T (w .up) → (let o = step z (w .state) (Event.Page (Read s p n)) in o .answer .refusal ≡ 0 → o .answer .result ≡ w .ledger .pages .text (pageOf z s p) n)
-  pub looks : (s p n : ℕ) → T (w .up) → n < z .words → (let o = look z (w .state) s p in o .answer .refusal ≡ 0 → at (o .left) n ≡ w .ledger .pages .text (pageOf z s p) n)
+  -- a look that is not refused hands back W words, each the page's text
+  pub looks : (s p : ℕ) → T (w .up) → (let o = look z (w .state) s p in o .answer .refusal ≡ 0 → (length (o .left) ≡ z .words) × ((n : ℕ) → n < z .words → at (o .left) n ≡ w .ledger .pages .text (pageOf z s p) n))
 
 -- for all sizes within limits, any memory of its lengths, and every legal list of acts from a finished format on
 abbrev pub Demand3 : Type 0

@@ -21,6 +21,7 @@ pub mod Fit
 pub mod Bounds
 pub mod Own
 pub mod Calls
+pub mod EveryCall
 pub mod OwnLaws
 pub mod Part
 pub mod Ledger

@@ -1,8 +1,16 @@
 -- The kinds of request, and what each asks for.
+use mathlib.Core.Path.{_≡_, refl, ap, _∙_}
+use mathlib.Core.Bool.{Bool, true, _&&_}
 use mathlib.Core.List.{List, [], _∷_, _++_}
-use Prim.Native.Nat.{ℕ}
-use lib.Dec.{eqb}
-use Rattle.tables.specs.Base.{if}
+use Prim.Native.Nat.{ℕ, _<_}
+use native.Mathlib.Omega.{arith}
+use native.Mathlib.Decide.{ℕ-discrete, decLt}
+use lib.Dec.{T, eqb, ltb, ltb→lt}
+use borrow.Author.Tests.{ne-eqb}
+use Rattle.tables.specs.Base.{if, all}
+use Rattle.tables.specs.Laws.{and-left, and-right, if-yes, if-no}
+use Rattle.tables.specs.Questions.{none, ask, firstNo}
+use Rattle.tables.specs.Rule.{Rule, same, below, _and_, each, test, sound, decided, told, untold}
 use Rattle.model.specs.declared.event.Event.{Event}
 use Rattle.model.specs.declared.event.Event.the-variants as Event
 use Rattle.model.specs.declared.event.Design.the-variants as Design
@@ -62,3 +70,49 @@ decoded r = tagged (r .kind) (designKinds r ++ pageKinds r ++ writebackKinds r)
 abbrev pub decodedNumber : Decoded → ℕ
 decodedNumber (Known e) = 0
 decodedNumber Unknown = 3
+
+-- the kinds of event are 1 to 15
+abbrev pub kindFits : Request → Rule
+kindFits r = below 0 (r .kind) and below (r .kind) 16
+
+-- the kind's part of question 3: 0, or its number
+abbrev pub kindAnswer : Request → ℕ
+kindAnswer r = firstNo (ask 3 (kindFits r) none)
+
+-- the event of a request, and the paper's number for the answer
+abbrev pub Decodes : Request → Decoded → Type 0
+Decodes r d = (d ≡ decoded r) × (decodedNumber d ≡ kindAnswer r)
+
+-- ── the number by the kind ──
+abbrev kinds : Request → List Kind
+kinds r = designKinds r ++ pageKinds r ++ writebackKinds r
+
+-- a tag past those of all kinds is unknown
+abbrev tagsBelow : ℕ → List Kind → Bool
+tagsBelow n [] = true
+tagsBelow n (k ∷ ks) = ltb (k .tag) n && tagsBelow n ks
+
+past : (t n : ℕ) (ks : List Kind) → T (tagsBelow n ks) → ¬ (t < n) → tagged t ks ≡ Unknown
+past t n [] b h = refl
+past t n (k ∷ ks) b h = rw (ne-eqb t (k .tag) (λ e. omega (arith, e, ltb→lt (k .tag) n (and-left (ltb (k .tag) n) (tagsBelow n ks) b)))) (past t n ks (and-right (ltb (k .tag) n) (tagsBelow n ks) b) h)
+
+-- of the first 16 tags all but 0 are known
+abbrev first : Request → ℕ → Rule
+first r t = same (decodedNumber (tagged t (kinds r))) (if (eqb t 0) 3 0)
+
+known : (r : Request) (t : ℕ) → t < 16 → decodedNumber (tagged t (kinds r)) ≡ if (eqb t 0) 3 0
+unfolding test all
+known r t h = sound (each 16 (first r)) tt t h
+
+decoded-number : (r : Request) → decodedNumber (decoded r) ≡ kindAnswer r
+unfolding decoded firstNo
+decoded-number r = elim (decided (kindFits r)) [
+  | yes h ↦ rw (told (kindFits r) h) (known r (r .kind) (h .1) ∙ if-no (r .kind) 0 3 0 (λ e. omega (arith, h .0, e)))
+  | no h ↦ rw (untold (kindFits r) h) (elim (decLt (r .kind) 16) [
+    | yes l ↦ known r (r .kind) l ∙ if-yes (r .kind) 0 3 0 (elim (ℕ-discrete (r .kind) 0) [ yes e ↦ e | no e ↦ absurd (h (omega (arith, e), l)) ])
+    | no l ↦ ap decodedNumber (past (r .kind) 16 (kinds r) tt l)
+  ])
+]
+
+pub decodes-by : (r : Request) (d : Decoded) → d ≡ decoded r → Decodes r d
+decodes-by r d e = (e, ap decodedNumber e ∙ decoded-number r)

@@ -1,9 +1,10 @@
 -- The sizes and their limits, and what the constructor of the sizes answers.
-use mathlib.Core.Path.{_≡_, refl}
+use mathlib.Core.Path.{_≡_, refl, ap, _∙_}
 use mathlib.Core.Bool.{Bool, true, false}
 use Prim.Native.Nat.{ℕ, suc}
 use lib.Dec.{eqb}
 use Rattle.tables.specs.Base.{if}
+use Rattle.tables.specs.Questions.{none, ask, firstNo}
 use Rattle.tables.specs.Rule.{Rule, below, _and_, test}
 use Rattle.model.specs.declared.sizes.Sizes.{Sizes}
 use Rattle.model.specs.declared.sizes.Sized.{Sized}
@@ -42,7 +43,10 @@ sizesFit z =
     and upTo (z .pages) mostPages
     and upTo (z .accounts) mostAccounts
 
--- question 1 of the sizes
+abbrev pub sizesOf : ℕ → ℕ → ℕ → ℕ → ℕ → ℕ → Sizes
+sizesOf w r f s n q = record { words = w; records = r; frames = f; slots = s; pages = n; accounts = q }
+
+-- what a constructor of sizes answers
 unfoldable pub sized : Sizes → Sized
 sized z = if (test (sizesFit z)) (Within z) Outside
 
@@ -51,10 +55,26 @@ abbrev pub sizedNumber : Sized → ℕ
 sizedNumber (Within z) = 0
 sizedNumber Outside = 1
 
+-- question 1 of the sizes alone: 0, or its number
+abbrev pub sizesAnswer : Sizes → ℕ
+sizesAnswer z = firstNo (ask 1 (sizesFit z) none)
+
+-- the constructor's answer, and the paper's number for it
+abbrev pub Made : Sizes → Sized → Type 0
+Made z r = (r ≡ sized z) × (sizedNumber r ≡ sizesAnswer z)
+
 -- the answer by the rule's test; and the test by the answer's number
-pub sized-by : (z : Sizes) (b : Bool) → test (sizesFit z) ≡ b → if b (Within z) Outside ≡ sized z
+sized-number : (z : Sizes) → sizedNumber (sized z) ≡ sizesAnswer z
+unfolding sized firstNo
+sized-number z = go (test (sizesFit z))
+  where
+    go : (b : Bool) → sizedNumber (if b (Within z) Outside) ≡ if b 0 1
+    go true = refl
+    go false = refl
+
+pub made-by : (z : Sizes) (b : Bool) → test (sizesFit z) ≡ b → Made z (if b (Within z) Outside)
 unfolding sized
-sized-by z b e = rw e
+made-by z b e = let m : if b (Within z) Outside ≡ sized z = rw e in (m, ap sizedNumber m ∙ sized-number z)
 
 pub number-by : (z : Sizes) → eqb (sizedNumber (sized z)) 0 ≡ test (sizesFit z)
 unfolding sized

@@ -1,7 +1,7 @@
 // A request as numbers, and the event that it asks for.
 ghost use mathlib.Core.List.{_++_};
 ghost use mathlib.Core.Path.{_≡_};
-ghost use Rattle.model.specs.Requests.{tagged, pageKinds, writebackKinds, decoded};
+ghost use Rattle.model.specs.Requests.{tagged, pageKinds, writebackKinds, decoded, decodedNumber, kindAnswer};
 use crate::event::Design;
 use crate::event::Event;
 use crate::event::Page;
@@ -24,7 +24,7 @@ pub enum Decoded {
 
 // The event that a request asks for. Looks first among the kinds about a design or an account.
 pub fn decode(request: Request) -> Decoded
-    ensures { λ r. ⌜ r ≡ decoded request ⌝ }
+    ensures { λ r. ⌜ (r ≡ decoded request) × (decodedNumber r ≡ kindAnswer request) ⌝ }
 {
     let kind = request.kind;
     let first = request.first as usize;

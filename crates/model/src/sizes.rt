@@ -1,7 +1,8 @@
 // The sizes of a design disk and of the memory that serves it, and their limits.
 ghost use mathlib.Core.Path.{_≡_};
 ghost use Rattle.tables.specs.Rule.{test};
-ghost use Rattle.model.specs.Sizes.{upTo, sized, sizesFit};
+ghost use lib.Dec.{eqb};
+ghost use Rattle.model.specs.Sizes.{upTo, sizesOf, sized, sizedNumber, sizesFit, sizesAnswer};
 
 #[repr(C)]
 pub struct Sizes {
@@ -48,7 +49,8 @@ impl Sizes {
         pages: usize,
         accounts: usize,
     ) -> Sized
-        ensures { λ r. ⌜ r ≡ sized (record { words = words; records = records; frames = frames; slots = slots; pages = pages; accounts = accounts }) ⌝ }
+        ensures { λ r. ⌜ (r ≡ sized (sizesOf words records frames slots pages accounts))
+            × (sizedNumber r ≡ sizesAnswer (sizesOf words records frames slots pages accounts)) ⌝ }
     {
         let fit = up_to(words, Self::MOST_WORDS)
             & up_to(records, Self::MOST_RECORDS)
@@ -72,7 +74,7 @@ impl Sizes {
 
     // Question 1 of sizes that are lent: they can be made.
     pub fn within(self) -> bool
-        ensures { λ r. ⌜ r ≡ test (sizesFit self) ⌝ }
+        ensures { λ r. ⌜ (r ≡ test (sizesFit self)) × (r ≡ eqb (sizedNumber (sized self)) 0) ⌝ }
     {
         let made = Self::new(
             self.words,

@@ -44,7 +44,7 @@ returns-2 : tie.Need-returns-2
 returns-2 c =
     let k = c .before .before .before in
     let s = k .before .before .before .before .before .before .before .before .before .before .before .before .before .before .before .before .before .before .before .before .before .before .before .before .before .before .before .before .before .before .before .before .before .before in
-    unknown-apply (s .args .sizes) (lent s) (s .args .request) (passed k) (sym (c .enum-told .given .1) ∙ c .before .before .decode .ensures)
+    unknown-apply (s .args .sizes) (lent s) (s .args .request) (passed k) (sym (c .enum-told .given .1) ∙ c .before .before .decode .ensures .0)
 
 carry-requires : tie.Need-carry-requires
 carry-requires c κs =
@@ -67,7 +67,7 @@ returns-3 c =
     let g = given k in
     applied (a .sizes) (at s) (λ (l : List Frame). stateOf l (t .result .pool) (t .last .1 .1 .1 .1 .0) (t .last .1 .1 .1 .1 .1 .0) (t .last .1 .1 .1 .1 .1 .1 .0) (t .last .1 .1 .1 .1 .1 .1 .1 .0) (t .last .1 .1 .1 .1 .1 .1 .1 .1 .0) (t .last .1 .1 .1 .1 .1 .1 .1 .1 .1 .0) (t .last .1 .1 .1 .1 .1 .1 .1 .1 .1 .1 .0) (t .last .1 .1 .1 .1 .1 .1 .1 .1 .1 .1 .1 .0) (t .last .1 .1 .1 .1 .1 .1 .1 .1 .1 .1 .1 .1 .0) (t .last .1 .1 .1 .1 .1 .1 .1 .1 .1 .1 .1 .1 .1 .0) (t .last .1 .1 .1 .1 .1 .1 .1 .1 .1 .1 .1 .1 .1 .1 .0) (t .last .1 .1 .1 .1 .1 .1 .1 .1 .1 .1 .1 .1 .1 .1 .1 .0) (t .last .1 .1 .1 .1 .1 .1 .1 .1 .1 .1 .1 .1 .1 .1 .1 .1 .0) (t .last .1 .1 .1 .1 .1 .1 .1 .1 .1 .1 .1 .1 .1 .1 .1 .1 .1 .0) (t .last .1 .1 .1 .1 .1 .1 .1 .1 .1 .1 .1 .1 .1 .1 .1 .1 .1 .1 .0) (t .last .1 .1 .1 .1 .1 .1 .1 .1 .1 .1 .1 .1 .1 .1 .1 .1 .1 .1 .1 .0)) (t .result .answer) _ (a .request) (first s (g .0))
     (lent-of (t .result .frames) (a .lent) (a .sizes .frames) (all-lent (a .sizes) (at s) (λ l. refl) (a .frames) (a .lent) (g .0)) (fit (a .sizes) (lent s) (g .0) .sizes .frames-most) (long c))
-    (passed k) (sym (d .decoded .given .1) ∙ d .before .before .decode .ensures) (t .ensures)
+    (passed k) (sym (d .decoded .given .1) ∙ d .before .before .decode .ensures .0) (t .ensures)
 
 pub apply-core-spec : {M : Type 1} → statement M
 apply-core-spec =

@@ -1,18 +1,18 @@
--- `new` meets its contract: its six tests together are the rule's test.
+-- `new` meets its contract: its six tests together are the rule's test, and so is question 1's answer.
 use borrow.Author.Needs.{needs}
 use mathlib.Core.Bool.{true, false, and-assoc}
 use Rattle.tables.specs.Rule.{test}
-use Rattle.model.specs.Sizes.{sized-by}
+use Rattle.model.specs.Sizes.{made-by}
 use Rattle.model.proofs.sizes.Sizes.new.Statement.{statement}
 use Rattle.model.proofs.sizes.Sizes.new.Tie as tie
 
 returns : tie.Need-returns
 unfolding test
-returns c = sized-by _ true (cc (simp and-assoc at (c .if1 .taken)))
+returns c = made-by _ true (cc (simp and-assoc at (c .if1 .taken)))
 
 returns-2 : tie.Need-returns-2
 unfolding test
-returns-2 c = sized-by _ false (cc (simp and-assoc at (c .if1 .left)))
+returns-2 c = made-by _ false (cc (simp and-assoc at (c .if1 .left)))
 
 pub new-spec : {M : Type 1} → statement M
 new-spec =

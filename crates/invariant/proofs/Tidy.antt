@@ -1,0 +1,96 @@
+-- Over every legal list of acts from a finished format, once restarted: a free record is of slot 0, and a released one of an active slot. No rule asks it.
+use mathlib.Core.Path.{_≡_, refl, sym, _∙_}
+use mathlib.Core.Logic.{inl, inr}
+use mathlib.Core.List.{List, [], _∷_}
+use Prim.Native.Nat.{ℕ, zero, suc}
+use native.Mathlib.Omega.{arith}
+use lib.Dec.{T}
+use Rattle.tables.specs.Laws.{and-left, and-right}
+use Rattle.tables.specs.Questions.{Asked}
+use Rattle.tables.specs.Rule.{Holds}
+use Rattle.model.specs.declared.sizes.Sizes.{Sizes}
+use Rattle.model.specs.declared.event.Event.{Event}
+use Rattle.model.specs.declared.event.Event.the-variants as Event
+use Rattle.model.specs.declared.event.Design.the-variants.{Limit, Create, Delete, Activate, Deactivate}
+use Rattle.model.specs.declared.event.Page.the-variants.{Fault, Read, Write, Wire, Unwire}
+use Rattle.model.specs.declared.event.Writeback.the-variants.{Claim, Truncate, Update, PageDone, MapDone}
+use Rattle.model.specs.Lines.{RELEASED, LEAVING}
+use Rattle.model.specs.Sizes.{sizesFit}
+use Rattle.model.specs.State.{Memory, State, files}
+use Rattle.model.specs.Setters.{counted}
+use Rattle.model.specs.Questions.{questions}
+use Rattle.model.specs.Ruled.{OnDisk, Ruled, ruled, disk-ruled}
+use Rattle.model.specs.Fit.{Fit, Within, within, fit}
+use Rattle.model.specs.Designs
+use Rattle.model.specs.Pages
+use Rattle.model.specs.Writeback
+use Rattle.model.specs.Restart as R
+use Rattle.model.specs.Step.{outcome, memoryLengths, answer, carried, result, step, restart}
+use Rattle.model.specs.Acts.{Act, event, looking, restarting, cutting, World, act, allowed, legal, run, start}
+use Rattle.invariant.proofs.Records.{Tidied}
+use Rattle.invariant.proofs.RecordsTurned.{turned-tidy, activate-turned, deactivate-turned}
+use Rattle.invariant.proofs.RecordsPaged.{fault-done, claim-done, pageDone-done}
+use Rattle.invariant.proofs.RecordsDropped.{dropped-tidy, truncate-dropped, update-dropped}
+use Rattle.invariant.proofs.RecordsStored.{mapDone-done}
+use Rattle.invariant.proofs.RestartedRecords.{sorted}
+use Rattle.invariant.proofs.Kept.{asked-all, restart-answer}
+use Rattle.invariant.proofs.Never.{Safe, safe-fit, one, start-safe}
+
+-- every event that is carried out keeps it
+tidies : (z : Sizes) (st : State) (e : Event) → Fit z st → Ruled z st → Asked (questions z st e) → Tidied z st → Tidied z (carried z st e)
+unfolding carried counted Designs.limit Designs.create Designs.delete Designs.activate Designs.deactivate Pages.read Pages.write Pages.wire Pages.unwire Writeback.truncate Writeback.update
+tidies z st (Event.Design (Limit q n)) f k a = λ t. t
+tidies z st (Event.Design (Create s q n)) f k a = λ t. t
+tidies z st (Event.Design (Delete s)) f k a = λ t. t
+tidies z st (Event.Design (Activate s)) f k a =
+    turned-tidy z (f .sizes .pages) s _ _ _ _ (files st) (k .disk) (k .records) _ _ _ (activate-turned z st f k s a) (λ w. absurd (omega (arith, w .switch)))
+tidies z st (Event.Design (Deactivate s)) f k a =
+    turned-tidy z (f .sizes .pages) s _ _ _ _ (files st) (k .disk) (k .records) _ _ _ (deactivate-turned z st f k s a) (λ w r h o e. a .1 .1 .1 .1 .1 .0 .1 r h o (inr e))
+tidies z st (Event.Page (Fault s p)) f k a = fault-done z st f k s p a .2
+tidies z st (Event.Page (Read s p w)) f k a = λ t. t
+tidies z st (Event.Page (Write s p w x)) f k a = λ t. t
+tidies z st (Event.Page (Wire s p)) f k a = λ t. t
+tidies z st (Event.Page (Unwire s p)) f k a = λ t. t
+tidies z st (Event.Writeback Claim) f k a = claim-done z st f k .2
+tidies z st (Event.Writeback (Truncate s n)) f k a = dropped-tidy z (f .sizes .pages) s RELEASED _ _ (files st) (k .disk) (k .records) _ _ _ _ (truncate-dropped z st f k s (a .1 .1 .0) n)
+tidies z st (Event.Writeback (Update s)) f k a = dropped-tidy z (f .sizes .pages) s LEAVING _ _ (files st) (k .disk) (k .records) _ _ _ _ (update-dropped z st f k s (a .1 .1 .0) (a .0))
+tidies z st (Event.Writeback (PageDone g good)) f k a = pageDone-done z st f k g good a .2
+tidies z st (Event.Writeback (MapDone s good)) f k a = mapDone-done z st f k s good a .2
+
+-- a restart makes it: a record is filed, or free and of slot 0
+restarted-tidy : (z : Sizes) → Within z → (st : State) → OnDisk z (files st) → Tidied z (R.restarted z (st .disk))
+restarted-tidy z w st d = record {
+  free = λ r h e. elim (sorted z w st d r h) [ inl t ↦ absurd (omega (arith, e, t .state)) | inr t ↦ t .owner ];
+  released = λ r h e. elim (sorted z w st d r h) [ inl t ↦ absurd (omega (arith, e, t .state)) | inr t ↦ absurd (omega (arith, e, t .state)) ];
+}
+
+module _ (z : Sizes) where
+  event-tidy : (st : State) (e : Event) → Tidied z st → Tidied z (step z st e .left)
+  unfolding step
+  event-tidy st e t = go (answer z st e) refl
+    where
+      go : (n : ℕ) → answer z st e ≡ n → Tidied z (outcome n (result z st e) st (carried z st e) .left)
+      go zero h = let a = asked-all z st e h in tidies z st e (fit z st (a .0)) (ruled z st (a .1 .0)) (a .1 .1) t
+      go (suc n) h = t
+
+  restart-tidy : (w : World) → Safe z w → Tidied z (restart z (w .state) .left)
+  unfolding restart
+  restart-tidy w s = rw (restart-answer z (w .state) (safe-fit z w s) (s .rules)) (restarted-tidy z (within z (s .sizes)) (w .state) (disk-ruled z (w .state) (s .rules)))
+
+  act-tidy : (w : World) (a : Act) → Safe z w → (T (w .up) → Tidied z (w .state)) → T (act z w a .up) → Tidied z (act z w a .state)
+  unfolding act
+  act-tidy w (event e) s t u = event-tidy (w .state) e (t u)
+  act-tidy w (looking p q) s t u = t u
+  act-tidy w restarting s t u = restart-tidy w s
+  act-tidy w (cutting writes updates junk) s t u = absurd u
+
+  run-tidy : (w : World) (acts : List Act) → T (legal z w acts) → Safe z w → (T (w .up) → Tidied z (w .state)) → T (run z w acts .up) → Tidied z (run z w acts .state)
+  unfolding legal run
+  run-tidy w [] l s t = t
+  run-tidy w (a ∷ acts) l s t =
+      run-tidy (act z w a) acts (and-right (allowed z w a) (legal z (act z w a) acts) l) (one z w a (and-left (allowed z w a) (legal z (act z w a) acts) l) s .1) (act-tidy w a s t)
+
+pub always-tidy : (z : Sizes) (junk : Memory) (acts : List Act) → Holds (sizesFit z) → Holds (memoryLengths z junk) → T (legal z (start z junk) acts)
+    → T (run z (start z junk) acts .up) → Tidied z (run z (start z junk) acts .state)
+unfolding start
+always-tidy z junk acts f m l = run-tidy z (start z junk) acts l (start-safe z junk f m) (λ u. absurd u)

@@ -1,0 +1,119 @@
+-- Every call as one: what it asks, and demand 1's refusal, which leaves everything lent as it was.
+use mathlib.Core.Path.{_≡_, refl}
+use mathlib.Core.List.{List, []}
+use Prim.Native.Nat.{ℕ, zero, suc}
+use lib.Dec.{T}
+use Rattle.tables.specs.Questions.{Questions, none, ask, above, firstNo}
+use Rattle.tables.specs.Rule.{Rule, same, _and_}
+use Rattle.model.specs.declared.sizes.Sizes.{Sizes}
+use Rattle.model.specs.declared.event.Event.{Event}
+use Rattle.model.specs.declared.request.Request.{Request}
+use Rattle.model.specs.declared.request.Decoded.{Decoded}
+use Rattle.model.specs.declared.request.Decoded.the-variants.{Known, Unknown}
+use Rattle.model.specs.Sizes.{sizesFit}
+use Rattle.model.specs.Requests.{decoded, decodedNumber}
+use Rattle.model.specs.State.{Disk, State}
+use Rattle.model.specs.Rules.{diskRules, allRules}
+use Rattle.model.specs.Questions.{questions, lookQuestions}
+use Rattle.model.specs.Step.{Outcome, outcome, diskLengths, memoryLengths, allFit, answer, step, format, restart, look, in-order}
+use Rattle.model.specs.Calls.{apply, stepOf, unknown}
+
+pub data Call : Type 0 where
+  stepping : Sizes → State → Event → Call
+  -- an event, asked for by a request
+  applying : Sizes → State → Request → Call
+  restarting : Sizes → State → Call
+  formatting : Sizes → Disk → Call
+  -- a page look: slot, page
+  looking : Sizes → State → ℕ → ℕ → Call
+
+abbrev pub sizesIn : Call → Sizes
+sizesIn (stepping z st e) = z
+sizesIn (applying z st r) = z
+sizesIn (restarting z st) = z
+sizesIn (formatting z d) = z
+sizesIn (looking z st s p) = z
+
+-- what a call leaves: all that it is lent and may change; a look changes nothing, and hands back a part
+abbrev pub Left : Call → Type 0
+Left (stepping z st e) = State
+Left (applying z st r) = State
+Left (restarting z st) = State
+Left (formatting z d) = Disk
+Left (looking z st s p) = List ℕ
+
+abbrev pub outcomeOf : (c : Call) → Outcome (Left c)
+outcomeOf (stepping z st e) = step z st e
+outcomeOf (applying z st r) = apply z st r
+outcomeOf (restarting z st) = restart z st
+outcomeOf (formatting z d) = format z d
+outcomeOf (looking z st s p) = look z st s p
+
+-- what a refusal leaves: everything lent as it was; of a look, an empty part
+abbrev pub unchanged : (c : Call) → Left c
+unchanged (stepping z st e) = st
+unchanged (applying z st r) = st
+unchanged (restarting z st) = st
+unchanged (formatting z d) = d
+unchanged (looking z st s p) = []
+
+-- ── what each call asks ──
+-- every slice of its exact length
+abbrev pub lengths : Call → Rule
+lengths (stepping z st e) = diskLengths z (st .disk) and memoryLengths z (st .memory)
+lengths (applying z st r) = diskLengths z (st .disk) and memoryLengths z (st .memory)
+lengths (restarting z st) = diskLengths z (st .disk) and memoryLengths z (st .memory)
+lengths (formatting z d) = diskLengths z d
+lengths (looking z st s p) = diskLengths z (st .disk) and memoryLengths z (st .memory)
+
+-- the questions of a request's event; a kind that is no event fails 3
+abbrev pub decodedQuestions : Sizes → State → Decoded → Questions
+decodedQuestions z st (Known e) = questions z st e
+decodedQuestions z st Unknown = ask (decodedNumber Unknown) (same 0 1) none
+
+-- the questions after 1
+abbrev pub later : Call → Questions
+later (stepping z st e) = ask 2 (allRules z st) (questions z st e)
+later (applying z st r) = ask 2 (allRules z st) (decodedQuestions z st (decoded r))
+later (restarting z st) = ask 2 (diskRules z st) none
+later (formatting z d) = none
+later (looking z st s p) = ask 2 (allRules z st) (lookQuestions z st s p)
+
+abbrev pub asks : Call → Questions
+asks c = ask 1 (sizesFit (sizesIn c) and lengths c) (later c)
+
+-- in number order
+decoded-order : (z : Sizes) (st : State) (d : Decoded) → T (above 2 (decodedQuestions z st d))
+decoded-order z st (Known e) = in-order z st e
+decoded-order z st Unknown = tt
+
+pub later-order : (c : Call) → T (above 1 (later c))
+later-order (stepping z st e) = in-order z st e
+later-order (applying z st r) = decoded-order z st (decoded r)
+later-order (restarting z st) = tt
+later-order (formatting z d) = tt
+later-order (looking z st s p) = tt
+
+-- ── the answer, and a refusal ──
+-- the refusal is the number of the first question that fails, or 0; where it is not 0, the result is 0 and nothing has changed
+pub record Answers {A : Type 0} (q : Questions) (old : A) (o : Outcome A) : Type 0 where
+  pub first : o .answer .refusal ≡ firstNo q
+  pub result : ¬ (o .answer .refusal ≡ 0) → o .answer .result ≡ 0
+  pub left : ¬ (o .answer .refusal ≡ 0) → o .left ≡ old
+
+by-outcome : {A : Type 0} (q : Questions) (n r : ℕ) (old new : A) → n ≡ firstNo q → Answers q old (outcome n r old new)
+by-outcome q zero r old new e = record { first = e; result = λ h. absurd (h refl); left = λ h. absurd (h refl) }
+by-outcome q (suc n) r old new e = record { first = e; result = λ h. refl; left = λ h. refl }
+
+by-decoded : (z : Sizes) (st : State) (d : Decoded) → Answers (ask 1 (allFit z st) (ask 2 (allRules z st) (decodedQuestions z st d))) st (stepOf z st d)
+unfolding stepOf unknown step answer
+by-decoded z st (Known e) = by-outcome _ _ _ _ _ refl
+by-decoded z st Unknown = by-outcome _ _ _ _ _ refl
+
+pub refused-unchanged : (c : Call) → Answers (asks c) (unchanged c) (outcomeOf c)
+unfolding allFit step answer apply restart format look
+refused-unchanged (stepping z st e) = by-outcome _ _ _ _ _ refl
+refused-unchanged (applying z st r) = by-decoded z st (decoded r)
+refused-unchanged (restarting z st) = by-outcome _ _ _ _ _ refl
+refused-unchanged (formatting z d) = by-outcome _ _ _ _ _ refl
+refused-unchanged (looking z st s p) = by-outcome _ _ _ _ _ refl
