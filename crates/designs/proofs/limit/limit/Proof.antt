@@ -17,19 +17,23 @@ use Rattle.designs.proofs.limit.limit.Tie as tie
 
 returns : tie.Need-returns
 returns c =
-    let a = c .before .before .before .args in
+    let s : tie.Start = search in
+    let a = s .args in
     let o = own-no (a .sizes) (seenFiles [] [] [] (a .limits .now) []) (Event.Design (Design.Limit (a .account) (a .pages))) 3 (sym (first-no 3 (below (a .account) (a .sizes .accounts) and below (a .pages) 65536) _ (two-no (a .account) (a .sizes .accounts) (a .pages) 65536 (c .if1 .left)))) (omega arith) in
     (λ i. o i .answer, λ i. o i .left .disk .limits)
 
 cast-put16 : tie.Need-cast-put16
-cast-put16 c = let t = c .before in let a = t .before .before .before .args in
+cast-put16 c =
+    let s : tie.Start = search in
+    let t = c .before in let a = s .args in
     omega (arith, two-yes (a .account) (a .sizes .accounts) (a .pages) 65536 (t .if1 .taken) .1)
 
 returns-2 : tie.Need-returns-2
 returns-2 c =
+    let s : tie.Start = search in
     let u = c .before .before in
     let t = u .before .before in
-    let a = t .before .before .before .args in
+    let a = s .args in
     let o = carried-out (a .sizes) (seenFiles [] [] [] (a .limits .now) []) (Design.Limit (a .account) (a .pages)) 0 (sym (yes-all _ (two-yes (a .account) (a .sizes .accounts) (a .pages) 65536 (t .if1 .taken), tt))) refl in
     (λ i. o i .answer, u .put16 .ensures ∙ limit-limits (a .sizes) (seenFiles [] [] [] (a .limits .now) []) (a .account) (a .pages) ∙ (λ i. o i .left .disk .limits))
 
