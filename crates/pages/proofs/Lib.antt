@@ -1,5 +1,5 @@
 -- Laws that the proofs of this crate share.
-pub mod Seats
+pub mod ItsFrame
 pub mod Served
 pub mod OneWord
 pub mod Wiring

@@ -15,9 +15,11 @@ use Rattle.model.specs.Questions.{lookQuestions}
 use Rattle.model.specs.Pages as Pages
 use Rattle.model.specs.Part.{part, no-part}
 use Rattle.pages.specs.Seen.{seen}
-use Rattle.pages.specs.Asks.{seat, slotAsked, frameAsked}
+use Rattle.leaves.specs.Asks.{slotAsked}
+use Rattle.leaves.specs.FrameLaws.{frameIn}
+use Rattle.pages.specs.Asks.{frameAsked}
 use Rattle.pages.specs.Looks.{placed}
-use Rattle.pages.proofs.Seats.{seat-found}
+use Rattle.pages.proofs.ItsFrame.{its-found}
 use Rattle.pages.proofs.Served.{pageTest, pageRange, page-test, served-answer}
 
 module _ (z : Sizes) (fs : List Frame) (numbers active : List ℕ) (s p : ℕ) where
@@ -29,11 +31,11 @@ module _ (z : Sizes) (fs : List Frame) (numbers active : List ℕ) (s p : ℕ) w
     unfolding placed
     placed-no h = no-part n (Pages.lookStart z (seen (take (z .frames) fs) numbers [] [] active) s p) (z .words) h ∙ ap (λ (m : ℕ). part m (Pages.lookStart z (seen (take (z .frames) fs) numbers [] [] active) s p) (z .words)) answered
 
-    pub placed-yes : n ≡ 0 → (f k : ℕ) → f ≡ seat z fs (pageOf z s p) → k ≡ f * z .words + 0 → _≡_ {A = Part} (record { refusal = 0; start = k; count = z .words }) (placed z (seen (take (z .frames) fs) numbers [] [] active) s p)
+    pub placed-yes : n ≡ 0 → (f k : ℕ) → f ≡ frameIn (z .frames) fs (pageOf z s p) → k ≡ f * z .words + 0 → _≡_ {A = Part} (record { refusal = 0; start = k; count = z .words }) (placed z (seen (take (z .frames) fs) numbers [] [] active) s p)
     unfolding placed Pages.lookStart
     placed-yes h f k ef ek =
         let a : k ≡ f * z .words = ek ∙ omega arith in
-        ap (λ (m : ℕ). part 0 m (z .words)) (a ∙ ap (λ (j : ℕ). j * z .words) (ef ∙ seat-found z fs (pageOf z s p) (frames (seen (take (z .frames) fs) numbers [] [] active)) (λ x l. refl)))
+        ap (λ (m : ℕ). part 0 m (z .words)) (a ∙ ap (λ (j : ℕ). j * z .words) (ef ∙ its-found z fs (pageOf z s p) (frames (seen (take (z .frames) fs) numbers [] [] active)) (λ x l. refl)))
         ∙ ap (λ (m : ℕ). part m (Pages.lookStart z (seen (take (z .frames) fs) numbers [] [] active) s p) (z .words)) (sym h ∙ answered)
 
   pub place-fits : (f k : ℕ) → f < z .frames → k ≡ f * z .words + 0 → k + z .words ≤ z .frames * z .words

@@ -1,19 +1,20 @@
 -- The questions of a read, a write and a page look: as the code asks them, and what they give.
 use mathlib.Core.Path.{_≡_, refl, _∙_}
 use mathlib.Core.Bool.{Bool, true, _&&_}
-use mathlib.Core.List.{List}
+use mathlib.Core.List.{List, []}
 use Prim.Native.Nat.{ℕ, _<_}
 use lib.Dec.{ltb}
 use lib.ListN.{take}
-use Rattle.tables.specs.Rule.{Rule, is, below, _and_, test, sound}
-use Rattle.tables.specs.Questions.{Questions, ask, firstNo}
-use Rattle.tables.specs.Also.{_also_, ask-same}
+use Rattle.tables.specs.Rule.{Rule, below, _and_, test, sound}
+use Rattle.tables.specs.Questions.{firstNo}
+use Rattle.tables.specs.Also.{_also_}
 use Rattle.model.specs.declared.sizes.Sizes.{Sizes}
 use Rattle.model.specs.declared.frame.Frame.{Frame}
 use Rattle.model.specs.State.{pageOf}
 use Rattle.model.specs.Questions.{served}
 use Rattle.pages.specs.Seen.{seen}
-use Rattle.pages.specs.Asks.{slotAsked, frameAsked}
+use Rattle.leaves.specs.Asks.{slotAsked, asked-range}
+use Rattle.pages.specs.Asks.{frameAsked}
 
 -- the ranges as the code tests them
 abbrev pub pageTest : Sizes → ℕ → ℕ → Bool
@@ -44,12 +45,13 @@ pub word-test : (z : Sizes) (s p w : ℕ) → wordTest z s p w ≡ test (wordRan
 unfolding test
 word-test z s p w = refl
 
--- a range told by its test
-pub asked-range : (b : Bool) (range : Rule) (q : Questions) → b ≡ test range → firstNo (ask 3 (is b) q) ≡ firstNo (ask 3 range q)
-unfolding test
-asked-range b range q e = ask-same 3 (is b) range q e
-
 module _ (z : Sizes) (fs : List Frame) (numbers words list active : List ℕ) (range : Rule) (s p n : ℕ) where
   pub served-answer : (b : Bool) → b ≡ test range → n ≡ firstNo (slotAsked b s numbers active also frameAsked z (take (z .frames) fs) (pageOf z s p))
       → n ≡ firstNo (served z (seen (take (z .frames) fs) numbers words list active) range s p)
   served-answer b t e = e ∙ asked-range b range _ t
+
+-- .. with a word
+module _ (z : Sizes) (fs : List Frame) (numbers words active : List ℕ) (s p w n : ℕ) where
+  pub word-answer : n ≡ firstNo (slotAsked (wordTest z s p w) s numbers active also frameAsked z (take (z .frames) fs) (pageOf z s p))
+      → n ≡ firstNo (served z (seen (take (z .frames) fs) numbers words [] active) (wordRange z s p w) s p)
+  word-answer = served-answer z fs numbers words [] active (wordRange z s p w) s p n (wordTest z s p w) (word-test z s p w)

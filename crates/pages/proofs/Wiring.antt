@@ -21,11 +21,12 @@ use Rattle.model.specs.Pages as Pages
 use Rattle.model.specs.Step.{carried}
 use Rattle.model.specs.Own.{own, refusal, first-no}
 use Rattle.model.specs.OwnLaws.{done, own-no, own-yes}
-use Rattle.leaves.specs.FrameLaws.{frame-take}
+use Rattle.leaves.specs.FrameLaws.{frame-take, frameIn, isUnwired}
 use Rattle.pages.specs.Seen.{seen}
 use Rattle.pages.specs.Needs.{Seats, RemovalList}
-use Rattle.pages.specs.Asks.{seat, slotAsked, frameAsked, isUnwired, unwiredAsked, wiredAsked}
-use Rattle.pages.proofs.Seats.{seat-found, seat-changed, seat-tells, seat-told}
+use Rattle.leaves.specs.Asks.{slotAsked}
+use Rattle.pages.specs.Asks.{frameAsked, unwiredAsked, wiredAsked}
+use Rattle.pages.proofs.ItsFrame.{its-found, its-changed, its-tells, its-told}
 use Rattle.pages.proofs.Served.{pageTest, pageRange, page-test, served-answer}
 
 module _ (z : Sizes) (fs : List Frame) (numbers list active : List ℕ) (s p : ℕ) where
@@ -56,27 +57,27 @@ module _ (z : Sizes) (fs : List Frame) (numbers list active : List ℕ) (s p : �
     unwire-no h = own-no z st (Event.Page (Page.Unwire s p)) n (more-no (wiredAsked z (take (z .frames) fs) i) h) h
 
     -- g is the page's frame
-    module _ (yes : n ≡ 0) (h : seat z fs i < z .frames) (seats : Seats z (take (z .frames) fs)) (g : Frame) (eg : g ≡ frameAt fs (seat z fs i)) where
+    module _ (yes : n ≡ 0) (h : frameIn (z .frames) fs i < z .frames) (seats : Seats z (take (z .frames) fs)) (g : Frame) (eg : g ≡ frameAt fs (frameIn (z .frames) fs i)) where
       pub wire-wired : g .wired ≡ 1 → refusal 16 st ≡ own z st (Event.Page (Page.Wire s p))
-      wire-wired w = own-no z st (Event.Page (Page.Wire s p)) 16 (sym (first-no 16 _ _ (λ k. seat-tells z fs i h isUnwired k (rw eg at w))) ∙ more-yes (unwiredAsked z (take (z .frames) fs) i) yes) (λ x. omega arith)
+      wire-wired w = own-no z st (Event.Page (Page.Wire s p)) 16 (sym (first-no 16 _ _ (λ k. its-tells z fs i h isUnwired k (rw eg at w))) ∙ more-yes (unwiredAsked z (take (z .frames) fs) i) yes) (λ x. omega arith)
 
       pub wire-yes : ¬ (g .wired ≡ 1) → done z st (Event.Page (Page.Wire s p)) ≡ own z st (Event.Page (Page.Wire s p))
-      wire-yes w = own-yes z st (Event.Page (Page.Wire s p)) 0 (sym (yes-all _ (seat-told z fs i h seats isUnwired (rw eg at w), tt)) ∙ more-yes (unwiredAsked z (take (z .frames) fs) i) yes) refl
+      wire-yes w = own-yes z st (Event.Page (Page.Wire s p)) 0 (sym (yes-all _ (its-told z fs i h seats isUnwired (rw eg at w), tt)) ∙ more-yes (unwiredAsked z (take (z .frames) fs) i) yes) refl
 
       pub unwire-unwired : ¬ (g .wired ≡ 1) → refusal 17 st ≡ own z st (Event.Page (Page.Unwire s p))
-      unwire-unwired w = own-no z st (Event.Page (Page.Unwire s p)) 17 (sym (first-no 17 _ _ (λ k. k (seat-told z fs i h seats isUnwired (rw eg at w)))) ∙ more-yes (wiredAsked z (take (z .frames) fs) i) yes) (λ x. omega arith)
+      unwire-unwired w = own-no z st (Event.Page (Page.Unwire s p)) 17 (sym (first-no 17 _ _ (λ k. k (its-told z fs i h seats isUnwired (rw eg at w)))) ∙ more-yes (wiredAsked z (take (z .frames) fs) i) yes) (λ x. omega arith)
 
       pub unwire-yes : g .wired ≡ 1 → done z st (Event.Page (Page.Unwire s p)) ≡ own z st (Event.Page (Page.Unwire s p))
-      unwire-yes w = own-yes z st (Event.Page (Page.Unwire s p)) 0 (sym (yes-all _ ((λ k. seat-tells z fs i h isUnwired k (rw eg at w)), tt)) ∙ more-yes (wiredAsked z (take (z .frames) fs) i) yes) refl
+      unwire-yes w = own-yes z st (Event.Page (Page.Unwire s p)) 0 (sym (yes-all _ ((λ k. its-tells z fs i h isUnwired k (rw eg at w)), tt)) ∙ more-yes (wiredAsked z (take (z .frames) fs) i) yes) refl
 
   -- ── the work ──
-  module _ (h : seat z fs i < z .frames) (f : ℕ) (ef : f ≡ seat z fs i) where
+  module _ (h : frameIn (z .frames) fs i < z .frames) (f : ℕ) (ef : f ≡ frameIn (z .frames) fs i) where
     place : f ≡ frameOf z (frames st) i
-    place = ef ∙ seat-found z fs i (frames st) (λ k l. refl)
+    place = ef ∙ its-found z fs i (frames st) (λ k l. refl)
 
     pub wire-frames : (g : Frame) (l : List Frame) → g ≡ frameAt fs f → l ≡ set fs f (setWired 1 g) → take (z .frames) l ≡ done z st (Event.Page (Page.Wire s p)) .left .memory .core .frames
     unfolding carried Pages.wire
-    wire-frames g l eg el = seat-changed z fs i (frames st) (λ k j. refl) h (setWired 1) f g l ef eg el
+    wire-frames g l eg el = its-changed z fs i (frames st) (λ k j. refl) h (setWired 1) f g l ef eg el
 
     pub wire-list : (m : List ℕ) → m ≡ remove list f → m ≡ done z st (Event.Page (Page.Wire s p)) .left .memory .core .removal-list
     unfolding carried Pages.wire
@@ -84,7 +85,7 @@ module _ (z : Sizes) (fs : List Frame) (numbers list active : List ℕ) (s p : �
 
     pub unwire-frames : (g : Frame) (l : List Frame) → g ≡ frameAt fs f → l ≡ set fs f (setWired 0 (setInitial 0 g)) → take (z .frames) l ≡ done z st (Event.Page (Page.Unwire s p)) .left .memory .core .frames
     unfolding carried Pages.unwire
-    unwire-frames g l eg el = seat-changed z fs i (frames st) (λ k j. refl) h (λ x. setWired 0 (setInitial 0 x)) f g l ef eg el
+    unwire-frames g l eg el = its-changed z fs i (frames st) (λ k j. refl) h (λ x. setWired 0 (setInitial 0 x)) f g l ef eg el
 
     pub unwire-list : (m : List ℕ) → m ≡ push-back list f → m ≡ done z st (Event.Page (Page.Unwire s p)) .left .memory .core .removal-list
     unfolding carried Pages.unwire
