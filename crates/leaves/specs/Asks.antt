@@ -1,13 +1,13 @@
 -- The questions that begin every event about a slot, in the parts in which the code asks them.
 use mathlib.Core.Path.{_≡_, refl, sym, _∙_}
-use mathlib.Core.Bool.{Bool}
+use mathlib.Core.Bool.{Bool, _&&_}
 use mathlib.Core.List.{List}
 use Prim.Native.Nat.{ℕ}
 use lib.Dec.{T, ltb}
 use Rattle.tables.specs.Base.{at}
 use Rattle.tables.specs.Questions.{Questions, none, ask, firstNo, above, all-yes}
 use Rattle.tables.specs.Also.{_also_, also-yes, also-no, ask-same}
-use Rattle.tables.specs.Rule.{Rule, Holds, same, below, is, non, test, sound}
+use Rattle.tables.specs.Rule.{Rule, Holds, same, below, is, non, _and_, test, sound}
 
 -- 4: the slot filled
 abbrev pub askFilled : ℕ → List ℕ → Questions
@@ -38,10 +38,18 @@ pub asked-range : (b : Bool) (range : Rule) (q : Questions) → b ≡ test range
 unfolding test
 asked-range b range q e = ask-same 3 (is b) range q e
 
--- .. as a slot's is
-pub slot-range : (s slots : ℕ) → ltb s slots ≡ test (below s slots)
+-- ranges as the code tests them
+pub one-below : (a b : ℕ) → ltb a b ≡ test (below a b)
 unfolding test
-slot-range s slots = refl
+one-below a b = refl
+
+pub two-below : (a b c d : ℕ) → (ltb a b && ltb c d) ≡ test (below a b and below c d)
+unfolding test
+two-below a b c d = refl
+
+pub three-below : (a b c d e f : ℕ) → (ltb a b && (ltb c d && ltb e f)) ≡ test (below a b and below c d and below e f)
+unfolding test
+three-below a b c d e f = refl
 
 -- n answers 3 and the questions p, and the questions q come after them
 module _ (b : Bool) (range : Rule) (t : b ≡ test range) (p q : Questions) (n : ℕ) (e : n ≡ firstNo (ask 3 (is b) p)) where

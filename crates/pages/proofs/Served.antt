@@ -1,11 +1,12 @@
 -- The questions of a read, a write and a page look: as the code asks them, and what they give.
-use mathlib.Core.Path.{_≡_, refl, _∙_}
+use mathlib.Core.Path.{_≡_, _∙_}
 use mathlib.Core.Bool.{Bool, true, _&&_}
 use mathlib.Core.List.{List, []}
 use Prim.Native.Nat.{ℕ, _<_}
 use lib.Dec.{ltb}
 use lib.ListN.{take}
-use Rattle.tables.specs.Rule.{Rule, below, _and_, test, sound}
+use Rattle.tables.specs.Rule.{Rule, below, _and_, test}
+use Rattle.tables.specs.Turn.{said-yes}
 use Rattle.tables.specs.Questions.{firstNo}
 use Rattle.tables.specs.Also.{_also_}
 use Rattle.model.specs.declared.sizes.Sizes.{Sizes}
@@ -13,7 +14,7 @@ use Rattle.model.specs.declared.frame.Frame.{Frame}
 use Rattle.model.specs.State.{pageOf}
 use Rattle.model.specs.Questions.{served}
 use Rattle.pages.specs.Seen.{seen}
-use Rattle.leaves.specs.Asks.{slotAsked, asked-range}
+use Rattle.leaves.specs.Asks.{slotAsked, asked-range, two-below, three-below}
 use Rattle.pages.specs.Asks.{frameAsked}
 
 -- the ranges as the code tests them
@@ -29,21 +30,17 @@ pageRange z s p = below s (z .slots) and below p (z .pages)
 abbrev pub wordRange : Sizes → ℕ → ℕ → ℕ → Rule
 wordRange z s p w = below s (z .slots) and below p (z .pages) and below w (z .words)
 
-pub page-range : (z : Sizes) (s p : ℕ) → pageTest z s p ≡ true → (s < z .slots) × (p < z .pages)
-unfolding test
-page-range z s p e = sound (pageRange z s p) (rw e tt)
-
-pub word-range : (z : Sizes) (s p w : ℕ) → wordTest z s p w ≡ true → (s < z .slots) × (p < z .pages) × (w < z .words)
-unfolding test
-word-range z s p w e = let r = sound (wordRange z s p w) (rw e tt) in (r .0, r .1 .0, r .1 .1)
-
 pub page-test : (z : Sizes) (s p : ℕ) → pageTest z s p ≡ test (pageRange z s p)
-unfolding test
-page-test z s p = refl
+page-test z s p = two-below s (z .slots) p (z .pages)
 
 pub word-test : (z : Sizes) (s p w : ℕ) → wordTest z s p w ≡ test (wordRange z s p w)
-unfolding test
-word-test z s p w = refl
+word-test z s p w = three-below s (z .slots) p (z .pages) w (z .words)
+
+pub page-range : (z : Sizes) (s p : ℕ) → pageTest z s p ≡ true → (s < z .slots) × (p < z .pages)
+page-range z s p = said-yes (pageRange z s p) (page-test z s p)
+
+pub word-range : (z : Sizes) (s p w : ℕ) → wordTest z s p w ≡ true → (s < z .slots) × (p < z .pages) × (w < z .words)
+word-range z s p w e = let r = said-yes (wordRange z s p w) (word-test z s p w) e in (r .0, r .1 .0, r .1 .1)
 
 module _ (z : Sizes) (fs : List Frame) (numbers words list active : List ℕ) (range : Rule) (s p n : ℕ) where
   pub served-answer : (b : Bool) → b ≡ test range → n ≡ firstNo (slotAsked b s numbers active also frameAsked z (take (z .frames) fs) (pageOf z s p))

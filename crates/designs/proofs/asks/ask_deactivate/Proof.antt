@@ -5,7 +5,7 @@ use lib.ListN.{take}
 use Rattle.tables.specs.Questions.{Questions}
 use Rattle.tables.specs.Also.{_also_}
 use Rattle.model.specs.Questions.{wouldStore}
-use Rattle.leaves.specs.Asks.{askFilled, askActive, askNoUpdate, slot-range, part-no, part-yes, part-range}
+use Rattle.leaves.specs.Asks.{askFilled, askActive, askNoUpdate, one-below, part-no, part-yes, part-range}
 use Rattle.designs.specs.Asks.{heldAsked}
 use Rattle.designs.proofs.asks.ask_deactivate.Statement.{statement}
 use Rattle.designs.proofs.asks.ask_deactivate.Tie as tie
@@ -21,14 +21,14 @@ returns : tie.Need-returns
 unfolding wouldStore
 returns c =
     let s : tie.Start = search in
-    part-no _ _ (slot-range (s .args .slot) (s .args .sizes .slots)) (idle s) (held s) _ (c .before .ask-idle .ensures) (c .if1 .taken)
+    part-no _ _ (one-below (s .args .slot) (s .args .sizes .slots)) (idle s) (held s) _ (c .before .ask-idle .ensures) (c .if1 .taken)
 
 ask-held-requires : tie.Need-ask-held-requires
 ask-held-requires c κs =
     let e : tie.Else1 = search in
     let k : tie.After-ask-idle = search in
     let s : tie.Start = search in
-    (s .pre .0, part-range _ _ (slot-range (s .args .slot) (s .args .sizes .slots)) (idle s) (held s) _ (k .ask-idle .ensures) tt (e .if1 .left), s .pre .1)
+    (s .pre .0, part-range _ _ (one-below (s .args .slot) (s .args .sizes .slots)) (idle s) (held s) _ (k .ask-idle .ensures) tt (e .if1 .left), s .pre .1)
 
 returns-2 : tie.Need-returns-2
 unfolding wouldStore
@@ -36,7 +36,7 @@ returns-2 c =
     let e : tie.Else1 = search in
     let k : tie.After-ask-idle = search in
     let s : tie.Start = search in
-    c .ask-held .ensures ∙ part-yes _ _ (slot-range (s .args .slot) (s .args .sizes .slots)) (idle s) (held s) _ (k .ask-idle .ensures) tt (e .if1 .left)
+    c .ask-held .ensures ∙ part-yes _ _ (one-below (s .args .slot) (s .args .sizes .slots)) (idle s) (held s) _ (k .ask-idle .ensures) tt (e .if1 .left)
 
 pub ask-deactivate-spec : {M : Type 1} → statement M
 ask-deactivate-spec = tie.close (tie.spec (λ c κs. search needs) returns ask-held-requires returns-2)
