@@ -1,7 +1,7 @@
 -- The questions of a read, a write and a page look: as the code asks them, and what they give.
 use mathlib.Core.Path.{_≡_, _∙_}
 use mathlib.Core.Bool.{Bool, true, _&&_}
-use mathlib.Core.List.{List, []}
+use mathlib.Core.List.{List}
 use Prim.Native.Nat.{ℕ, _<_}
 use lib.Dec.{ltb}
 use lib.ListN.{take}
@@ -11,7 +11,7 @@ use Rattle.tables.specs.Questions.{firstNo}
 use Rattle.tables.specs.Also.{_also_}
 use Rattle.model.specs.declared.sizes.Sizes.{Sizes}
 use Rattle.model.specs.declared.frame.Frame.{Frame}
-use Rattle.model.specs.State.{pageOf}
+use Rattle.model.specs.State.{State, pageOf}
 use Rattle.model.specs.Questions.{served}
 use Rattle.pages.specs.Seen.{seen}
 use Rattle.leaves.specs.Asks.{slotAsked, asked-range, two-below, three-below}
@@ -42,13 +42,27 @@ page-range z s p = said-yes (pageRange z s p) (page-test z s p)
 pub word-range : (z : Sizes) (s p w : ℕ) → wordTest z s p w ≡ true → (s < z .slots) × (p < z .pages) × (w < z .words)
 word-range z s p w e = let r = said-yes (wordRange z s p w) (word-test z s p w) e in (r .0, r .1 .0, r .1 .1)
 
-module _ (z : Sizes) (fs : List Frame) (numbers words list active : List ℕ) (range : Rule) (s p n : ℕ) where
-  pub served-answer : (b : Bool) → b ≡ test range → n ≡ firstNo (slotAsked b s numbers active also frameAsked z (take (z .frames) fs) (pageOf z s p))
-      → n ≡ firstNo (served z (seen (take (z .frames) fs) numbers words list active) range s p)
-  served-answer b t e = e ∙ asked-range b range _ t
+-- what an event about a page in a frame is passed
+pub record Call : Type 0 where
+  pub sizes : Sizes
+  pub frames : List Frame
+  pub numbers : List ℕ
+  pub words : List ℕ
+  pub list : List ℕ
+  pub active : List ℕ
+  pub slot : ℕ
+  pub page : ℕ
 
--- .. with a word
-module _ (z : Sizes) (fs : List Frame) (numbers words active : List ℕ) (s p w n : ℕ) where
-  pub word-answer : n ≡ firstNo (slotAsked (wordTest z s p w) s numbers active also frameAsked z (take (z .frames) fs) (pageOf z s p))
-      → n ≡ firstNo (served z (seen (take (z .frames) fs) numbers words [] active) (wordRange z s p w) s p)
-  word-answer = served-answer z fs numbers words [] active (wordRange z s p w) s p n (wordTest z s p w) (word-test z s p w)
+module _ (a : Call) where
+  -- the state that it sees, and the page's place
+  abbrev pub state : State
+  state = seen (take (a .sizes .frames) (a .frames)) (a .numbers) (a .words) (a .list) (a .active)
+
+  abbrev pub flat : ℕ
+  flat = pageOf (a .sizes) (a .slot) (a .page)
+
+  -- n answers 3, 4, 8, 13 and 14, as the code asks them: b tells the range
+  module _ (range : Rule) (n : ℕ) (b : Bool) (t : b ≡ test range) where
+    pub served-answer : n ≡ firstNo (slotAsked b (a .slot) (a .numbers) (a .active) also frameAsked (a .sizes) (take (a .sizes .frames) (a .frames)) flat)
+        → n ≡ firstNo (served (a .sizes) state range (a .slot) (a .page))
+    served-answer e = e ∙ asked-range b range _ t

@@ -6,16 +6,14 @@ use lib.ListN.{take}
 use Rattle.model.specs.declared.event.Event.{Event}
 use Rattle.model.specs.declared.event.Event.the-variants as Event
 use Rattle.model.specs.declared.event.Page.the-variants as Page
-use Rattle.model.specs.State.{State}
 use Rattle.model.specs.OwnLaws.{own-no, own-yes}
-use Rattle.pages.specs.Seen.{seen}
-use Rattle.pages.proofs.Served.{word-range, word-answer}
-use Rattle.pages.proofs.OneWord.{read-answer, read-frames}
+use Rattle.pages.proofs.Served.{Call, state, word-range}
+use Rattle.pages.proofs.InFrame.{word-answer, read-answer, read-frames}
 use Rattle.pages.proofs.read.read.Statement.{statement}
 use Rattle.pages.proofs.read.read.Tie as tie
 
-abbrev state : tie.Start → State
-state s = let a = s .args in seen (take (a .sizes .frames) (a .frames)) (a .numbers .now) (a .words .now) [] (a .active .now)
+abbrev call : tie.Start → Call
+call s = let a = s .args in record { sizes = a .sizes; frames = a .frames; numbers = a .numbers .now; words = a .words .now; list = []; active = a .active .now; slot = a .slot; page = a .page }
 
 abbrev event : tie.Start → Event
 event s = let a = s .args in Event.Page (Page.Read (a .slot) (a .page) (a .word))
@@ -34,8 +32,8 @@ returns c =
     let x = c .answered .ensures in
     let k = c .before .before in
     let a = s .args in
-    let q = word-answer (a .sizes) (a .frames) (a .numbers .now) (a .words .now) (a .active .now) (a .slot) (a .page) (a .word) (k .ask-served .result) (k .ask-served .ensures .0) in
-    let o = own-no (a .sizes) (state s) (event s) (k .ask-served .result) q (c .before .if1 .taken) in
+    let q = word-answer (call s) (a .word) (k .ask-served .result) (k .ask-served .ensures .0) in
+    let o = own-no (a .sizes) (state (call s)) (event s) (k .ask-served .result) q (c .before .if1 .taken) in
     ((λ i. x i .answer) ∙ (λ i. o i .answer), (λ i. take (a .sizes .frames) (x i .frames)) ∙ (λ i. o i .left .memory .core .frames))
 
 its-frame-requires : tie.Need-its-frame-requires
@@ -63,11 +61,11 @@ returns-2 c =
     let k = f .before .before in
     let s = start k in
     let a = s .args in
-    let q = word-answer (a .sizes) (a .frames) (a .numbers .now) (a .words .now) (a .active .now) (a .slot) (a .page) (a .word) (k .ask-served .result) (k .ask-served .ensures .0) in
+    let q = word-answer (call s) (a .word) (k .ask-served .result) (k .ask-served .ensures .0) in
     let h = k .ask-served .ensures .1 (f .before .if1 .left) .1 in
-    let o = own-yes (a .sizes) (state s) (event s) (k .ask-served .result) q (f .before .if1 .left) in (
-      (λ i. x i .answer) ∙ read-answer (a .sizes) (a .frames) (a .numbers .now) (a .words .now) (a .active .now) (a .slot) (a .page) (a .word) h (f .its-frame .result) (g .frame-at .result) (l .with-frame .result) (f .its-frame .ensures) (g .frame-at .ensures) (w .word-of .result) (e .at32 .result) (w .word-of .ensures) (e .at32 .ensures) ∙ (λ i. o i .answer),
-      (λ i. take (a .sizes .frames) (x i .frames)) ∙ read-frames (a .sizes) (a .frames) (a .numbers .now) (a .words .now) (a .active .now) (a .slot) (a .page) (a .word) h (f .its-frame .result) (g .frame-at .result) (l .with-frame .result) (f .its-frame .ensures) (g .frame-at .ensures) (l .with-frame .ensures) ∙ (λ i. o i .left .memory .core .frames),
+    let o = own-yes (a .sizes) (state (call s)) (event s) (k .ask-served .result) q (f .before .if1 .left) in (
+      (λ i. x i .answer) ∙ read-answer (call s) (a .word) h (f .its-frame .result) (g .frame-at .result) (l .with-frame .result) (f .its-frame .ensures) (g .frame-at .ensures) (w .word-of .result) (e .at32 .result) (w .word-of .ensures) (e .at32 .ensures) ∙ (λ i. o i .answer),
+      (λ i. take (a .sizes .frames) (x i .frames)) ∙ read-frames (call s) (a .word) h (f .its-frame .result) (g .frame-at .result) (l .with-frame .result) (f .its-frame .ensures) (g .frame-at .ensures) (l .with-frame .ensures) ∙ (λ i. o i .left .memory .core .frames),
     )
 
 pub read-spec : {M : Type 1} → statement M

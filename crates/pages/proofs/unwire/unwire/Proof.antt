@@ -1,15 +1,18 @@
 -- `unwire` meets its contract: the questions, then the frame and the removal list.
 use borrow.Author.Needs.{needs}
-use mathlib.Core.List.{List}
+use mathlib.Core.List.{List, []}
 use lib.ListN.{take}
 use Rattle.model.specs.declared.frame.Frame.{Frame}
 use mathlib.Core.Path.{ap, _∙_}
 use Rattle.model.specs.Step.{result}
 use Rattle.model.specs.State.{frameAt}
-use Rattle.pages.proofs.Served.{page-range}
-use Rattle.pages.proofs.Wiring.{unwire-no, unwire-unwired, unwire-yes, unwire-frames, unwire-list, unwire-needs}
+use Rattle.pages.proofs.Served.{Call, page-range}
+use Rattle.pages.proofs.InFrame.{unwire-no, unwire-unwired, unwire-yes, unwire-frames, unwire-list, unwire-needs}
 use Rattle.pages.proofs.unwire.unwire.Statement.{statement}
 use Rattle.pages.proofs.unwire.unwire.Tie as tie
+
+abbrev call : tie.Start → Call
+call s = let a = s .args in record { sizes = a .sizes; frames = a .frames; numbers = a .numbers .now; words = []; list = a .removal-list .now; active = a .active .now; slot = a .slot; page = a .page }
 
 ask-served-requires : tie.Need-ask-served-requires
 ask-served-requires c κs = let s : tie.Start = search in (s .pre .0, λ e. page-range (s .args .sizes) (s .args .slot) (s .args .page) e)
@@ -19,7 +22,7 @@ returns c =
     let s : tie.Start = search in
     let k = c .before .before in
     let a = s .args in
-    let o = unwire-no (a .sizes) (a .frames) (a .numbers .now) (a .removal-list .now) (a .active .now) (a .slot) (a .page) (k .ask-served .result) (k .ask-served .ensures .0) (c .before .if1 .taken) in
+    let o = unwire-no (call s) (k .ask-served .result) (k .ask-served .ensures .0) (c .before .if1 .taken) in
     let r = c .answered .ensures in
     ((λ i. r i .answer) ∙ (λ i. o i .answer), (ap (λ (l : List Frame). take (a .sizes .frames) l) (λ i. r i .frames) ∙ (λ i. o i .left .memory .core .frames), (λ i. o i .left .memory .core .removal-list)))
 
@@ -37,7 +40,7 @@ returns-2 c =
     let s : tie.Start = search in
     let a = s .args in
     let h = k .ask-served .ensures .1 (f .before .if1 .left) .1 in
-    let o = unwire-unwired (a .sizes) (a .frames) (a .numbers .now) (a .removal-list .now) (a .active .now) (a .slot) (a .page) (k .ask-served .result) (k .ask-served .ensures .0) (f .before .if1 .left) h (s .pre .0) (g .frame-at .result) (g .frame-at .ensures ∙ ap (frameAt (a .frames)) (f .its-frame .ensures)) (c .before .if2 .taken) in
+    let o = unwire-unwired (call s) (k .ask-served .result) (k .ask-served .ensures .0) (f .before .if1 .left) h (s .pre .0) (g .frame-at .result) (g .frame-at .ensures ∙ ap (frameAt (a .frames)) (f .its-frame .ensures)) (c .before .if2 .taken) in
     let r = c .answered2 .ensures in
     ((λ i. r i .answer) ∙ (λ i. o i .answer), (ap (λ (l : List Frame). take (a .sizes .frames) l) (λ i. r i .frames) ∙ (λ i. o i .left .memory .core .frames), (λ i. o i .left .memory .core .removal-list)))
 
@@ -48,7 +51,7 @@ push-back-requires c κs =
     let k = f .before .before in
     let s : tie.Start = search in
     let a = s .args in
-    unwire-needs (a .sizes) (a .frames) (a .numbers .now) (a .removal-list .now) (a .active .now) (a .slot) (a .page) (k .ask-served .ensures .1 (f .before .if1 .left) .1) (f .its-frame .result) (f .its-frame .ensures) (s .pre .0) (s .pre .1) (g .frame-at .result) (g .frame-at .ensures) (c .before .if2 .left)
+    unwire-needs (call s) (k .ask-served .ensures .1 (f .before .if1 .left) .1) (f .its-frame .result) (f .its-frame .ensures) (s .pre .0) (s .pre .1) (g .frame-at .result) (g .frame-at .ensures) (c .before .if2 .left)
 
 returns-3 : tie.Need-returns-3
 unfolding result
@@ -61,12 +64,12 @@ returns-3 c =
     let s : tie.Start = search in
     let a = s .args in
     let h = k .ask-served .ensures .1 (f .before .if1 .left) .1 in
-    let o = unwire-yes (a .sizes) (a .frames) (a .numbers .now) (a .removal-list .now) (a .active .now) (a .slot) (a .page) (k .ask-served .result) (k .ask-served .ensures .0) (f .before .if1 .left) h (s .pre .0) (g .frame-at .result) (g .frame-at .ensures ∙ ap (frameAt (a .frames)) (f .its-frame .ensures)) (q .before .before .if2 .left) in
+    let o = unwire-yes (call s) (k .ask-served .result) (k .ask-served .ensures .0) (f .before .if1 .left) h (s .pre .0) (g .frame-at .result) (g .frame-at .ensures ∙ ap (frameAt (a .frames)) (f .its-frame .ensures)) (q .before .before .if2 .left) in
     let r = c .answered3 .ensures in (
       (λ i. r i .answer) ∙ (λ i. o i .answer),
       (
-        ap (λ (l : List Frame). take (a .sizes .frames) l) (λ i. r i .frames) ∙ unwire-frames (a .sizes) (a .frames) (a .numbers .now) (a .removal-list .now) (a .active .now) (a .slot) (a .page) h (f .its-frame .result) (f .its-frame .ensures) (g .frame-at .result) (l .with-frame .result) (g .frame-at .ensures) (l .with-frame .ensures) ∙ (λ i. o i .left .memory .core .frames),
-        unwire-list (a .sizes) (a .frames) (a .numbers .now) (a .removal-list .now) (a .active .now) (a .slot) (a .page) h (f .its-frame .result) (f .its-frame .ensures) _ (q .push-back .ensures) ∙ (λ i. o i .left .memory .core .removal-list),
+        ap (λ (l : List Frame). take (a .sizes .frames) l) (λ i. r i .frames) ∙ unwire-frames (call s) h (f .its-frame .result) (f .its-frame .ensures) (g .frame-at .result) (l .with-frame .result) (g .frame-at .ensures) (l .with-frame .ensures) ∙ (λ i. o i .left .memory .core .frames),
+        unwire-list (call s) h (f .its-frame .result) (f .its-frame .ensures) _ (q .push-back .ensures) ∙ (λ i. o i .left .memory .core .removal-list),
       ),
     )
 
