@@ -1,5 +1,5 @@
 #!/usr/bin/env python3
-"""Compares include/keeper.h with the source: structs field by field, parameters call by call, limits. python3 tools/test_header.py"""
+"""Compares include/keeper.h with the source: structs field by field, parameters call by call, limits, refusals. python3 tools/test_header.py"""
 
 import pathlib
 import re
@@ -103,6 +103,12 @@ class Header(unittest.TestCase):
         header = dict(re.findall(r"KEEPER_(MOST_\w+) = (\d+)", HEADER.read_text()))
         self.assertEqual({name: int(value) for name, value in source.items()}, {name: int(value) for name, value in header.items()})
         self.assertEqual(len(header), 6)
+
+    def test_refusals(self):
+        source = re.findall(r"pub const (\w+): u32 = (\d+);", (MODEL / "refusals.rt").read_text())
+        header = re.findall(r"KEEPER_(\w+) = (\d+)", HEADER.read_text().partition("/* The refusals. */")[2])
+        self.assertEqual([("DONE", "0")] + source, header)
+        self.assertEqual(len(source), 23)
 
 
 if __name__ == "__main__":

@@ -9,18 +9,11 @@ use Rattle.tables.specs.Base.{_⇒_}
 use Rattle.tables.specs.Rule.{Holds, test, same, below, non, _and_, _or_, _then_, alike}
 use Rattle.tables.specs.Turn.{said-yes, said-no}
 use Rattle.model.specs.declared.frame.Frame.{Frame}
+use Rattle.leaves.specs.Asks.{two-below, three-below}
 use Rattle.leaves.specs.FrameLaws.{frame-take}
 use Rattle.designs.specs.Asks.{unframed}
 
 -- ranges as the code tests them
-two-below : (a b c d : ℕ) → (ltb a b && ltb c d) ≡ test (below a b and below c d)
-unfolding test
-two-below a b c d = refl
-
-three-below : (a b c d e f : ℕ) → (ltb a b && (ltb c d && ltb e f)) ≡ test (below a b and below c d and below e f)
-unfolding test
-three-below a b c d e f = refl
-
 pub two-yes : (a b c d : ℕ) → (ltb a b && ltb c d) ≡ true → Holds (below a b and below c d)
 two-yes a b c d = said-yes (below a b and below c d) (two-below a b c d)
 

@@ -3,16 +3,12 @@ use mathlib.Core.List.{List}
 use Prim.Native.Nat.{ℕ, suc, _+_, _*_}
 use Rattle.tables.specs.Base.{at}
 use Rattle.tables.specs.Questions.{Questions, none, ask}
-use Rattle.tables.specs.Rule.{Rule, same, below, non, _and_, _or_, _then_, each, some}
+use Rattle.tables.specs.Rule.{Rule, same, non, _and_, _or_, _then_, each, some}
 use Rattle.model.specs.declared.sizes.Sizes.{Sizes}
 use Rattle.model.specs.declared.frame.Frame.{Frame}
 use Rattle.model.specs.Lines.{NULLED, RELEASED}
 use Rattle.model.specs.State.{frameAt}
 use Rattle.leaves.specs.Addresses.{liveAddress}
-
--- 3 and 4: the slot below its size; filled
-abbrev pub filledAsked : Sizes → ℕ → List ℕ → Questions
-filledAsked z s numbers = ask 3 (below s (z .slots)) (ask 4 (non (same (at numbers s) 0)) none)
 
 -- 6: the number in no slot
 abbrev pub newNumber : ℕ → List ℕ → ℕ → Rule
@@ -22,17 +18,13 @@ newNumber slots numbers n = each slots λ s. non (same (at numbers s) n)
 abbrev pub zeroMap : List ℕ → ℕ → ℕ → Rule
 zeroMap maps pages s = each pages λ p. same (at maps (s * pages + p)) 0
 
--- 7 and 9: the map all 0; the slot inactive
-abbrev pub emptyAsked : List ℕ → List ℕ → ℕ → ℕ → Questions
-emptyAsked maps active pages s = ask 7 (zeroMap maps pages s) (ask 9 (non (same (at active s) 1)) none)
-
--- 9
+-- 9: the slot inactive
 abbrev pub inactiveAsked : List ℕ → ℕ → Questions
 inactiveAsked active s = ask 9 (non (same (at active s) 1)) none
 
--- 8 and 10: the slot active; no update of it under way
-abbrev pub activeAsked : ℕ → List ℕ → List ℕ → Questions
-activeAsked s active updating = ask 8 (same (at active s) 1) (ask 10 (same (at updating s) 0) none)
+-- 7 and 9
+abbrev pub emptyAsked : List ℕ → List ℕ → ℕ → ℕ → Questions
+emptyAsked maps active pages s = ask 7 (zeroMap maps pages s) (inactiveAsked active s)
 
 -- 11: no page of the slot in a frame
 abbrev pub unframed : ℕ → List Frame → ℕ → ℕ → Rule

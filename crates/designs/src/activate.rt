@@ -1,12 +1,10 @@
 // Activate: a design's pages take their addresses from its map, and its filed records are live.
 ghost use mathlib.Core.Path.{_≡_};
-ghost use mathlib.Core.List.{[]};
-ghost use lib.ListN.{take};
 ghost use Rattle.model.specs.declared.event.Design.the-variants as Design;
 ghost use Rattle.model.specs.declared.event.Event.the-variants as Event;
 ghost use Rattle.model.specs.Own.{own};
 ghost use Rattle.designs.specs.Needs.{Turning};
-ghost use Rattle.designs.specs.Seen.{seenTurns};
+ghost use Rattle.designs.specs.Seen.{enteredActivate};
 use crate::asks::ask_activate;
 use leaves::cells::put8;
 use leaves::slots::copy_slot;
@@ -27,10 +25,10 @@ pub fn activate(
     active: &mut [u8],
 ) -> Answer
     requires { ⌜ Turning sizes (now maps) (now addresses) (now states) (now owners) ⌝ }
-    ensures answer { λ r. ⌜ r ≡ own sizes (seenTurns [] (now (numbers .entry)) (now (maps .entry)) (now (addresses .entry)) (now (states .entry)) (now (owners .entry)) (now (active .entry)) []) (Event.Design (Design.Activate slot)) .answer ⌝ }
-    ensures addresses { λ r. ⌜ now (addresses .exit) ≡ own sizes (seenTurns [] (now (numbers .entry)) (now (maps .entry)) (now (addresses .entry)) (now (states .entry)) (now (owners .entry)) (now (active .entry)) []) (Event.Design (Design.Activate slot)) .left .memory .held .addresses ⌝ }
-    ensures states { λ r. ⌜ now (states .exit) ≡ own sizes (seenTurns [] (now (numbers .entry)) (now (maps .entry)) (now (addresses .entry)) (now (states .entry)) (now (owners .entry)) (now (active .entry)) []) (Event.Design (Design.Activate slot)) .left .memory .held .states ⌝ }
-    ensures active { λ r. ⌜ now (active .exit) ≡ own sizes (seenTurns [] (now (numbers .entry)) (now (maps .entry)) (now (addresses .entry)) (now (states .entry)) (now (owners .entry)) (now (active .entry)) []) (Event.Design (Design.Activate slot)) .left .memory .slots .active ⌝ }
+    ensures answer { λ r. ⌜ r ≡ own sizes (enteredActivate numbers maps addresses states owners active) (Event.Design (Design.Activate slot)) .answer ⌝ }
+    ensures addresses { λ r. ⌜ now (addresses .exit) ≡ own sizes (enteredActivate numbers maps addresses states owners active) (Event.Design (Design.Activate slot)) .left .memory .held .addresses ⌝ }
+    ensures states { λ r. ⌜ now (states .exit) ≡ own sizes (enteredActivate numbers maps addresses states owners active) (Event.Design (Design.Activate slot)) .left .memory .held .states ⌝ }
+    ensures active { λ r. ⌜ now (active .exit) ≡ own sizes (enteredActivate numbers maps addresses states owners active) (Event.Design (Design.Activate slot)) .left .memory .slots .active ⌝ }
 {
     let refusal = ask_activate(sizes, slot, numbers, active);
     if refusal != 0 {

@@ -1,11 +1,10 @@
 // Create: an empty slot takes number and account, two stores to the disk part that the caller brings to the device as one.
 ghost use mathlib.Core.Path.{_≡_};
-ghost use mathlib.Core.List.{[]};
 ghost use Rattle.model.specs.declared.event.Design.the-variants as Design;
 ghost use Rattle.model.specs.declared.event.Event.the-variants as Event;
 ghost use Rattle.model.specs.Fit.{Within};
 ghost use Rattle.model.specs.Own.{own};
-ghost use Rattle.designs.specs.Seen.{seenFiles};
+ghost use Rattle.designs.specs.Seen.{enteredCreate};
 use crate::asks::ask_create;
 use leaves::cells::put16;
 use leaves::cells::put32;
@@ -21,9 +20,9 @@ pub fn create(
     accounts: &mut [u16],
 ) -> Answer
     requires { ⌜ Within sizes ⌝ }
-    ensures answer { λ r. ⌜ r ≡ own sizes (seenFiles (now (numbers .entry)) (now (accounts .entry)) [] [] []) (Event.Design (Design.Create slot account number)) .answer ⌝ }
-    ensures numbers { λ r. ⌜ now (numbers .exit) ≡ own sizes (seenFiles (now (numbers .entry)) (now (accounts .entry)) [] [] []) (Event.Design (Design.Create slot account number)) .left .disk .numbers ⌝ }
-    ensures accounts { λ r. ⌜ now (accounts .exit) ≡ own sizes (seenFiles (now (numbers .entry)) (now (accounts .entry)) [] [] []) (Event.Design (Design.Create slot account number)) .left .disk .accounts ⌝ }
+    ensures answer { λ r. ⌜ r ≡ own sizes (enteredCreate numbers accounts) (Event.Design (Design.Create slot account number)) .answer ⌝ }
+    ensures numbers { λ r. ⌜ now (numbers .exit) ≡ own sizes (enteredCreate numbers accounts) (Event.Design (Design.Create slot account number)) .left .disk .numbers ⌝ }
+    ensures accounts { λ r. ⌜ now (accounts .exit) ≡ own sizes (enteredCreate numbers accounts) (Event.Design (Design.Create slot account number)) .left .disk .accounts ⌝ }
 {
     let refusal = ask_create(sizes, slot, account, number, numbers);
     if refusal != 0 {

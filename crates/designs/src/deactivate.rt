@@ -5,7 +5,7 @@ ghost use Rattle.model.specs.declared.event.Design.the-variants as Design;
 ghost use Rattle.model.specs.declared.event.Event.the-variants as Event;
 ghost use Rattle.model.specs.Own.{own};
 ghost use Rattle.designs.specs.Needs.{Turning};
-ghost use Rattle.designs.specs.Seen.{seenTurns};
+ghost use Rattle.designs.specs.Seen.{enteredDeactivate};
 use crate::asks::ask_deactivate;
 use leaves::cells::put8;
 use leaves::slots::clear_slot;
@@ -29,10 +29,10 @@ pub fn deactivate(
     updating: &[u8],
 ) -> Answer
     requires { ⌜ Turning sizes (now maps) (now addresses) (now states) (now owners) ⌝ }
-    ensures answer { λ r. ⌜ r ≡ own sizes (seenTurns (take (sizes .frames) frames) (now (numbers .entry)) (now (maps .entry)) (now (addresses .entry)) (now (states .entry)) (now (owners .entry)) (now (active .entry)) (now (updating .entry))) (Event.Design (Design.Deactivate slot)) .answer ⌝ }
-    ensures addresses { λ r. ⌜ now (addresses .exit) ≡ own sizes (seenTurns (take (sizes .frames) frames) (now (numbers .entry)) (now (maps .entry)) (now (addresses .entry)) (now (states .entry)) (now (owners .entry)) (now (active .entry)) (now (updating .entry))) (Event.Design (Design.Deactivate slot)) .left .memory .held .addresses ⌝ }
-    ensures states { λ r. ⌜ now (states .exit) ≡ own sizes (seenTurns (take (sizes .frames) frames) (now (numbers .entry)) (now (maps .entry)) (now (addresses .entry)) (now (states .entry)) (now (owners .entry)) (now (active .entry)) (now (updating .entry))) (Event.Design (Design.Deactivate slot)) .left .memory .held .states ⌝ }
-    ensures active { λ r. ⌜ now (active .exit) ≡ own sizes (seenTurns (take (sizes .frames) frames) (now (numbers .entry)) (now (maps .entry)) (now (addresses .entry)) (now (states .entry)) (now (owners .entry)) (now (active .entry)) (now (updating .entry))) (Event.Design (Design.Deactivate slot)) .left .memory .slots .active ⌝ }
+    ensures answer { λ r. ⌜ r ≡ own sizes (enteredDeactivate (take (sizes .frames) frames) numbers maps addresses states owners active updating) (Event.Design (Design.Deactivate slot)) .answer ⌝ }
+    ensures addresses { λ r. ⌜ now (addresses .exit) ≡ own sizes (enteredDeactivate (take (sizes .frames) frames) numbers maps addresses states owners active updating) (Event.Design (Design.Deactivate slot)) .left .memory .held .addresses ⌝ }
+    ensures states { λ r. ⌜ now (states .exit) ≡ own sizes (enteredDeactivate (take (sizes .frames) frames) numbers maps addresses states owners active updating) (Event.Design (Design.Deactivate slot)) .left .memory .held .states ⌝ }
+    ensures active { λ r. ⌜ now (active .exit) ≡ own sizes (enteredDeactivate (take (sizes .frames) frames) numbers maps addresses states owners active updating) (Event.Design (Design.Deactivate slot)) .left .memory .slots .active ⌝ }
 {
     let refusal = ask_deactivate(
         sizes,

@@ -1,11 +1,10 @@
 // Delete: a slot is emptied, two stores to the disk part that the caller brings to the device as one.
 ghost use mathlib.Core.Path.{_≡_};
-ghost use mathlib.Core.List.{[]};
 ghost use Rattle.model.specs.declared.event.Design.the-variants as Design;
 ghost use Rattle.model.specs.declared.event.Event.the-variants as Event;
 ghost use Rattle.model.specs.Fit.{Within};
 ghost use Rattle.model.specs.Own.{own};
-ghost use Rattle.designs.specs.Seen.{seenFiles};
+ghost use Rattle.designs.specs.Seen.{enteredDelete};
 use crate::asks::ask_delete;
 use leaves::cells::put16;
 use leaves::cells::put32;
@@ -21,9 +20,9 @@ pub fn delete(
     active: &[u8],
 ) -> Answer
     requires { ⌜ Within sizes ⌝ }
-    ensures answer { λ r. ⌜ r ≡ own sizes (seenFiles (now (numbers .entry)) (now (accounts .entry)) (now (maps .entry)) [] (now (active .entry))) (Event.Design (Design.Delete slot)) .answer ⌝ }
-    ensures numbers { λ r. ⌜ now (numbers .exit) ≡ own sizes (seenFiles (now (numbers .entry)) (now (accounts .entry)) (now (maps .entry)) [] (now (active .entry))) (Event.Design (Design.Delete slot)) .left .disk .numbers ⌝ }
-    ensures accounts { λ r. ⌜ now (accounts .exit) ≡ own sizes (seenFiles (now (numbers .entry)) (now (accounts .entry)) (now (maps .entry)) [] (now (active .entry))) (Event.Design (Design.Delete slot)) .left .disk .accounts ⌝ }
+    ensures answer { λ r. ⌜ r ≡ own sizes (enteredDelete numbers accounts maps active) (Event.Design (Design.Delete slot)) .answer ⌝ }
+    ensures numbers { λ r. ⌜ now (numbers .exit) ≡ own sizes (enteredDelete numbers accounts maps active) (Event.Design (Design.Delete slot)) .left .disk .numbers ⌝ }
+    ensures accounts { λ r. ⌜ now (accounts .exit) ≡ own sizes (enteredDelete numbers accounts maps active) (Event.Design (Design.Delete slot)) .left .disk .accounts ⌝ }
 {
     let refusal = ask_delete(sizes, slot, numbers, maps, active);
     if refusal != 0 {

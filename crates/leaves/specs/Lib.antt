@@ -1,5 +1,6 @@
 -- What the leaves of the code do to one table.
 pub mod Addresses
+pub mod Asks
 pub mod Counts
 pub mod FrameLaws
 pub mod FreeMap

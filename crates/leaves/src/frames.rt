@@ -1,10 +1,9 @@
 // The frames by value, 64 of them, of which the first F are in use.
 ghost use mathlib.Core.Path.{_≡_};
-ghost use Prim.Native.Nat.{suc, _+_, _<_, _≤_};
-ghost use lib.Dec.{eqb};
+ghost use Prim.Native.Nat.{_<_, _≤_};
 ghost use lib.ListN.{set};
-ghost use Rattle.tables.specs.Base.{find};
 ghost use Rattle.model.specs.State.{frameAt};
+ghost use Rattle.leaves.specs.FrameLaws.{frameIn};
 use model::frame::Frame;
 use model::frame::no_frame;
 
@@ -32,7 +31,7 @@ pub fn with_frame(frames: [Frame; 64], f: usize, frame: Frame) -> [Frame; 64]
 // The first frame that the page is in, or the count of frames where it is in none.
 pub fn frame_of(frames: [Frame; 64], count: usize, page: usize) -> usize
     requires { ⌜ (count ≤ 64) × (page < 65535) ⌝ }
-    ensures { λ r. ⌜ r ≡ find count (λ f. eqb (frameAt frames f .page) (suc page)) 0 ⌝ }
+    ensures { λ r. ⌜ r ≡ frameIn count frames page ⌝ }
 {
     let entry = (page + 1) as u16;
     let mut f = 0;

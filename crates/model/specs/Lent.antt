@@ -1,6 +1,6 @@
 -- What a caller lends, in the order in which the code takes it: the frames, the pool and the sixteen tables of numbers as one state.
 use mathlib.Core.Path.{_≡_}
-use mathlib.Core.List.{List}
+use mathlib.Core.List.{List, []}
 use Prim.Native.Nat.{ℕ}
 use denote.Ref.{RefT}
 use denote.Triple.Both.{Both}
@@ -56,6 +56,10 @@ left frames pool records numbers accounts maps limits words free-queue removal-l
 -- the pool of a state whose pool nothing looks at
 abbrev pub noPool : Pool
 noPool = record { hand = 0; free = 0 }
+
+-- the state of no tables: what an event sees is this with its own tables set
+abbrev pub noState : State
+noState = stateOf [] noPool [] [] [] [] [] [] [] [] [] [] [] [] [] [] [] []
 
 -- two states are equal by their tables
 pub same-state : {f f′ : List Frame} {p p′ : Pool} {a a′ b b′ c c′ d d′ e e′ g g′ h h′ i i′ j j′ k k′ l l′ m m′ n n′ o o′ q q′ r r′ : List ℕ}

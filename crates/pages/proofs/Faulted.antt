@@ -34,9 +34,9 @@ use Rattle.model.specs.OwnLaws.{done, own-no, own-yes}
 use Rattle.leaves.specs.FrameLaws.{take-frame}
 use Rattle.pages.specs.Seen.{seenFault}
 use Rattle.pages.specs.Needs.{Queued}
-use Rattle.pages.specs.Asks.{slotAsked}
+use Rattle.leaves.specs.Asks.{slotAsked, asked-range}
 use Rattle.pages.specs.Faults.{wayOf, awayAsked, supplyAsked, goes, cleared, charged1, FaultLeft}
-use Rattle.pages.proofs.Served.{pageTest, pageRange, page-test, asked-range}
+use Rattle.pages.proofs.Served.{pageTest, pageRange, page-test}
 use Rattle.pages.proofs.Ways.{way-live, zero-none}
 use Rattle.pages.proofs.Faulting.{way, live-none, way-two, fault-frames, fault-words, fault-queue, fault-list, fault-addresses, fault-states, fault-owners, fault-hand}
 

@@ -1,9 +1,7 @@
 -- Laws that the proofs of this crate share.
-pub mod Seats
+pub mod ItsFrame
 pub mod Served
-pub mod OneWord
-pub mod Wiring
-pub mod Looking
+pub mod InFrame
 pub mod Ways
 pub mod Holding
 pub mod Faulting

@@ -1,19 +1,21 @@
 -- The questions of a read, a write and a page look: as the code asks them, and what they give.
-use mathlib.Core.Path.{_≡_, refl, _∙_}
+use mathlib.Core.Path.{_≡_, _∙_}
 use mathlib.Core.Bool.{Bool, true, _&&_}
 use mathlib.Core.List.{List}
 use Prim.Native.Nat.{ℕ, _<_}
 use lib.Dec.{ltb}
 use lib.ListN.{take}
-use Rattle.tables.specs.Rule.{Rule, is, below, _and_, test, sound}
-use Rattle.tables.specs.Questions.{Questions, ask, firstNo}
-use Rattle.tables.specs.Also.{_also_, ask-same}
+use Rattle.tables.specs.Rule.{Rule, below, _and_, test}
+use Rattle.tables.specs.Turn.{said-yes}
+use Rattle.tables.specs.Questions.{firstNo}
+use Rattle.tables.specs.Also.{_also_}
 use Rattle.model.specs.declared.sizes.Sizes.{Sizes}
 use Rattle.model.specs.declared.frame.Frame.{Frame}
-use Rattle.model.specs.State.{pageOf}
+use Rattle.model.specs.State.{State, pageOf}
 use Rattle.model.specs.Questions.{served}
 use Rattle.pages.specs.Seen.{seen}
-use Rattle.pages.specs.Asks.{slotAsked, frameAsked}
+use Rattle.leaves.specs.Asks.{slotAsked, asked-range, two-below, three-below}
+use Rattle.pages.specs.Asks.{frameAsked}
 
 -- the ranges as the code tests them
 abbrev pub pageTest : Sizes → ℕ → ℕ → Bool
@@ -28,28 +30,39 @@ pageRange z s p = below s (z .slots) and below p (z .pages)
 abbrev pub wordRange : Sizes → ℕ → ℕ → ℕ → Rule
 wordRange z s p w = below s (z .slots) and below p (z .pages) and below w (z .words)
 
-pub page-range : (z : Sizes) (s p : ℕ) → pageTest z s p ≡ true → (s < z .slots) × (p < z .pages)
-unfolding test
-page-range z s p e = sound (pageRange z s p) (rw e tt)
-
-pub word-range : (z : Sizes) (s p w : ℕ) → wordTest z s p w ≡ true → (s < z .slots) × (p < z .pages) × (w < z .words)
-unfolding test
-word-range z s p w e = let r = sound (wordRange z s p w) (rw e tt) in (r .0, r .1 .0, r .1 .1)
-
 pub page-test : (z : Sizes) (s p : ℕ) → pageTest z s p ≡ test (pageRange z s p)
-unfolding test
-page-test z s p = refl
+page-test z s p = two-below s (z .slots) p (z .pages)
 
 pub word-test : (z : Sizes) (s p w : ℕ) → wordTest z s p w ≡ test (wordRange z s p w)
-unfolding test
-word-test z s p w = refl
+word-test z s p w = three-below s (z .slots) p (z .pages) w (z .words)
 
--- a range told by its test
-pub asked-range : (b : Bool) (range : Rule) (q : Questions) → b ≡ test range → firstNo (ask 3 (is b) q) ≡ firstNo (ask 3 range q)
-unfolding test
-asked-range b range q e = ask-same 3 (is b) range q e
+pub page-range : (z : Sizes) (s p : ℕ) → pageTest z s p ≡ true → (s < z .slots) × (p < z .pages)
+page-range z s p = said-yes (pageRange z s p) (page-test z s p)
 
-module _ (z : Sizes) (fs : List Frame) (numbers words list active : List ℕ) (range : Rule) (s p n : ℕ) where
-  pub served-answer : (b : Bool) → b ≡ test range → n ≡ firstNo (slotAsked b s numbers active also frameAsked z (take (z .frames) fs) (pageOf z s p))
-      → n ≡ firstNo (served z (seen (take (z .frames) fs) numbers words list active) range s p)
-  served-answer b t e = e ∙ asked-range b range _ t
+pub word-range : (z : Sizes) (s p w : ℕ) → wordTest z s p w ≡ true → (s < z .slots) × (p < z .pages) × (w < z .words)
+word-range z s p w e = let r = said-yes (wordRange z s p w) (word-test z s p w) e in (r .0, r .1 .0, r .1 .1)
+
+-- what an event about a page in a frame is passed
+pub record Call : Type 0 where
+  pub sizes : Sizes
+  pub frames : List Frame
+  pub numbers : List ℕ
+  pub words : List ℕ
+  pub list : List ℕ
+  pub active : List ℕ
+  pub slot : ℕ
+  pub page : ℕ
+
+module _ (a : Call) where
+  -- the state that it sees, and the page's place
+  abbrev pub state : State
+  state = seen (take (a .sizes .frames) (a .frames)) (a .numbers) (a .words) (a .list) (a .active)
+
+  abbrev pub flat : ℕ
+  flat = pageOf (a .sizes) (a .slot) (a .page)
+
+  -- n answers 3, 4, 8, 13 and 14, as the code asks them: b tells the range
+  module _ (range : Rule) (n : ℕ) (b : Bool) (t : b ≡ test range) where
+    pub served-answer : n ≡ firstNo (slotAsked b (a .slot) (a .numbers) (a .active) also frameAsked (a .sizes) (take (a .sizes .frames) (a .frames)) flat)
+        → n ≡ firstNo (served (a .sizes) state range (a .slot) (a .page))
+    served-answer e = e ∙ asked-range b range _ t

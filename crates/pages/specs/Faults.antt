@@ -15,11 +15,12 @@ use Rattle.model.specs.declared.frame.Pool.{Pool}
 use Rattle.model.specs.declared.event.Event.the-variants as Event
 use Rattle.model.specs.declared.event.Page.the-variants as Page
 use Rattle.model.specs.Lines.{LIVE}
-use Rattle.model.specs.State.{State, files, pageOf, live, payer}
+use Rattle.model.specs.State.{State, files, pageOf, live, payer, framed}
 use Rattle.model.specs.Parts.{pick}
 use Rattle.model.specs.Questions.{questions}
 use Rattle.model.specs.Own.{own}
-use Rattle.pages.specs.Asks.{inFrame, ofFrame, isStill}
+use Rattle.leaves.specs.FrameLaws.{framesOf, isStill}
+use Rattle.pages.specs.Asks.{ofFrame}
 
 -- the page's address is live
 abbrev pub isLive : List ℕ → List ℕ → ℕ → Rule
@@ -31,7 +32,7 @@ wayOf addresses states i = if (test (isLive addresses states i)) 2 (if (test (sa
 
 -- 14 and 15: the page in no transfer; in no frame
 abbrev pub awayAsked : Sizes → List Frame → ℕ → Questions
-awayAsked z fs i = ask 14 (ofFrame z fs i isStill) (ask 15 (non (inFrame z fs i)) none)
+awayAsked z fs i = ask 14 (ofFrame z fs i isStill) (ask 15 (non (framed z (framesOf fs) i)) none)
 
 -- 18, 19 and 20: used below limit, a record free, a frame free
 abbrev pub supplyAsked : ℕ → List ℕ → List ℕ → ℕ → ℕ → ℕ → List ℕ → Questions

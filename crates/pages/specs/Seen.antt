@@ -4,13 +4,27 @@ use Prim.Native.Nat.{ℕ}
 use Rattle.model.specs.declared.frame.Frame.{Frame}
 use Rattle.model.specs.declared.frame.Pool.{Pool}
 use Rattle.model.specs.State.{State}
-use Rattle.model.specs.Lent.{stateOf, noPool}
+use Rattle.model.specs.Setters.{onDisk, onCore, onHeld, onSlots, setNumbers, setAccounts, setLimits, setFrames, setWords, setFreeQueue, setRemovalList}
+use Rattle.model.specs.Setters.{setAddresses, setStates, setOwners, setFreeMap, setHand, setFree, setActive, setUsed}
+use Rattle.model.specs.Lent.{Table, noState}
 
 -- of a read, a write, a wire, an unwire and a page look: frames, numbers, words, removal list, active switches
 abbrev pub seen : List Frame → List ℕ → List ℕ → List ℕ → List ℕ → State
-seen frames numbers words list active = stateOf frames noPool [] numbers [] [] [] words [] list [] [] [] [] active [] [] []
+seen frames numbers words list active =
+    onDisk (setNumbers numbers) (onCore (λ c. setFrames frames (setWords words (setRemovalList list c))) (onSlots (setActive active) noState))
+
+-- .. as a read and a write are passed them, by bare names,
+abbrev pub enteredWords : List Frame → Table → Table → Table → State
+enteredWords frames numbers words active = seen frames (numbers .entry .now) (words .entry .now) [] (active .entry .now)
+
+-- and as a wire and an unwire are
+abbrev pub enteredList : List Frame → Table → Table → Table → State
+enteredList frames numbers list active = seen frames (numbers .entry .now) [] (list .entry .now) (active .entry .now)
 
 -- of a fault: all but the records, the maps, the update switches and the images
 abbrev pub seenFault : List Frame → Pool → List ℕ → List ℕ → List ℕ → List ℕ → List ℕ → List ℕ → List ℕ → List ℕ → List ℕ → List ℕ → List ℕ → List ℕ → State
 seenFault frames pool numbers accounts limits words queue list addresses states owners map active used =
-    stateOf frames pool [] numbers accounts [] limits words queue list addresses states owners map active [] [] used
+    onDisk (λ d. setNumbers numbers (setAccounts accounts (setLimits limits d)))
+    (onCore (λ c. setFrames frames (setWords words (setFreeQueue queue (setRemovalList list c))))
+    (onHeld (λ h. setAddresses addresses (setStates states (setOwners owners (setFreeMap map (setHand (pool .hand) (setFree (pool .free) h))))))
+    (onSlots (setActive active) (setUsed used noState))))

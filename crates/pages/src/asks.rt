@@ -7,14 +7,17 @@ ghost use Rattle.tables.specs.Questions.{firstNo};
 ghost use Rattle.tables.specs.Also.{_also_};
 ghost use Rattle.model.specs.State.{pageOf};
 ghost use Rattle.model.specs.Fit.{Within};
-ghost use Rattle.pages.specs.Asks.{seat, slotAsked, frameAsked};
+ghost use Rattle.leaves.specs.Asks.{slotAsked};
+ghost use Rattle.leaves.specs.FrameLaws.{frameIn};
+ghost use Rattle.pages.specs.Asks.{frameAsked};
 ghost use Rattle.pages.specs.Needs.{Seats};
-use leaves::cells::at8;
-use leaves::cells::at32;
+use leaves::asks::ask_slot;
 use leaves::frames::frame_at;
 use leaves::frames::frame_of;
 use model::frame::Frame;
 use model::frame::NONE;
+use model::refusals::IN_TRANSFER;
+use model::refusals::PAGE_OUT;
 use model::sizes::Sizes;
 
 // The page's place in a table of pages.
@@ -33,22 +36,6 @@ pub fn word_of(sizes: Sizes, frame: usize, word: usize) -> usize
     frame * sizes.words + word
 }
 
-// Questions 3, 4 and 8.
-pub fn ask_slot(in_range: bool, slot: usize, numbers: &[u32], active: &[u8]) -> u32
-    ensures { λ r. ⌜ r ≡ firstNo (slotAsked «in_range» slot (now (numbers .entry)) (now (active .entry))) ⌝ }
-{
-    if in_range {} else {
-        return 3;
-    }
-    if at32(numbers, slot) == 0 {
-        return 4;
-    }
-    if at8(active, slot) != 1 {
-        return 8;
-    }
-    0
-}
-
 // Questions 13 and 14.
 pub fn ask_frame(sizes: Sizes, frames: [Frame; 64], page: usize) -> u32
     requires { ⌜ Seats sizes (take (sizes .frames) frames) × (page < 65535) ⌝ }
@@ -56,11 +43,11 @@ pub fn ask_frame(sizes: Sizes, frames: [Frame; 64], page: usize) -> u32
 {
     let f = frame_of(frames, sizes.frames, page);
     if f >= sizes.frames {
-        return 13;
+        return PAGE_OUT;
     }
     let frame = frame_at(frames, f);
     if frame.transfer != NONE {
-        return 14;
+        return IN_TRANSFER;
     }
     0
 }
@@ -77,7 +64,7 @@ pub fn ask_served(
 ) -> u32
     requires { ⌜ Seats sizes (take (sizes .frames) frames) × ((«in_range» ≡ true) → (slot < sizes .slots) × (page < sizes .pages)) ⌝ }
     ensures answer { λ r. ⌜ r ≡ firstNo (slotAsked «in_range» slot (now (numbers .entry)) (now (active .entry)) also frameAsked sizes (take (sizes .frames) frames) (pageOf sizes slot page)) ⌝ }
-    ensures given { λ r. ⌜ (r ≡ 0 → («in_range» ≡ true) × (seat sizes frames (pageOf sizes slot page) < sizes .frames)) ⌝ }
+    ensures given { λ r. ⌜ (r ≡ 0 → («in_range» ≡ true) × (frameIn (sizes .frames) frames (pageOf sizes slot page) < sizes .frames)) ⌝ }
 {
     let no = ask_slot(in_range, slot, numbers, active);
     if no != 0 {
@@ -88,9 +75,9 @@ pub fn ask_served(
 }
 
 // The frame that the page is in, or the count of frames.
-pub fn seat_of(sizes: Sizes, slot: usize, page: usize, frames: [Frame; 64]) -> usize
+pub fn its_frame(sizes: Sizes, slot: usize, page: usize, frames: [Frame; 64]) -> usize
     requires { ⌜ Within sizes × (slot < sizes .slots) × (page < sizes .pages) ⌝ }
-    ensures { λ r. ⌜ r ≡ seat sizes frames (pageOf sizes slot page) ⌝ }
+    ensures { λ r. ⌜ r ≡ frameIn (sizes .frames) frames (pageOf sizes slot page) ⌝ }
 {
     let i = page_of(sizes, slot, page);
     frame_of(frames, sizes.frames, i)

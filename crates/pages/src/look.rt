@@ -7,7 +7,7 @@ ghost use Rattle.pages.specs.Seen.{seen};
 ghost use Rattle.pages.specs.Needs.{Seats};
 ghost use Rattle.pages.specs.Looks.{placed};
 use crate::asks::ask_served;
-use crate::asks::seat_of;
+use crate::asks::its_frame;
 use crate::asks::word_of;
 use model::applied::Part;
 use model::frame::Frame;
@@ -34,7 +34,7 @@ pub fn place(
             count: 0,
         };
     }
-    let f = seat_of(sizes, slot, page, frames);
+    let f = its_frame(sizes, slot, page, frames);
     Part {
         refusal: 0,
         start: word_of(sizes, f, 0),

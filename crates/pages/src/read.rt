@@ -1,14 +1,13 @@
 // Read: one word of a page in a frame; the frame's used switch goes on.
 ghost use mathlib.Core.Path.{_≡_};
-ghost use mathlib.Core.List.{[]};
 ghost use lib.ListN.{take};
 ghost use Rattle.model.specs.declared.event.Event.the-variants as Event;
 ghost use Rattle.model.specs.declared.event.Page.the-variants as Page;
 ghost use Rattle.model.specs.Own.{own};
-ghost use Rattle.pages.specs.Seen.{seen};
+ghost use Rattle.pages.specs.Seen.{enteredWords};
 ghost use Rattle.pages.specs.Needs.{Seats};
 use crate::asks::ask_served;
-use crate::asks::seat_of;
+use crate::asks::its_frame;
 use crate::asks::word_of;
 use leaves::cells::at32;
 use leaves::frames::frame_at;
@@ -29,15 +28,15 @@ pub fn read(
     words: &[u32],
 ) -> Framed
     requires { ⌜ Seats sizes (take (sizes .frames) frames) ⌝ }
-    ensures answer { λ r. ⌜ r .answer ≡ own sizes (seen (take (sizes .frames) frames) (now (numbers .entry)) (now (words .entry)) [] (now (active .entry))) (Event.Page (Page.Read slot page word)) .answer ⌝ }
-    ensures frames { λ r. ⌜ take (sizes .frames) (r .frames) ≡ own sizes (seen (take (sizes .frames) frames) (now (numbers .entry)) (now (words .entry)) [] (now (active .entry))) (Event.Page (Page.Read slot page word)) .left .memory .core .frames ⌝ }
+    ensures answer { λ r. ⌜ r .answer ≡ own sizes (enteredWords (take (sizes .frames) frames) numbers words active) (Event.Page (Page.Read slot page word)) .answer ⌝ }
+    ensures frames { λ r. ⌜ take (sizes .frames) (r .frames) ≡ own sizes (enteredWords (take (sizes .frames) frames) numbers words active) (Event.Page (Page.Read slot page word)) .left .memory .core .frames ⌝ }
 {
     let in_range = (slot < sizes.slots) & ((page < sizes.pages) & (word < sizes.words));
     let refusal = ask_served(sizes, in_range, slot, page, frames, numbers, active);
     if refusal != 0 {
         return answered(frames, refusal, 0);
     }
-    let f = seat_of(sizes, slot, page, frames);
+    let f = its_frame(sizes, slot, page, frames);
     let mut frame = frame_at(frames, f);
     frame.used = 1;
     let frames = with_frame(frames, f, frame);

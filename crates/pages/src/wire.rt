@@ -1,20 +1,20 @@
 // Wire: a page's frame goes off the removal list; its wired switch goes on.
 ghost use mathlib.Core.Path.{_≡_};
-ghost use mathlib.Core.List.{[]};
 ghost use lib.ListN.{take};
 ghost use Rattle.model.specs.declared.event.Event.the-variants as Event;
 ghost use Rattle.model.specs.declared.event.Page.the-variants as Page;
 ghost use Rattle.model.specs.Own.{own};
-ghost use Rattle.pages.specs.Seen.{seen};
+ghost use Rattle.pages.specs.Seen.{enteredList};
 ghost use Rattle.pages.specs.Needs.{Seats, RemovalList};
 use crate::asks::ask_served;
-use crate::asks::seat_of;
+use crate::asks::its_frame;
 use leaves::frames::frame_at;
 use leaves::frames::with_frame;
 use leaves::queue::remove;
 use model::applied::Framed;
 use model::applied::answered;
 use model::frame::Frame;
+use model::refusals::WIRED;
 use model::sizes::Sizes;
 
 pub fn wire(
@@ -27,19 +27,19 @@ pub fn wire(
     removal_list: &mut [u16],
 ) -> Framed
     requires { ⌜ Seats sizes (take (sizes .frames) frames) × RemovalList sizes (take (sizes .frames) frames) (now «removal_list») ⌝ }
-    ensures answer { λ r. ⌜ r .answer ≡ own sizes (seen (take (sizes .frames) frames) (now (numbers .entry)) [] (now («removal_list» .entry)) (now (active .entry))) (Event.Page (Page.Wire slot page)) .answer ⌝ }
-    ensures frames { λ r. ⌜ take (sizes .frames) (r .frames) ≡ own sizes (seen (take (sizes .frames) frames) (now (numbers .entry)) [] (now («removal_list» .entry)) (now (active .entry))) (Event.Page (Page.Wire slot page)) .left .memory .core .frames ⌝ }
-    ensures list { λ r. ⌜ now («removal_list» .exit) ≡ own sizes (seen (take (sizes .frames) frames) (now (numbers .entry)) [] (now («removal_list» .entry)) (now (active .entry))) (Event.Page (Page.Wire slot page)) .left .memory .core .removal-list ⌝ }
+    ensures answer { λ r. ⌜ r .answer ≡ own sizes (enteredList (take (sizes .frames) frames) numbers «removal_list» active) (Event.Page (Page.Wire slot page)) .answer ⌝ }
+    ensures frames { λ r. ⌜ take (sizes .frames) (r .frames) ≡ own sizes (enteredList (take (sizes .frames) frames) numbers «removal_list» active) (Event.Page (Page.Wire slot page)) .left .memory .core .frames ⌝ }
+    ensures list { λ r. ⌜ now («removal_list» .exit) ≡ own sizes (enteredList (take (sizes .frames) frames) numbers «removal_list» active) (Event.Page (Page.Wire slot page)) .left .memory .core .removal-list ⌝ }
 {
     let in_range = (slot < sizes.slots) & (page < sizes.pages);
     let refusal = ask_served(sizes, in_range, slot, page, frames, numbers, active);
     if refusal != 0 {
         return answered(frames, refusal, 0);
     }
-    let f = seat_of(sizes, slot, page, frames);
+    let f = its_frame(sizes, slot, page, frames);
     let mut frame = frame_at(frames, f);
     if frame.wired == 1 {
-        return answered(frames, 16, 0);
+        return answered(frames, WIRED, 0);
     }
     frame.wired = 1;
     remove(removal_list, f);

@@ -27,10 +27,14 @@ shared-slice-read-value : tie.Need-shared-slice-read-value Inv-loop μ-loop
 shared-slice-read-value c = omega arith
 
 cast-value : tie.Need-cast-value Inv-loop μ-loop
-cast-value c = omega (arith, c .shared-slice-known .given (c .before .before .before .args .from + c .before .before .loop .k))
+cast-value c = let s : tie.Start Inv-loop μ-loop = search in omega (arith, c .shared-slice-known .given (s .args .from + c .before .before .loop .k))
 
 add-value-2 : tie.Need-add-value-2 Inv-loop μ-loop
-add-value-2 c = let h = four (c .before .before .loop .k) (omega arith) in omega (arith, h, c .before .before .loop .inv .2, c .shared-slice-known .given (c .before .before .before .args .from + c .before .before .loop .k))
+add-value-2 c =
+    let s : tie.Start Inv-loop μ-loop = search in
+    let l = c .before .before .loop in
+    let h = four (l .k) (omega arith) in
+    omega (arith, h, l .inv .2, c .shared-slice-known .given (s .args .from + l .k))
 
 add-k : tie.Need-add-k Inv-loop μ-loop
 add-k c = omega arith
@@ -40,8 +44,10 @@ loop-less c = omega arith
 
 loop-again : tie.Need-loop-again Inv-loop μ-loop
 loop-again c =
-    let i = c .before .before .loop .inv in
-    let j : ℕ = c .before .before .before .args .from + c .before .before .loop .k in
+    let s : tie.Start Inv-loop μ-loop = search in
+    let l = c .before .before .loop in
+    let i = l .inv in
+    let j : ℕ = s .args .from + l .k in
     (omega arith, number-next _ _ _ _ (i .1), next _ _ _ (i .2) (omega (arith, c .shared-slice-known .given j)))
 
 cast-result : tie.Need-cast-result Inv-loop μ-loop

@@ -17,14 +17,20 @@ abbrev μ-loop : tie.MeasureT-loop
 μ-loop slots numbers number s₀ s = slots - s
 
 returns : tie.Need-returns Inv-loop μ-loop
-returns c = let l = c .before .before .before in let a = l .before .before .args in
+returns c =
+    let s : tie.Start Inv-loop μ-loop = search in
+    let l : tie.At-loop Inv-loop μ-loop = search in let a = s .args in
     sym (untold (newNumber (a .slots) (a .numbers .now) (a .number)) (λ h. h (l .loop .s) (omega arith) (sym (c .before .at32 .ensures) ∙ c .if1 .taken)))
 
 loop-again : tie.Need-loop-again Inv-loop μ-loop
-loop-again c = (search needs, below-more _ _ (c .before .before .before .loop .inv .1) (λ e. c .if1 .left (c .before .at32 .ensures ∙ e)))
+loop-again c =
+    let at-loop : tie.At-loop Inv-loop μ-loop = search in
+    (search needs, below-more _ _ (at-loop .loop .inv .1) (λ e. c .if1 .left (c .before .at32 .ensures ∙ e)))
 
 returns-2 : tie.Need-returns-2 Inv-loop μ-loop
-returns-2 c = let l = c .before in let a = l .before .before .args in
+returns-2 c =
+    let s : tie.Start Inv-loop μ-loop = search in
+    let l = c .before in let a = s .args in
     sym (told (newNumber (a .slots) (a .numbers .now) (a .number)) (λ i h. l .loop .inv .1 i (omega arith)))
 
 pub number-new-spec : {M : Type 1} → statement M

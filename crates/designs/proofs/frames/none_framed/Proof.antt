@@ -19,8 +19,9 @@ abbrev μ-loop : tie.MeasureT-loop
 
 returns : tie.Need-returns Inv-loop μ-loop
 returns c =
-    let l = c .before .before .before .before in
-    let a = l .before .args in
+    let s : tie.Start Inv-loop μ-loop = search in
+    let l : tie.At-loop Inv-loop μ-loop = search in
+    let a = s .args in
     let e = frameAt (a .t1) (l .loop .f) .page in
     let b = a .slot * a .pages in
     let y = two-yes b e e (b + a .pages + 1) (c .if1 .taken) in
@@ -28,14 +29,17 @@ returns c =
 
 loop-again : tie.Need-loop-again Inv-loop μ-loop
 loop-again c =
-    let l = c .before .before .before .before in
-    let a = l .before .args in
+    let s : tie.Start Inv-loop μ-loop = search in
+    let l : tie.At-loop Inv-loop μ-loop = search in
+    let a = s .args in
     let e = frameAt (a .t1) (l .loop .f) .page in
     let b = a .slot * a .pages in
     (search needs, below-more _ _ (l .loop .inv .1) (two-no b e e (b + a .pages + 1) (c .if1 .left)))
 
 returns-2 : tie.Need-returns-2 Inv-loop μ-loop
-returns-2 c = let l = c .before in let a = l .before .args in
+returns-2 c =
+    let s : tie.Start Inv-loop μ-loop = search in
+    let l = c .before in let a = s .args in
     sym (told (unframed (a .count) (a .t1) (a .pages) (a .slot)) (λ p h (f, m, e). l .loop .inv .1 f (omega arith) (omega (arith, e), omega (arith, e))))
 
 pub none-framed-spec : {M : Type 1} → statement M

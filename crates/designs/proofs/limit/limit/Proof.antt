@@ -3,8 +3,10 @@ use borrow.Author.Needs.{needs}
 use mathlib.Core.Path.{refl, sym, _∙_}
 use mathlib.Core.List.{[]}
 use native.Mathlib.Omega.{arith}
-use Rattle.model.specs.declared.event.Event.the-variants as Event
+use Rattle.model.specs.declared.event.Design.{Design}
 use Rattle.model.specs.declared.event.Design.the-variants as Design
+use Rattle.model.specs.declared.event.Event.the-variants as Event
+use Rattle.model.specs.State.{State}
 use Rattle.model.specs.OwnLaws.{own-no}
 use Rattle.tables.specs.Questions.{yes-all}
 use Rattle.tables.specs.Rule.{below, _and_}
@@ -15,23 +17,34 @@ use Rattle.designs.proofs.Carried.{carried-out, limit-limits}
 use Rattle.designs.proofs.limit.limit.Statement.{statement}
 use Rattle.designs.proofs.limit.limit.Tie as tie
 
+abbrev state : tie.Start → State
+state s = seenFiles [] [] [] (s .args .limits .now) []
+
+abbrev event : tie.Start → Design
+event s = Design.Limit (s .args .account) (s .args .pages)
+
 returns : tie.Need-returns
 returns c =
-    let a = c .before .before .before .args in
-    let o = own-no (a .sizes) (seenFiles [] [] [] (a .limits .now) []) (Event.Design (Design.Limit (a .account) (a .pages))) 3 (sym (first-no 3 (below (a .account) (a .sizes .accounts) and below (a .pages) 65536) _ (two-no (a .account) (a .sizes .accounts) (a .pages) 65536 (c .if1 .left)))) (omega arith) in
+    let s : tie.Start = search in
+    let a = s .args in
+    let q = first-no 3 (below (a .account) (a .sizes .accounts) and below (a .pages) 65536) _ (two-no (a .account) (a .sizes .accounts) (a .pages) 65536 (c .if1 .left)) in
+    let o = own-no (a .sizes) (state s) (Event.Design (event s)) 3 (sym q) (omega arith) in
     (λ i. o i .answer, λ i. o i .left .disk .limits)
 
 cast-put16 : tie.Need-cast-put16
-cast-put16 c = let t = c .before in let a = t .before .before .before .args in
-    omega (arith, two-yes (a .account) (a .sizes .accounts) (a .pages) 65536 (t .if1 .taken) .1)
+cast-put16 c =
+    let s : tie.Start = search in
+    let a = s .args in
+    omega (arith, two-yes (a .account) (a .sizes .accounts) (a .pages) 65536 (c .before .if1 .taken) .1)
 
 returns-2 : tie.Need-returns-2
 returns-2 c =
+    let s : tie.Start = search in
     let u = c .before .before in
     let t = u .before .before in
-    let a = t .before .before .before .args in
-    let o = carried-out (a .sizes) (seenFiles [] [] [] (a .limits .now) []) (Design.Limit (a .account) (a .pages)) 0 (sym (yes-all _ (two-yes (a .account) (a .sizes .accounts) (a .pages) 65536 (t .if1 .taken), tt))) refl in
-    (λ i. o i .answer, u .put16 .ensures ∙ limit-limits (a .sizes) (seenFiles [] [] [] (a .limits .now) []) (a .account) (a .pages) ∙ (λ i. o i .left .disk .limits))
+    let a = s .args in
+    let o = carried-out (a .sizes) (state s) (event s) 0 (sym (yes-all _ (two-yes (a .account) (a .sizes .accounts) (a .pages) 65536 (t .if1 .taken), tt))) refl in
+    (λ i. o i .answer, u .put16 .ensures ∙ limit-limits (a .sizes) (state s) (a .account) (a .pages) ∙ (λ i. o i .left .disk .limits))
 
 pub limit-spec : {M : Type 1} → statement M
 limit-spec = tie.close (tie.spec returns cast-put16 (λ c κs. search needs) (λ c. search needs) returns-2)

@@ -19,10 +19,11 @@ abbrev μ-loop : tie.MeasureT-loop
 
 returns : tie.Need-returns Inv-loop μ-loop
 returns c =
+    let s : tie.Start Inv-loop μ-loop = search in
     let v = c .before in
     let m = v .before in
     let l = m .before .before in
-    let a = l .before .before .before .before .args in
+    let a = s .args in
     sym (untold (trueMap (a .maps .now) (a .addresses .now) (a .states .now) (a .pages) (a .slot)) (λ h. c .if1 .taken (m .at16 .ensures ∙ h (l .loop .p) (omega arith) ∙ sym (v .live-address .ensures))))
 
 loop-again : tie.Need-loop-again Inv-loop μ-loop
@@ -30,7 +31,9 @@ loop-again c = let v = c .before in let m = v .before in
     (search needs, below-more _ _ (m .before .before .loop .inv .1) (sym (m .at16 .ensures) ∙ c .if1 .left ∙ v .live-address .ensures))
 
 returns-2 : tie.Need-returns-2 Inv-loop μ-loop
-returns-2 c = let l = c .before in let a = l .before .before .before .before .args in
+returns-2 c =
+    let s : tie.Start Inv-loop μ-loop = search in
+    let l = c .before in let a = s .args in
     sym (told (trueMap (a .maps .now) (a .addresses .now) (a .states .now) (a .pages) (a .slot)) (λ i h. l .loop .inv .1 i (omega arith)))
 
 pub map-true-spec : {M : Type 1} → statement M

@@ -17,14 +17,20 @@ abbrev μ-loop : tie.MeasureT-loop
 μ-loop maps pages slot start p₀ p = pages - p
 
 returns : tie.Need-returns Inv-loop μ-loop
-returns c = let l = c .before .before .before in let a = l .before .before .args in
+returns c =
+    let s : tie.Start Inv-loop μ-loop = search in
+    let l : tie.At-loop Inv-loop μ-loop = search in let a = s .args in
     sym (untold (zeroMap (a .maps .now) (a .pages) (a .slot)) (λ h. c .if1 .taken (c .before .at16 .ensures ∙ h (l .loop .p) (omega arith))))
 
 loop-again : tie.Need-loop-again Inv-loop μ-loop
-loop-again c = (search needs, below-more _ _ (c .before .before .before .loop .inv .1) (sym (c .before .at16 .ensures) ∙ c .if1 .left))
+loop-again c =
+    let at-loop : tie.At-loop Inv-loop μ-loop = search in
+    (search needs, below-more _ _ (at-loop .loop .inv .1) (sym (c .before .at16 .ensures) ∙ c .if1 .left))
 
 returns-2 : tie.Need-returns-2 Inv-loop μ-loop
-returns-2 c = let l = c .before in let a = l .before .before .args in
+returns-2 c =
+    let s : tie.Start Inv-loop μ-loop = search in
+    let l = c .before in let a = s .args in
     sym (told (zeroMap (a .maps .now) (a .pages) (a .slot)) (λ i h. l .loop .inv .1 i (omega arith)))
 
 pub map-zero-spec : {M : Type 1} → statement M

@@ -21,16 +21,21 @@ abbrev μ-loop : tie.MeasureT-loop
 μ-loop records states owners slot own end all₀ r₀ all r = end - r
 
 returns : tie.Need-returns Inv-loop μ-loop
-returns c = let a = c .before .before .before .args in
+returns c =
+    let s : tie.Start Inv-loop μ-loop = search in
+    let a = s .args in
     sym (told (settled (a .records) (a .states .now) (a .owners .now) (a .slot)) (λ i h e k. omega (arith, c .before .shared-slice-known2 .given i, c .if1 .taken, e)))
 
 loop-holds : tie.Need-loop-holds Inv-loop μ-loop
-loop-holds c = let a = c .before .before .before .before .args in (omega arith, sym (told (settled 0 (a .states .now) (a .owners .now) (a .slot)) (λ i h e k. omega arith)))
+loop-holds c =
+    let s : tie.Start Inv-loop μ-loop = search in
+    let a = s .args in (omega arith, sym (told (settled 0 (a .states .now) (a .owners .now) (a .slot)) (λ i h e k. omega arith)))
 
 loop-again : tie.Need-loop-again Inv-loop μ-loop
 loop-again c =
-    let l = c .before .before .before .before in
-    let a = l .before .before .before .before .before .args in
+    let s : tie.Start Inv-loop μ-loop = search in
+    let l : tie.At-loop Inv-loop μ-loop = search in
+    let a = s .args in
     (omega arith, each-next (l .loop .r) (λ i. settledRecord (at (a .states .now) i) (at (a .owners .now) i) (a .slot)) _ _ (l .loop .inv .1) (c .is-settled .ensures))
 
 -- the records past the end of the states
@@ -41,9 +46,10 @@ rest states owners slot records end most short = alike (settled end states owner
 
 returns-2 : tie.Need-returns-2 Inv-loop μ-loop
 returns-2 c =
+    let s₀ : tie.Start Inv-loop μ-loop = search in
     let l = c .before in
     let s = l .before in
-    let a = s .before .before .before .before .args in
+    let a = s₀ .args in
     let e : l .loop .r ≡ s .smaller .result = omega (arith, c .loop-test .left) in
     l .loop .inv .1 ∙ ap (λ (n : ℕ). test (settled n (a .states .now) (a .owners .now) (a .slot))) e ∙ rest (a .states .now) (a .owners .now) (a .slot) (a .records) (s .smaller .result) (s .smaller .ensures .0) (s .smaller .ensures .2)
 

@@ -19,16 +19,22 @@ abbrev μ-loop : tie.MeasureT-loop
 μ-loop count page frames entry f₀ f = count - f
 
 returns : tie.Need-returns Inv-loop μ-loop
-returns c = let l = c .before .before .before .before in let a = l .before .args in
+returns c =
+    let s : tie.Start Inv-loop μ-loop = search in
+    let l : tie.At-loop Inv-loop μ-loop = search in let a = s .args in
     sym (find-at (a .count) (λ f. eqb (frameAt (a .t1) f .page) (suc (a .page))) 0 (l .loop .f) (omega arith) (omega arith)
     (eq→T (c .if1 .taken ∙ add-one (a .page)))
     (λ k h i t. l .loop .inv .1 k i (eqb→eq _ _ t)))
 
 loop-again : tie.Need-loop-again Inv-loop μ-loop
-loop-again c = (search needs, below-more _ _ (c .before .before .before .before .loop .inv .1) (λ e. c .if1 .left (e ∙ sym (add-one _))))
+loop-again c =
+    let at-loop : tie.At-loop Inv-loop μ-loop = search in
+    (search needs, below-more _ _ (at-loop .loop .inv .1) (λ e. c .if1 .left (e ∙ sym (add-one _))))
 
 returns-2 : tie.Need-returns-2 Inv-loop μ-loop
-returns-2 c = let l = c .before in let a = l .before .args in
+returns-2 c =
+    let s : tie.Start Inv-loop μ-loop = search in
+    let l = c .before in let a = s .args in
     sym (find-none (a .count) (λ f. eqb (frameAt (a .t1) f .page) (suc (a .page))) 0 (λ k h i t. l .loop .inv .1 k (omega arith) (eqb→eq _ _ t)) ∙ omega arith)
 
 pub frame-of-spec : {M : Type 1} → statement M

@@ -19,7 +19,9 @@ loop-holds : tie.Need-loop-holds Inv-loop μ-loop
 loop-holds c = (omega arith, turned-none _ _ _ _ (λ i h. omega arith))
 
 loop-again : tie.Need-loop-again Inv-loop μ-loop
-loop-again c = let l = c .before .before .before .loop in
+loop-again c =
+    let at-loop : tie.At-loop Inv-loop μ-loop = search in
+    let l = at-loop .loop in
     (omega arith, turn-on (l .k) (l .inv .1) (omega arith) (λ h. omega arith) _ (c .at16 .ensures ∙ turned-at (l .k) (l .inv .1) (l .k + 1) (omega arith)))
 
 returns : tie.Need-returns Inv-loop μ-loop

@@ -6,10 +6,14 @@ use Rattle.leaves.proofs.queue.first.Statement.{statement}
 use Rattle.leaves.proofs.queue.first.Tie as tie
 
 returns : tie.Need-returns
-returns c = let a = c .before in omega (arith, first-at (a .before .before .args .q .now), a .at16 .ensures)
+returns c =
+    let s : tie.Start = search in
+    let a = c .before in omega (arith, first-at (s .args .q .now), a .at16 .ensures)
 
 returns-2 : tie.Need-returns-2
-returns-2 c = let a = c .before in omega (arith, first-at (a .before .before .args .q .now), a .at16 .ensures)
+returns-2 c =
+    let s : tie.Start = search in
+    let a = c .before in omega (arith, first-at (s .args .q .now), a .at16 .ensures)
 
 pub first-spec : {M : Type 1} → statement M
 first-spec = tie.close (tie.spec (λ c κs. search needs) returns (λ c. search needs) (λ c. search needs) returns-2)

@@ -10,7 +10,7 @@ returns : tie.Need-returns
 returns c =
     let p = c .before .before in
     let z = p .before .before in
-    let s = z .before .before .before in
+    let s : tie.Start = search in
     p .put16 .ensures ∙ rw (z .size .ensures, add-one (s .args .f)) (sym (push-back-set (s .args .q .now) refl (s .pre .1) (s .args .f) (s .pre .2)))
 
 pub push-back-spec : {M : Type 1} → statement M

@@ -24,7 +24,7 @@ loop-again c = let l = c .before .before .loop in
     (rw (add-one (l .k)) (turned-at (l .k) (l .inv .1) (l .k) (omega arith)), turn-on (l .k) (l .inv .1) (omega arith) tt _ (l .inv .0))
 
 returns : tie.Need-returns Inv-loop μ-loop
-returns c = let s = c .before .before in turned-all _ (c .before .loop .inv .1) (λ i h k. omega arith) ∙ front-stored (s .args .q .now) (s .pre .1) (s .args .f) (s .pre .2)
+returns c = let s : tie.Start Inv-loop μ-loop = search in turned-all _ (c .before .loop .inv .1) (λ i h k. omega arith) ∙ front-stored (s .args .q .now) (s .pre .1) (s .args .f) (s .pre .2)
 
 pub push-front-spec : {M : Type 1} → statement M
 push-front-spec = tie.close (tie.spec Inv-loop μ-loop (λ c. search needs) (λ c. search needs) loop-holds (λ c. search needs) (λ c. search needs) (λ c. search needs) (λ c. search needs) (λ c. search needs) (λ c. search needs) loop-again (λ c. search needs) returns)

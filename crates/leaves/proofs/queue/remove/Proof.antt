@@ -7,8 +7,8 @@ use Rattle.leaves.proofs.queue.remove.Tie as tie
 
 returns : tie.Need-returns
 returns c =
-    let p = c .before .before .before .before in
-    let s = p .before .before .before in
+    let p : tie.After-place = search in
+    let s : tie.Start = search in
     c .before .before .close-gap .ensures
     ∙ remove-stored (s .args .q .now) (s .pre .1) (s .args .f) (p .place .result) (s .pre .2) (p .place .ensures .0) (p .place .ensures .1 .0) (p .place .ensures .1 .1)
 

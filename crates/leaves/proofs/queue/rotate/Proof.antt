@@ -18,18 +18,19 @@ popped q p e ok h = rw e (rw length-pop (queue-pop q refl ok), omega (arith, siz
 
 push-back-requires : tie.Need-push-back-requires
 push-back-requires c κs =
-    let p = c .before .before .before in
+    let p : tie.After-pop = search in
     let f = p .before .before in
-    let s = f .before .before .before in
+    let s : tie.Start = search in
     let r = popped (s .args .q .now) (p .pop .last .0) (p .pop .ensures) (s .pre .0) (s .pre .1) in
     (omega (arith, first-at (s .args .q .now), f .first .ensures, f .before .before .slice-known .given 0), r .0, r .1)
 
 returns : tie.Need-returns
 returns c =
+    let s : tie.Start = search in
     let b = c .before .before in
-    let p = b .before .before .before .before in
+    let p : tie.After-pop = search in
     let f = p .before .before in
-    b .push-back .ensures ∙ ap (λ (l : List ℕ). push-back l (f .first .result)) (p .pop .ensures) ∙ ap (push-back (pop (f .before .before .before .args .q .now))) (f .first .ensures)
+    b .push-back .ensures ∙ ap (λ (l : List ℕ). push-back l (f .first .result)) (p .pop .ensures) ∙ ap (push-back (pop (s .args .q .now))) (f .first .ensures)
 
 pub rotate-spec : {M : Type 1} → statement M
 rotate-spec = tie.close (tie.spec (λ c κs. search needs) (λ c κs. search needs) push-back-requires (λ c. search needs) returns)

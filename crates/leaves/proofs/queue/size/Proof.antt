@@ -23,13 +23,19 @@ module _ (q : List ℕ) {k e : ℕ} (h : k ≤ size q) (read : e ≡ at q k) (d 
   further = size-more q k h (λ z. d (read ∙ z))
 
 add-k : tie.Need-add-k Inv-loop μ-loop
-add-k c = let a = c .before in omega (arith, further (a .before .before .before .args .q .now) (a .before .loop .inv) (a .at16 .ensures) (c .if1 .taken), size-le (a .before .before .before .args .q .now))
+add-k c =
+    let s : tie.Start Inv-loop μ-loop = search in
+    let a = c .before in omega (arith, further (s .args .q .now) (a .before .loop .inv) (a .at16 .ensures) (c .if1 .taken), size-le (s .args .q .now))
 
 loop-less : tie.Need-loop-less Inv-loop μ-loop
-loop-less c = let a = c .before in omega (arith, further (a .before .before .before .args .q .now) (a .before .loop .inv) (a .at16 .ensures) (c .if1 .taken), size-le (a .before .before .before .args .q .now))
+loop-less c =
+    let s : tie.Start Inv-loop μ-loop = search in
+    let a = c .before in omega (arith, further (s .args .q .now) (a .before .loop .inv) (a .at16 .ensures) (c .if1 .taken), size-le (s .args .q .now))
 
 loop-again : tie.Need-loop-again Inv-loop μ-loop
-loop-again c = let a = c .before in omega (arith, further (a .before .before .before .args .q .now) (a .before .loop .inv) (a .at16 .ensures) (c .if1 .taken))
+loop-again c =
+    let s : tie.Start Inv-loop μ-loop = search in
+    let a = c .before in omega (arith, further (s .args .q .now) (a .before .loop .inv) (a .at16 .ensures) (c .if1 .taken))
 
 returns : tie.Need-returns Inv-loop μ-loop
 returns c = let a = c .before in sym (size-found _ _ (a .before .loop .inv) (sym (a .at16 .ensures) ∙ c .if1 .left))

@@ -21,30 +21,34 @@ abbrev μ-loop : tie.MeasureT-loop
 μ-loop sizes states₀ owners₀ map₀ slot free count₀ r₀ states owners map count r = length states₀ - r
 
 loop-holds : tie.Need-loop-holds Inv-loop μ-loop
-loop-holds c = let s = c .before .before .before in let a = s .args in (refl, begun (a .sizes) (a .slot) (a .states .now) (a .owners .now) (a .map .now) (a .free) (s .pre .3) (s .pre .2))
+loop-holds c = let s : tie.Start Inv-loop μ-loop = search in let a = s .args in (refl, begun (a .sizes) (a .slot) (a .states .now) (a .owners .now) (a .map .now) (a .free) (s .pre .3) (s .pre .2))
 
 slice-read-if1 : tie.Need-slice-read-if1 Inv-loop μ-loop
 slice-read-if1 c = omega arith
 
 slice-read-if2 : tie.Need-slice-read-if2 Inv-loop μ-loop
-slice-read-if2 c = let l = c .before .before .before .before in let i = l .loop .inv .1 in omega (arith, i .the-owners .long, i .fits .states-long, l .before .before .before .before .pre .0)
+slice-read-if2 c =
+    let s : tie.Start Inv-loop μ-loop = search in
+    let l : tie.At-loop Inv-loop μ-loop = search in let i = l .loop .inv .1 in omega (arith, i .the-owners .long, i .fits .states-long, s .pre .0)
 
 cast-if2 : tie.Need-cast-if2 Inv-loop μ-loop
-cast-if2 c = omega (arith, c .slice-known5 .given (c .before .before .before .before .loop .r))
+cast-if2 c =
+    let at-loop : tie.At-loop Inv-loop μ-loop = search in
+    omega (arith, c .slice-known5 .given (at-loop .loop .r))
 
 free-record-requires : tie.Need-free-record-requires Inv-loop μ-loop
-free-record-requires c κs = let t = c .before .before .before .before .before in let l = t .before .before .before in let i = l .loop .inv .1 in
+free-record-requires c κs = let t : tie.Then1 Inv-loop μ-loop = search in let l : tie.At-loop Inv-loop μ-loop = search in let i = l .loop .inv .1 in
     (omega (arith, i .fits .states-long), t .if1 .taken, i .fits)
 
 add-count : tie.Need-add-count Inv-loop μ-loop
-add-count c = let l = c .before .before .before .before .before .before .before .before .before .before .before .before .before .before .before in let s = l .before .before .before .before in
+add-count c = let l : tie.At-loop Inv-loop μ-loop = search in let s : tie.Start Inv-loop μ-loop = search in
     omega (arith, l .loop .inv .1 .the-count, free-most (s .args .sizes) (at (l .loop .states)), s .pre .1)
 
 loop-again : tie.Need-loop-again Inv-loop μ-loop
 loop-again c =
-    let l = c .before .before .before in
+    let l : tie.At-loop Inv-loop μ-loop = search in
     let i = l .loop .inv in
-    let s = l .before .before .before .before in
+    let s : tie.Start Inv-loop μ-loop = search in
     ⊎-elim
     (λ w. (
       ap length (w .15) ∙ w .6 .kept .1 .1 .1 .0 ∙ i .0,
@@ -57,7 +61,7 @@ loop-again c =
     (c .if1 .came)
 
 returns : tie.Need-returns Inv-loop μ-loop
-returns c = let l = c .before in let s = l .before .before .before .before in let i = l .loop .inv .1 in
+returns c = let l = c .before in let s : tie.Start Inv-loop μ-loop = search in let i = l .loop .inv .1 in
     ended (l .loop .r) i (omega (arith, i .the-states .long)) (omega (arith, i .the-states .long, i .fits .states-long, s .pre .0))
 
 pub free-leaving-spec : {M : Type 1} → statement M

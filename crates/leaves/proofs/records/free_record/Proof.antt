@@ -12,18 +12,18 @@ use Rattle.leaves.proofs.records.free_record.Statement.{statement}
 use Rattle.leaves.proofs.records.free_record.Tie as tie
 
 set-mark-requires : tie.Need-set-mark-requires
-set-mark-requires c κs = let s = c .before .before .before .before in let a = s .args in
+set-mark-requires c κs = let s : tie.Start = search in let a = s .args in
     (word-fits (a .sizes) (a .states .now) (a .map .now) (s .pre .2) (a .r) (s .pre .0), off-now (a .sizes) (a .states .now) (a .map .now) (s .pre .2) (a .r) (s .pre .0) (λ e. omega (arith, s .pre .1, e)))
 
 move-record-requires : tie.Need-move-record-requires
-move-record-requires c κs = let s = c .before .before .before .before .before .before .before .before in along _ _ _ (s .pre .1) freeing
+move-record-requires c κs = let s : tie.Start = search in along _ _ _ (s .pre .1) freeing
 
 returns : tie.Need-returns
 returns c =
     let b = c .before .before in
-    let m = b .before .before .before .before in
-    let f = m .before .before .before .before in
-    let s = f .before .before .before .before .before in
+    let m : tie.After-move-record = search in
+    let f : tie.After-set-mark = search in
+    let s : tie.Start = search in
     let a = s .args in (
       m .move-record .ensures,
       b .put8 .ensures,

@@ -6,7 +6,7 @@ use Rattle.leaves.proofs.slots.clear_from.Statement.{statement}
 use Rattle.leaves.proofs.slots.clear_from.Tie as tie
 
 returns : tie.Need-returns
-returns c = let s = c .before .before .before .before .before in let a = s .args in
+returns c = let s : tie.Start = search in let a = s .args in
     c .before .before .clear-range .ensures ∙ store-same (a .to .now) _ _ _ _ (λ i h p. inside-from (a .pages) (a .slot) (s .pre .0) (a .k) i p) (λ i h p. from-inside (a .pages) (a .slot) (s .pre .0) (a .k) i p) (λ i h p. refl)
 
 pub clear-from-spec : {M : Type 1} → statement M

@@ -26,11 +26,14 @@ loop-holds : tie.Need-loop-holds Inv-loop μ-loop
 loop-holds c = turned-none _ _ _ _ (λ i h. omega arith)
 
 moved-requires : tie.Need-moved-requires Inv-loop μ-loop
-moved-requires c κs = c .before .before .before .before .before .before .before .pre .1
+moved-requires c κs =
+    let s : tie.Start Inv-loop μ-loop = search in
+    s .pre .1
 
 loop-again : tie.Need-loop-again Inv-loop μ-loop
 loop-again c =
-    let l = c .before .before .before .before .loop in
+    let at-loop : tie.At-loop Inv-loop μ-loop = search in
+    let l = at-loop .loop in
     let old = turned-at (l .r) (l .inv) (l .r) (omega arith) in
     ⊎-elim
     (λ w. turn-on (l .r) (l .inv) (omega arith) (sym old ∙ w .0 .1, eqb-true _ _ (w .0 .0)) _ (w .1))

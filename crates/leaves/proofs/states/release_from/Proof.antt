@@ -31,7 +31,7 @@ abbrev μ-loop : tie.MeasureT-loop
 μ-loop states₀ addresses slot k pages end i₀ states i = end - i
 
 loop-holds : tie.Need-loop-holds Inv-loop μ-loop
-loop-holds c = let s = c .before .before in let a = s .args in
+loop-holds c = let s : tie.Start Inv-loop μ-loop = search in let a = s .args in
     (omega arith, omega (arith, s .pre .from), named-none _ _ _ _ _ _ (λ i h. omega (arith, from-inside (a .sizes .pages) (a .slot) (s .pre .pages-some) (a .k) i h)))
 
 -- what is known of a page's record in turn i
@@ -57,14 +57,14 @@ move-record-requires c κs =
     let t = c .before in
     let f = t .before in
     let l = f .before .before in
-    let s = l .before .before .before in
+    let s : tie.Start Inv-loop μ-loop = search in
     may (l .loop .i) _ (s .pre) (l .loop .inv .2) (l .loop .inv .0) (omega arith) (omega (arith, f .at16 .ensures, t .if1 .taken))
 
 loop-again : tie.Need-loop-again Inv-loop μ-loop
 loop-again c =
     let f = c .before in
     let l = f .before .before in
-    let s = l .before .before .before in (
+    let s : tie.Start Inv-loop μ-loop = search in (
       omega arith,
       omega arith,
       ⊎-elim
@@ -76,19 +76,19 @@ loop-again c =
 returns : tie.Need-returns Inv-loop μ-loop
 returns c =
     let l = c .before in
-    let s = l .before .before .before in
+    let s : tie.Start Inv-loop μ-loop = search in
     let a = s .args in
     named-all (l .loop .i) (l .loop .inv .2) (λ i b u. omega (arith, from-inside (a .sizes .pages) (a .slot) (s .pre .pages-some) (a .k) i u))
     ∙ ap (λ (n : ℕ). store (a .states .now) (namedBy n (cut (a .sizes .pages) (a .slot) (a .k)) (a .addresses .now)) (λ r. RELEASED)) (s .pre .addresses-long)
 
 mul-end : tie.Need-mul-end Inv-loop μ-loop
-mul-end c = let s = c .before .before in omega (arith, s .pre .inside, s .pre .addresses-long)
+mul-end c = let s : tie.Start Inv-loop μ-loop = search in omega (arith, s .pre .inside, s .pre .addresses-long)
 
 add-end : tie.Need-add-end Inv-loop μ-loop
-add-end c = let s = c .before .before in omega (arith, s .pre .inside, s .pre .addresses-long)
+add-end c = let s : tie.Start Inv-loop μ-loop = search in omega (arith, s .pre .inside, s .pre .addresses-long)
 
 add-i : tie.Need-add-i Inv-loop μ-loop
-add-i c = let s = c .before .before in omega (arith, s .pre .inside, s .pre .addresses-long, s .pre .from)
+add-i c = let s : tie.Start Inv-loop μ-loop = search in omega (arith, s .pre .inside, s .pre .addresses-long, s .pre .from)
 
 same-length : tie.Need-same-length Inv-loop μ-loop
 same-length c = c .before .loop .inv .2 .long

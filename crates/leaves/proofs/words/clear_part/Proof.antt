@@ -18,11 +18,11 @@ loop-holds : tie.Need-loop-holds Inv-loop μ-loop
 loop-holds c = let a = c .args in (omega arith, omega arith, turned-none _ _ _ _ (λ i h. omega (arith, part-inside (a .size) (a .part) (c .pre .0) i h)))
 
 loop-again : tie.Need-loop-again Inv-loop μ-loop
-loop-again c = let l = c .before .loop in let s = c .before .before in
+loop-again c = let l = c .before .loop in let s : tie.Start Inv-loop μ-loop = search in
     (omega arith, omega arith, turn-on (l .i) (l .inv .2) (omega arith) (inside-part (s .args .size) (s .args .part) (s .pre .0) (l .i) (omega arith, omega arith)) 0 refl)
 
 returns : tie.Need-returns Inv-loop μ-loop
-returns c = let s = c .before .before in turned-all _ (c .before .loop .inv .2) (λ i h k. omega (arith, part-inside (s .args .size) (s .args .part) (s .pre .0) i k))
+returns c = let s : tie.Start Inv-loop μ-loop = search in turned-all _ (c .before .loop .inv .2) (λ i h k. omega (arith, part-inside (s .args .size) (s .args .part) (s .pre .0) i k))
 
 pub clear-part-spec : {M : Type 1} → statement M
 clear-part-spec = tie.close (tie.spec Inv-loop μ-loop (λ c. search needs) (λ c. search needs) loop-holds (λ c. search needs) (λ c. search needs) (λ c. search needs) (λ c. search needs) loop-again (λ c. search needs) returns)

@@ -22,8 +22,9 @@ loop-holds c = let a = c .args in (omega arith, turned-none _ _ _ _ (λ i h. ome
 
 loop-again : tie.Need-loop-again Inv-loop μ-loop
 loop-again c =
+    let s : tie.Start Inv-loop μ-loop = search in
     let l = c .before .before .loop in
-    let a = c .before .before .before .args in
+    let a = s .args in
     let less : l .w < a .size = omega arith in
     let e : a .to-part * a .size + l .w + 1 ≡ a .to-part * a .size + (l .w + 1) = omega arith in (
       omega arith,
@@ -32,7 +33,7 @@ loop-again c =
     )
 
 returns : tie.Need-returns Inv-loop μ-loop
-returns c = let s = c .before .before in turned-all _ (c .before .loop .inv .1) (λ i h k. omega (arith, part-inside (s .args .size) (s .args .to-part) (s .pre .0) i k))
+returns c = let s : tie.Start Inv-loop μ-loop = search in turned-all _ (c .before .loop .inv .1) (λ i h k. omega (arith, part-inside (s .args .size) (s .args .to-part) (s .pre .0) i k))
 
 pub copy-part-spec : {M : Type 1} → statement M
 copy-part-spec = tie.close (tie.spec Inv-loop μ-loop (λ c. search needs) (λ c. search needs) loop-holds (λ c. search needs) (λ c. search needs) (λ c. search needs) (λ c. search needs) (λ c. search needs) (λ c. search needs) (λ c. search needs) (λ c. search needs) loop-again (λ c. search needs) returns)

@@ -6,32 +6,36 @@ use Prim.Native.Nat.{_<_}
 use Rattle.tables.specs.Questions.{yes-all}
 use Rattle.model.specs.State.{frameAt}
 use Rattle.model.specs.Own.{first-yes, first-no}
-use Rattle.pages.proofs.Seats.{seat-none, seat-some, seat-tells, seat-told}
-use Rattle.pages.specs.Asks.{seat, isStill}
+use Rattle.pages.proofs.ItsFrame.{its-none, its-some, its-tells, its-told}
+use Rattle.leaves.specs.FrameLaws.{frameIn, isStill}
 use Rattle.pages.proofs.asks.ask_frame.Statement.{statement}
 use Rattle.pages.proofs.asks.ask_frame.Tie as tie
 
 returns : tie.Need-returns
-returns c = let o = c .before .before in let a = o .before .args in
-    sym (first-no 13 _ _ (seat-none (a .sizes) (a .frames) (a .page) (rw (sym (o .frame-of .ensures)) (c .if1 .taken))))
+returns c =
+    let s : tie.Start = search in
+    let o = c .before .before in let a = s .args in
+    sym (first-no 13 _ _ (its-none (a .sizes) (a .frames) (a .page) (rw (sym (o .frame-of .ensures)) (c .if1 .taken))))
 
 returns-2 : tie.Need-returns-2
 returns-2 c =
+    let s : tie.Start = search in
     let g = c .before .before in
-    let o = g .before .before .before in
-    let a = o .before .args in
-    let h : seat (a .sizes) (a .frames) (a .page) < a .sizes .frames = omega (arith, o .frame-of .ensures, g .before .if1 .left) in
+    let o : tie.After-frame-of = search in
+    let a = s .args in
+    let h : frameIn (a .sizes .frames) (a .frames) (a .page) < a .sizes .frames = omega (arith, o .frame-of .ensures, g .before .if1 .left) in
     let e = g .frame-at .ensures ∙ ap (frameAt (a .frames)) (o .frame-of .ensures) in
-    sym (first-yes 13 _ _ (seat-some (a .sizes) (a .frames) (a .page) h) ∙ first-no 14 _ _ (λ k. c .if2 .taken (rw e (seat-tells (a .sizes) (a .frames) (a .page) h isStill k))))
+    sym (first-yes 13 _ _ (its-some (a .sizes) (a .frames) (a .page) h) ∙ first-no 14 _ _ (λ k. c .if2 .taken (rw e (its-tells (a .sizes) (a .frames) (a .page) h isStill k))))
 
 returns-3 : tie.Need-returns-3
 returns-3 c =
+    let s : tie.Start = search in
     let g = c .before .before in
-    let o = g .before .before .before in
-    let a = o .before .args in
-    let h : seat (a .sizes) (a .frames) (a .page) < a .sizes .frames = omega (arith, o .frame-of .ensures, g .before .if1 .left) in
+    let o : tie.After-frame-of = search in
+    let a = s .args in
+    let h : frameIn (a .sizes .frames) (a .frames) (a .page) < a .sizes .frames = omega (arith, o .frame-of .ensures, g .before .if1 .left) in
     let e = g .frame-at .ensures ∙ ap (frameAt (a .frames)) (o .frame-of .ensures) in
-    sym (yes-all _ (seat-some (a .sizes) (a .frames) (a .page) h, (seat-told (a .sizes) (a .frames) (a .page) h (o .before .pre .0) isStill (rw (sym e) (c .if2 .left)), tt)))
+    sym (yes-all _ (its-some (a .sizes) (a .frames) (a .page) h, (its-told (a .sizes) (a .frames) (a .page) h (s .pre .0) isStill (rw (sym e) (c .if2 .left)), tt)))
 
 pub ask-frame-spec : {M : Type 1} → statement M
 ask-frame-spec = tie.close (tie.spec (λ c κs. search needs) returns (λ c κs. search needs) returns-2 returns-3)

@@ -8,8 +8,9 @@ use Rattle.tables.specs.Questions.{firstNo, all-yes}
 use Rattle.tables.specs.Also.{also-yes, also-no}
 use Rattle.model.specs.State.{pageOf}
 use Rattle.model.specs.Bounds.{page-most}
-use Rattle.pages.specs.Asks.{slotAsked, frameAsked}
-use Rattle.pages.proofs.Seats.{seat-in}
+use Rattle.leaves.specs.Asks.{slotAsked}
+use Rattle.pages.specs.Asks.{frameAsked}
+use Rattle.pages.proofs.ItsFrame.{its-in}
 use Rattle.pages.proofs.asks.ask_served.Statement.{statement}
 use Rattle.pages.proofs.asks.ask_served.Tie as tie
 
@@ -19,7 +20,7 @@ returns c = let n = c .before .ask-slot .ensures in (n ∙ sym (also-no _ _ (λ 
 page-of-requires : tie.Need-page-of-requires
 page-of-requires c κs =
     let k = c .before in
-    let s = k .before .before .before in
+    let s : tie.Start = search in
     let t = all-yes 0 (slotAsked (s .args .in-range) (s .args .slot) (s .args .numbers .now) (s .args .active .now)) tt (sym (k .ask-slot .ensures) ∙ c .if1 .left) in
     let r = s .pre .1 (T→true _ (t .0)) in
     (s .pre .0 .sizes, r .0, r .1)
@@ -27,7 +28,7 @@ page-of-requires c κs =
 ask-frame-requires : tie.Need-ask-frame-requires
 ask-frame-requires c κs =
     let k = c .before .before in
-    let s = k .before .before .before in
+    let s : tie.Start = search in
     let t = all-yes 0 (slotAsked (s .args .in-range) (s .args .slot) (s .args .numbers .now) (s .args .active .now)) tt (sym (k .ask-slot .ensures) ∙ c .before .if1 .left) in
     let r = s .pre .1 (T→true _ (t .0)) in
     (s .pre .0, rw (c .page-of .ensures) (page-most (s .args .sizes) (s .pre .0 .sizes) (s .args .slot) (s .args .page) (r .0) (r .1)))
@@ -36,13 +37,13 @@ returns-2 : tie.Need-returns-2
 returns-2 c =
     let i = c .before in
     let k = i .before .before in
-    let s = k .before .before .before in
+    let s : tie.Start = search in
     let e = c .ask-frame .ensures ∙ ap (λ (j : ℕ). firstNo (frameAsked (s .args .sizes) (take (s .args .sizes .frames) (s .args .frames)) j)) (i .page-of .ensures) in
     let t = sym (k .ask-slot .ensures) ∙ i .before .if1 .left in (
       e ∙ sym (also-yes 0 (slotAsked (s .args .in-range) (s .args .slot) (s .args .numbers .now) (s .args .active .now)) _ tt t),
       λ h. (
         T→true _ (all-yes 0 (slotAsked (s .args .in-range) (s .args .slot) (s .args .numbers .now) (s .args .active .now)) tt t .0),
-        seat-in (s .args .sizes) (s .args .frames) (pageOf (s .args .sizes) (s .args .slot) (s .args .page)) (all-yes 0 (frameAsked (s .args .sizes) (take (s .args .sizes .frames) (s .args .frames)) (pageOf (s .args .sizes) (s .args .slot) (s .args .page))) tt (sym e ∙ h) .0),
+        its-in (s .args .sizes) (s .args .frames) (pageOf (s .args .sizes) (s .args .slot) (s .args .page)) (all-yes 0 (frameAsked (s .args .sizes) (take (s .args .sizes .frames) (s .args .frames)) (pageOf (s .args .sizes) (s .args .slot) (s .args .page))) tt (sym e ∙ h) .0),
       ),
     )
 

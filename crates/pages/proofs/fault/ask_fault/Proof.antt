@@ -9,7 +9,7 @@ use Rattle.tables.specs.Questions.{firstNo, all-yes}
 use Rattle.tables.specs.Also.{also-yes, also-no}
 use Rattle.model.specs.State.{pageOf}
 use Rattle.model.specs.Bounds.{page-most}
-use Rattle.pages.specs.Asks.{slotAsked}
+use Rattle.leaves.specs.Asks.{slotAsked}
 use Rattle.pages.specs.Faults.{awayAsked, supplyAsked}
 use Rattle.pages.proofs.fault.ask_fault.Statement.{statement}
 use Rattle.pages.proofs.fault.ask_fault.Tie as tie

@@ -1,39 +1,45 @@
 -- `place` meets its contract: refused, or the page's frame and its words.
+use mathlib.Core.List.{[]}
 use native.Mathlib.Omega.{arith}
-use Rattle.pages.proofs.Served.{page-range}
-use Rattle.pages.proofs.Looking.{placed-no, placed-yes, place-fits}
+use Rattle.pages.proofs.Served.{Call, page-range}
+use Rattle.pages.proofs.InFrame.{placed-no, placed-yes, place-fits}
 use Rattle.pages.proofs.look.place.Statement.{statement}
 use Rattle.pages.proofs.look.place.Tie as tie
 
+abbrev call : tie.Start → Call
+call s = let a = s .args in record { sizes = a .sizes; frames = a .frames; numbers = a .numbers .now; words = []; list = []; active = a .active .now; slot = a .slot; page = a .page }
+
 ask-served-requires : tie.Need-ask-served-requires
-ask-served-requires c κs = let s = c .before .before .before .before in (s .pre, λ e. page-range (s .args .sizes) (s .args .slot) (s .args .page) e)
+ask-served-requires c κs = let s : tie.Start = search in (s .pre, λ e. page-range (s .args .sizes) (s .args .slot) (s .args .page) e)
 
 returns : tie.Need-returns
 returns c =
+    let s : tie.Start = search in
     let k = c .before in
-    let a = k .before .before .before .before .before .args in
-    (placed-no (a .sizes) (a .frames) (a .numbers .now) (a .active .now) (a .slot) (a .page) (k .ask-served .result) (k .ask-served .ensures .0) (c .if1 .taken), omega arith)
+    let a = s .args in
+    (placed-no (call s) (k .ask-served .result) (k .ask-served .ensures .0) (c .if1 .taken), omega arith)
 
-seat-of-requires : tie.Need-seat-of-requires
-seat-of-requires c κs =
-    let s = c .before .before .before .before .before .before in
+its-frame-requires : tie.Need-its-frame-requires
+its-frame-requires c κs =
+    let s : tie.Start = search in
     let r = page-range (s .args .sizes) (s .args .slot) (s .args .page) (c .before .ask-served .ensures .1 (c .if1 .left) .0) in
     (s .pre .sizes, r .0, r .1)
 
 word-of-requires : tie.Need-word-of-requires
 word-of-requires c κs =
     let k = c .before .before in
-    let s = k .before .before .before .before .before in
-    (s .pre .sizes, rw (c .seat-of .ensures) (k .ask-served .ensures .1 (c .before .if1 .left) .1), s .pre .sizes .words)
+    let s : tie.Start = search in
+    (s .pre .sizes, rw (c .its-frame .ensures) (k .ask-served .ensures .1 (c .before .if1 .left) .1), s .pre .sizes .words)
 
 returns-2 : tie.Need-returns-2
 returns-2 c =
+    let s : tie.Start = search in
     let f = c .before in
     let k = f .before .before in
-    let a = k .before .before .before .before .before .args in (
-      placed-yes (a .sizes) (a .frames) (a .numbers .now) (a .active .now) (a .slot) (a .page) (k .ask-served .result) (k .ask-served .ensures .0) (f .before .if1 .left) (f .seat-of .result) (c .word-of .result) (f .seat-of .ensures) (c .word-of .ensures),
-      place-fits (a .sizes) (a .frames) (a .numbers .now) (a .active .now) (a .slot) (a .page) (f .seat-of .result) (c .word-of .result) (rw (f .seat-of .ensures) (k .ask-served .ensures .1 (f .before .if1 .left) .1)) (c .word-of .ensures),
+    let a = s .args in (
+      placed-yes (call s) (k .ask-served .result) (k .ask-served .ensures .0) (f .before .if1 .left) (f .its-frame .result) (c .word-of .result) (f .its-frame .ensures) (c .word-of .ensures),
+      place-fits (call s) (f .its-frame .result) (c .word-of .result) (rw (f .its-frame .ensures) (k .ask-served .ensures .1 (f .before .if1 .left) .1)) (c .word-of .ensures),
     )
 
 pub place-spec : {M : Type 1} → statement M
-place-spec = tie.close (tie.spec ask-served-requires returns seat-of-requires word-of-requires returns-2)
+place-spec = tie.close (tie.spec ask-served-requires returns its-frame-requires word-of-requires returns-2)
