@@ -20,9 +20,9 @@ abbrev μ-loop : tie.MeasureT-loop
 
 loop-holds : tie.Need-loop-holds Inv-loop μ-loop
 loop-holds c =
-    let k = c .before .before in
-    let h = k .before .before .before .before in
-    let s = h .before .before .before .before .before in
+    let s : tie.Start Inv-loop μ-loop = search in
+    let k : tie.After-zero82 Inv-loop μ-loop = search in
+    let h : tie.After-zero8 Inv-loop μ-loop = search in
     let e : length (h .zero8 .last .0) ≡ length (s .args .states .now) = h .zero8 .kept .0 in (
       omega arith,
       filled-start _ (stateBy 0 (at (s .args .maps .now))) (h .zero8 .ensures) e (state-none (at (s .args .maps .now))),
@@ -34,29 +34,32 @@ cast-entry c = omega (arith, c .shared-slice-known2 .given (c .before .before .l
 
 slice-write-states : tie.Need-slice-write-states Inv-loop μ-loop
 slice-write-states c =
-    let a = c .before .before .before in
-    let h = a .before .before .before .before .before .before .before in
-    let s = h .before .before .before .before .before in
+    let s : tie.Start Inv-loop μ-loop = search in
+    let a : tie.At-loop Inv-loop μ-loop = search in
+    let h : tie.After-zero8 Inv-loop μ-loop = search in
     let e : length (h .zero8 .last .0) ≡ length (s .args .states .now) = h .zero8 .kept .0 in
     let m : ℕ = at (s .args .maps .now) (a .loop .i) in
     omega (arith, e, a .loop .inv .1 .long, s .pre .3 (a .loop .i) (omega arith) (m - 1) (omega arith))
 
 cast-owners : tie.Need-cast-owners Inv-loop μ-loop
-cast-owners c = let s = c .before .before .before .before .before .before .before .before .before .before .before .before .before .before .before in omega (arith, slot-inside (c .before .before .before .loop .i) (s .args .pages) 64 (s .pre .0) (omega arith))
+cast-owners c =
+    let s : tie.Start Inv-loop μ-loop = search in
+    let at-loop : tie.At-loop Inv-loop μ-loop = search in
+    omega (arith, slot-inside (at-loop .loop .i) (s .args .pages) 64 (s .pre .0) (omega arith))
 
 slice-write-owners : tie.Need-slice-write-owners Inv-loop μ-loop
 slice-write-owners c =
-    let a = c .before .before .before in
-    let h = a .before .before .before .before .before .before .before in
-    let s = h .before .before .before .before .before in
+    let s : tie.Start Inv-loop μ-loop = search in
+    let a : tie.At-loop Inv-loop μ-loop = search in
+    let h : tie.After-zero8 Inv-loop μ-loop = search in
     let e : length (h .zero8 .last .0) ≡ length (s .args .states .now) = h .zero8 .kept .0 in
     let m : ℕ = at (s .args .maps .now) (a .loop .i) in
     omega (arith, e, a .loop .inv .2 .long, s .pre .3 (a .loop .i) (omega arith) (m - 1) (omega arith))
 
 loop-again : tie.Need-loop-again Inv-loop μ-loop
 loop-again c =
-    let a = c .before .before .before in
-    let s = a .before .before .before .before .before .before .before .before .before .before .before .before in
+    let s : tie.Start Inv-loop μ-loop = search in
+    let a : tie.At-loop Inv-loop μ-loop = search in
     let m = at (s .args .maps .now) in
     ⊎-elim
     (λ w. (omega arith, filled-by (state-turn m (a .loop .i) (a .loop .inv .1) (w .0 .taken)) (w .1), filled-by (owner-turn m (a .loop .i) (s .args .pages) (length (s .args .maps .now)) (s .pre .4) (omega arith) (a .loop .inv .2) (w .0 .taken)) (w .2)))
@@ -64,16 +67,21 @@ loop-again c =
     (c .if1 .came)
 
 same-length : tie.Need-same-length Inv-loop μ-loop
-same-length c = c .before .loop .inv .1 .long ∙ c .before .before .before .before .before .before .before .before .zero8 .kept .0
+same-length c =
+    let after-zero8 : tie.After-zero8 Inv-loop μ-loop = search in
+    c .before .loop .inv .1 .long ∙ after-zero8 .zero8 .kept .0
 
 same-length-2 : tie.Need-same-length-2 Inv-loop μ-loop
-same-length-2 c = c .before .loop .inv .2 .long ∙ c .before .before .before .before .before .before .before .before .zero8 .kept .0 ∙ sym (c .before .before .before .before .before .before .before .before .before .before .before .before .before .pre .2)
+same-length-2 c =
+    let s₀ : tie.Start Inv-loop μ-loop = search in
+    let after-zero8 : tie.After-zero8 Inv-loop μ-loop = search in
+    c .before .loop .inv .2 .long ∙ after-zero8 .zero8 .kept .0 ∙ sym (s₀ .pre .2)
 
 returns : tie.Need-returns Inv-loop μ-loop
 returns c =
-    let a = c .before in
-    let h = a .before .before .before .before .before .before .before in
-    let s = h .before .before .before .before .before in
+    let s : tie.Start Inv-loop μ-loop = search in
+    let a : tie.At-loop Inv-loop μ-loop = search in
+    let h : tie.After-zero8 Inv-loop μ-loop = search in
     let e : length (h .zero8 .last .0) ≡ length (s .args .states .now) = h .zero8 .kept .0 in
     let n : a .loop .i ≡ length (s .args .maps .now) = omega arith in (
       filled-tab (a .loop .inv .1) ∙ (λ x. filedStates (e x) (n x) (at (s .args .maps .now))),

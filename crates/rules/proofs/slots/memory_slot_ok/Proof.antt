@@ -6,7 +6,7 @@ use Rattle.rules.proofs.slots.memory_slot_ok.Tie as tie
 
 returns : tie.Need-returns
 returns c =
-    let active-fit = c .before .before .before .active-fit in
+    let after-active-fit : tie.After-active-fit = search in let active-fit = after-active-fit .active-fit in
     four _ _ _ _ _ _ _ _ (active-fit .ensures) (c .before .before .updating-fit .ensures) (c .before .active-filled .ensures) (c .update-active .ensures)
 
 pub memory-slot-ok-spec : {M : Type 1} → statement M
