@@ -15,8 +15,11 @@ use Rattle.rules.proofs.Entries.{inactive-zero, not-updating, part}
 use Rattle.rules.proofs.Marked.{among, step, skip-run, first-distinct, ended}
 
 -- an entry that may be marked is at most the number of what it names
-pub unmarked-le : (m : ℕ) (marks : List ℕ) (e : ℕ) → Holds (unmarked m marks e) → e ≤ m
+unmarked-le : (m : ℕ) (marks : List ℕ) (e : ℕ) → Holds (unmarked m marks e) → e ≤ m
 unmarked-le m marks e u = elim (ℕ-discrete e 0) [ yes q ↦ omega arith | no q ↦ omega (arith, u (e - 1) (omega arith) .0) ]
+
+pub passed-le : (m : ℕ) (marks : List ℕ) (e : ℕ) {passed : Bool} → passed ≡ true → passed ≡ test (unmarked m marks e) → e ≤ m
+passed-le m marks e taken told = unmarked-le m marks e (learn (unmarked m marks e) (sym taken ∙ told))
 
 -- ── the entries of a row, from `from` up ──
 module _ (m : ℕ) (entry : ℕ → ℕ) (size : ℕ) (marks : List ℕ) where

@@ -6,7 +6,7 @@ ghost use Prim.Native.Nat.{_+_, _*_, _≤_, _<_};
 ghost use lib.Dec.{ltb};
 ghost use lib.ListN.{length};
 ghost use Rattle.tables.specs.Base.{at, count};
-ghost use Rattle.tables.specs.Rule.{same, below, _and_, each, test, Holds};
+ghost use Rattle.tables.specs.Rule.{same, each, test, Holds};
 ghost use Rattle.model.specs.Rules.{fit};
 ghost use Rattle.rules.specs.Passes.{mostEntries, heldRow, HeldFit, ImagedFit, livePage, usedPage};
 ghost use Rattle.rules.specs.Contracts.{MarkedTo, MarkedOn, heldEntered, imagedEntered, PagesGiven, pagesEntered, PagesLeft};

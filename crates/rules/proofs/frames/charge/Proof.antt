@@ -5,8 +5,9 @@ use native.Mathlib.Nat.{div-le-self}
 use native.Mathlib.Omega.{arith}
 use lib.ListN.{length}
 use Rattle.tables.specs.Base.{at}
-use Rattle.rules.proofs.Charges.{charge-none, charge-live, charge-more, slot-in}
+use Rattle.rules.proofs.Charges.{charge-none, charge-live, charge-more}
 use Rattle.rules.proofs.Entries.{fit-le}
+use Rattle.rules.proofs.FrameTests.{slot-below}
 use Rattle.rules.proofs.frames.charge.Statement.{statement}
 use Rattle.rules.proofs.frames.charge.Tie as tie
 
@@ -34,7 +35,7 @@ module _ (c : tie.After-shared-slice-known5) where
   nonzero = search
 
   in-slots : (start .args .page - 1) / start .args .pages < length (start .args .accounts .now)
-  in-slots = slot-in (start .args .pages) (start .args .page) (length (start .args .accounts .now)) (start .pre .0) (nonzero .if1 .left) (start .pre .1)
+  in-slots = slot-below (start .args .page) (length (start .args .accounts .now)) (start .args .pages) (start .pre .0) (nonzero .if1 .left) (start .pre .1)
 
   counted : at (start .args .accounts .now) ((start .args .page - 1) / start .args .pages) < 16
   counted = start .pre .4 ((start .args .page - 1) / start .args .pages) in-slots
@@ -71,4 +72,7 @@ returns-3 c =
     charge-live (a .pages) (a .page) (at (a .accounts .now)) (at (a .addresses .now)) (at (a .states .now)) (a .totals .now) (else1 .if1 .left) _ (l .live-one .ensures) (c .if2 .left)
 
 pub charge-spec : {M : Type 1} → statement M
-charge-spec = tie.close (tie.spec returns (λ c. search needs) (λ c. search needs) (λ c. search needs) live-one-requires (λ c. search needs) mul-q in-slots cast-q mul-totals slice-read-totals add-totals slice-write-totals (λ c. search needs) returns-2 returns-3)
+charge-spec =
+    tie.close
+    (tie.spec returns (λ c. search needs) (λ c. search needs) (λ c. search needs) live-one-requires (λ c. search needs) mul-q in-slots cast-q mul-totals slice-read-totals add-totals slice-write-totals
+    (λ c. search needs) returns-2 returns-3)

@@ -7,10 +7,10 @@ use Rattle.tables.specs.Base.{at}
 use Rattle.tables.specs.Rule.{_and_}
 use Rattle.tables.specs.Turn.{Passed, none, again, done, learn, unlearn, yes-so, not-so, both}
 use Rattle.model.specs.State.{frameAt}
-use Rattle.rules.specs.Passes.{Prefix, frameRow, cleanFrame, unmarked}
+use Rattle.rules.specs.Passes.{Prefix, frameRow, cleanFrame}
 use Rattle.rules.proofs.Entries.{part}
 use Rattle.rules.proofs.Marked.{start, step, stuck, ended, not-true}
-use Rattle.rules.proofs.ByRow.{unmarked-le}
+use Rattle.rules.proofs.ByRow.{passed-le}
 use Rattle.rules.proofs.Charges.{Tallied, tallied-none, tallied-next, tallied-few, tallied-all}
 use Rattle.rules.proofs.frames.frames_ok.Statement.{statement}
 use Rattle.rules.proofs.frames.frames_ok.Tie as tie
@@ -63,9 +63,7 @@ module _ (c : tie.Then2 Inv-loop μ-loop) where
   page-fits : frameAt (begun turn .args .t2) (turn .loop .f) .page ≤ length (begun turn .args .addresses .now)
   page-fits =
       let args = begun turn .args in let loop = turn .loop in
-      let page = frameAt (args .t2) (loop .f) .page in
-      unmarked-le (length (args .addresses .now)) (loop .marks) page
-      (learn (unmarked (length (args .addresses .now)) (loop .marks) page) (sym (c .if2 .taken) ∙ marking .mark-entry .ensures .0))
+      passed-le (length (args .addresses .now)) (loop .marks) (frameAt (args .t2) (loop .f) .page) (c .if2 .taken) (marking .mark-entry .ensures .0)
 
 frame-ok-requires : tie.Need-frame-ok-requires Inv-loop μ-loop
 frame-ok-requires c κs =

@@ -32,8 +32,14 @@ returns-2 : tie.Need-returns-2
 returns-2 c =
     let s₀ : tie.Start = search in let args = s₀ .args in let pre = s₀ .pre in
     let if1 = c .before .if1 in
-    let inactive-row = c .inactive-row in
-    (held-only (args .pages) (args .s) (args .records) (length (args .maps .now)) (length (args .marks .now)) (args .marks .now) _ (pre .0) (args .active) (args .maps .now) (args .addresses .now) (args .states .now) (args .owners .now) (if1 .left) (pre .2) (inactive-row .ensures .0), λ e. (skip-run (args .records) (length (args .maps .now)) (at (args .addresses .now)) (length (args .marks .now)) (args .marks .now) (args .s * args .pages) (pre .2) (args .pages) (pre .0) (inactive-row .ensures .1 e .0), rw (ne-eqb _ _ (if1 .left)) (inactive-row .ensures .1 e .1)))
+    let inactive-row = c .inactive-row in (
+      held-only (args .pages) (args .s) (args .records) (length (args .maps .now)) (length (args .marks .now)) (args .marks .now) _ (pre .0)
+          (args .active) (args .maps .now) (args .addresses .now) (args .states .now) (args .owners .now) (if1 .left) (pre .2) (inactive-row .ensures .0),
+      λ e. (
+        skip-run (args .records) (length (args .maps .now)) (at (args .addresses .now)) (length (args .marks .now)) (args .marks .now) (args .s * args .pages) (pre .2) (args .pages) (pre .0) (inactive-row .ensures .1 e .0),
+        rw (ne-eqb _ _ (if1 .left)) (inactive-row .ensures .1 e .1),
+      ),
+    )
 
 pub row-ok-spec : {M : Type 1} → statement M
 row-ok-spec = tie.close (tie.spec active-row-requires (λ c. search needs) returns inactive-row-requires returns-2)
