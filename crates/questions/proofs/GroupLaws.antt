@@ -1,4 +1,4 @@
--- What the parts' proofs cite: tests joined, and tables made on the way put in place of what they tell.
+-- What the proofs of the groups cite: tests joined, and tables made on the way put in place of what they tell.
 use mathlib.Core.Path.{_≡_, refl, sym, _∙_}
 use mathlib.Core.Bool.{Bool, true, false, _&&_}
 use mathlib.Core.List.{List}

@@ -4,14 +4,19 @@ ghost use mathlib.Core.Bool.{true};
 ghost use Prim.Native.Nat.{_+_, _*_, _≤_};
 ghost use lib.ListN.{length};
 ghost use Rattle.tables.specs.Base.{at};
-ghost use Rattle.tables.specs.Rule.{same, below, each, test, Holds};
-ghost use Rattle.model.specs.State.{frameAt};
-ghost use Rattle.model.specs.Rules.{fit};
-ghost use Rattle.rules.specs.Passes.{marked, usedTable, framedTable};
-ghost use Rattle.questions.specs.Groups.{diskPasses, filePasses, framePasses, countPasses, DiskLong, FilesLong, FramesLong, CountsLong};
+ghost use Rattle.tables.specs.Rule.{same, each, test, Holds};
+ghost use Rattle.rules.specs.Passes.{marked};
+ghost use Rattle.questions.specs.Groups.{diskPasses, countPasses, DiskLong, CountsLong};
+ghost use Rattle.questions.specs.Contracts.{FilesGiven, filesEntered, filesCounted, FramesGiven, framesEntered, framesCounted};
 use model::frame::Frame;
 use model::frame::Pool;
 use model::sizes::Sizes;
+
+// The words of a table with a mark for each record,
+pub const RECORD_MARKS: usize = Sizes::MOST_RECORDS / 32;
+
+// and of one with a mark for each page.
+const PAGE_MARKS: usize = Sizes::MOST_SLOTS * Sizes::MOST_PAGES / 32;
 
 // The disk rules; the listed records are marked, from marks that are off.
 pub fn disk(z: Sizes, numbers: &[u32], accounts: &[u16], maps: &[u16], listed: &mut [u32]) -> bool
@@ -40,11 +45,11 @@ pub fn files(
     updating: &[u8],
     images: &[u16],
 ) -> bool
-    requires { ⌜ FilesLong z (now numbers) (now accounts) (now maps) (now addresses) (now states) (now owners) (now active) (now updating) (now images) × Holds (fit (length (now maps)) (z .records) (at (now maps))) × (z .records ≤ 32 * length (now listed)) × Holds (marked (z .records) (length (now maps)) (at (now maps)) (now listed)) × Holds (each (z .slots) (λ s. below (at (now accounts) s) (z .accounts))) × (length (now totals) ≡ 16) × Holds (each 16 (λ q. same (at (now totals) q) 0)) ⌝ }
-    ensures { λ r. ⌜ (r ≡ test (filePasses (z .slots) (z .pages) (z .records) (now (numbers .entry)) (now (maps .entry)) (now (addresses .entry)) (now (states .entry)) (now (owners .entry)) (now (active .entry)) (now (updating .entry)) (now (images .entry)))) × (r ≡ true → Holds (usedTable (z .slots) (z .pages) (now (accounts .entry)) (now (active .entry)) (now (maps .entry)) (now (addresses .entry)) (now (states .entry)) (now (totals .exit)))) ⌝ }
+    requires { ⌜ FilesGiven z totals listed numbers accounts maps addresses states owners active updating images ⌝ }
+    ensures { λ r. ⌜ (r ≡ test (filesEntered z numbers maps addresses states owners active updating images)) × (r ≡ true → Holds (filesCounted z totals accounts active maps addresses states)) ⌝ }
 {
-    let mut held: [u32; 128] = [0; 128];
-    let mut imaged: [u32; 128] = [0; 128];
+    let mut held: [u32; RECORD_MARKS] = [0; RECORD_MARKS];
+    let mut imaged: [u32; RECORD_MARKS] = [0; RECORD_MARKS];
     if rules::rows::pages_ok(
         z.slots,
         z.pages,
@@ -70,7 +75,7 @@ pub fn files(
 // The memory rules of frames and of their queues. The pages that count as used by their frames are counted too.
 pub fn frames(
     z: Sizes,
-    frames: [Frame; 64],
+    frames: [Frame; Sizes::MOST_FRAMES],
     totals: &mut [usize],
     accounts: &[u16],
     records: &[u32],
@@ -81,17 +86,17 @@ pub fn frames(
     states: &[u8],
     active: &[u8],
 ) -> bool
-    requires { ⌜ FramesLong z (now accounts) (now records) (now words) (now «free_queue») (now «removal_list») (now addresses) (now states) (now active) × Holds (fit (length (now addresses)) (z .records) (at (now addresses))) × Holds (each (z .slots) (λ s. below (at (now accounts) s) (z .accounts))) × (length (now totals) ≡ 16) × Holds (each 16 (λ q. below (at (now totals) q) 32768)) ⌝ }
-    ensures { λ r. ⌜ (r ≡ test (framePasses (z .frames) (z .words) (z .pages) (z .slots * z .pages) (frameAt frames) (now (records .entry)) (now (words .entry)) (now («free_queue» .entry)) (now («removal_list» .entry)) (now (addresses .entry)) (now (states .entry)) (now (active .entry)))) × (r ≡ true → Holds (framedTable (z .frames) (z .pages) (λ f. frameAt frames f .page) (now (accounts .entry)) (now (addresses .entry)) (now (states .entry)) (now (totals .entry)) (now (totals .exit)))) ⌝ }
+    requires { ⌜ FramesGiven z totals accounts records words «free_queue» «removal_list» addresses states active ⌝ }
+    ensures { λ r. ⌜ (r ≡ test (framesEntered z frames records words «free_queue» «removal_list» addresses states active)) × (r ≡ true → Holds (framesCounted z frames totals accounts addresses states)) ⌝ }
 {
     if rules::queues::queue(z.frames, free_queue)
         & rules::queues::queue(z.frames, removal_list)
     {} else {
         return false;
     }
-    let queued = rules::queues::places(free_queue, [0; 64]);
-    let removing = rules::queues::places(removal_list, [0; 64]);
-    let mut in_frames: [u32; 512] = [0; 512];
+    let queued = rules::queues::places(free_queue, [0; Sizes::MOST_FRAMES]);
+    let removing = rules::queues::places(removal_list, [0; Sizes::MOST_FRAMES]);
+    let mut in_frames: [u32; PAGE_MARKS] = [0; PAGE_MARKS];
     rules::frames::frames_ok(
         z,
         frames,

@@ -6,8 +6,9 @@ ghost use Rattle.tables.specs.Rule.{_and_, test, Holds};
 ghost use Rattle.model.specs.declared.frame.Frame.{Frame};
 ghost use Rattle.model.specs.declared.frame.Pool.{Pool};
 ghost use Rattle.model.specs.Sizes.{sizesFit};
-ghost use Rattle.model.specs.Lent.{diskOf, memoryOf, stateOf};
+ghost use Rattle.model.specs.Lent.{entered};
 ghost use Rattle.model.specs.Step.{diskLengths, memoryLengths, allFit};
+ghost use Rattle.questions.specs.Contracts.{diskEntered, memoryEntered};
 use model::sizes::Sizes;
 
 // Sizes within limits.
@@ -27,7 +28,7 @@ pub fn disk_lengths_fit(
     limits: &[u16],
 ) -> bool
     requires { ⌜ Holds (sizesFit z) ⌝ }
-    ensures { λ r. ⌜ r ≡ test (diskLengths z (diskOf (now (records .entry)) (now (numbers .entry)) (now (accounts .entry)) (now (maps .entry)) (now (limits .entry)))) ⌝ }
+    ensures { λ r. ⌜ r ≡ test (diskLengths z (diskEntered records numbers accounts maps limits)) ⌝ }
 {
     (records.len() == z.records * z.words)
         & (numbers.len() == z.slots)
@@ -53,7 +54,7 @@ pub fn memory_lengths_fit(
     used: &[u16],
 ) -> bool
     requires { ⌜ Holds (sizesFit z) ⌝ }
-    ensures { λ r. ⌜ ((frames : List Frame) (pool : Pool) → length frames ≡ count → r ≡ test (memoryLengths z (memoryOf frames pool (now (words .entry)) (now («free_queue» .entry)) (now («removal_list» .entry)) (now (addresses .entry)) (now (states .entry)) (now (owners .entry)) (now («free_map» .entry)) (now (active .entry)) (now (updating .entry)) (now (images .entry)) (now (used .entry))))) ⌝ }
+    ensures { λ r. ⌜ ((frames : List Frame) (pool : Pool) → length frames ≡ count → r ≡ test (memoryLengths z (memoryEntered frames pool words «free_queue» «removal_list» addresses states owners «free_map» active updating images used))) ⌝ }
 {
     let pages = z.slots * z.pages;
     (count == z.frames)
@@ -79,7 +80,7 @@ pub fn disk_fit(
     maps: &[u16],
     limits: &[u16],
 ) -> bool
-    ensures { λ r. ⌜ r ≡ test (sizesFit z and diskLengths z (diskOf (now (records .entry)) (now (numbers .entry)) (now (accounts .entry)) (now (maps .entry)) (now (limits .entry)))) ⌝ }
+    ensures { λ r. ⌜ r ≡ test (sizesFit z and diskLengths z (diskEntered records numbers accounts maps limits)) ⌝ }
 {
     if sizes_fit(z) {} else {
         return false;
@@ -108,7 +109,7 @@ pub fn all_fit(
     images: &[u16],
     used: &[u16],
 ) -> bool
-    ensures { λ r. ⌜ ((frames : List Frame) (pool : Pool) → length frames ≡ count → r ≡ test (allFit z (stateOf frames pool (now (records .entry)) (now (numbers .entry)) (now (accounts .entry)) (now (maps .entry)) (now (limits .entry)) (now (words .entry)) (now («free_queue» .entry)) (now («removal_list» .entry)) (now (addresses .entry)) (now (states .entry)) (now (owners .entry)) (now («free_map» .entry)) (now (active .entry)) (now (updating .entry)) (now (images .entry)) (now (used .entry))))) ⌝ }
+    ensures { λ r. ⌜ ((frames : List Frame) (pool : Pool) → length frames ≡ count → r ≡ test (allFit z (entered frames pool records numbers accounts maps limits words «free_queue» «removal_list» addresses states owners «free_map» active updating images used))) ⌝ }
 {
     if sizes_fit(z) {} else {
         return false;

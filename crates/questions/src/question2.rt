@@ -4,9 +4,11 @@ ghost use lib.ListN.{take};
 ghost use Rattle.tables.specs.Rule.{_and_, test, Holds};
 ghost use Rattle.model.specs.Sizes.{sizesFit};
 ghost use Rattle.model.specs.State.{Memory};
-ghost use Rattle.model.specs.Lent.{diskOf, stateOf};
+ghost use Rattle.model.specs.Lent.{diskOf, given, entered};
 ghost use Rattle.model.specs.Rules.{diskRules, allRules};
 ghost use Rattle.model.specs.Step.{diskLengths, allFit};
+ghost use Rattle.questions.specs.Contracts.{diskEntered};
+use crate::groups::RECORD_MARKS;
 use model::frame::Frame;
 use model::frame::Pool;
 use model::sizes::Sizes;
@@ -21,16 +23,16 @@ pub fn disk_rules(
     limits: &[u16],
 ) -> bool
     requires { ⌜ Holds (sizesFit z and diskLengths z (diskOf (now records) (now numbers) (now accounts) (now maps) (now limits))) ⌝ }
-    ensures { λ r. ⌜ ((m : Memory) → r ≡ test (diskRules z (record { disk = diskOf (now (records .entry)) (now (numbers .entry)) (now (accounts .entry)) (now (maps .entry)) (now (limits .entry)); memory = m }))) ⌝ }
+    ensures { λ r. ⌜ ((m : Memory) → r ≡ test (diskRules z (record { disk = diskEntered records numbers accounts maps limits; memory = m }))) ⌝ }
 {
-    let mut listed: [u32; 128] = [0; 128];
+    let mut listed: [u32; RECORD_MARKS] = [0; RECORD_MARKS];
     crate::groups::disk(z, numbers, accounts, maps, &mut listed)
 }
 
 // Both sets of rules.
 pub fn all_rules(
     z: Sizes,
-    frames: [Frame; 64],
+    frames: [Frame; Sizes::MOST_FRAMES],
     count: usize,
     pool: Pool,
     records: &[u32],
@@ -50,14 +52,14 @@ pub fn all_rules(
     images: &[u16],
     used: &[u16],
 ) -> bool
-    requires { ⌜ Holds (allFit z (stateOf (take count frames) pool (now records) (now numbers) (now accounts) (now maps) (now limits) (now words) (now «free_queue») (now «removal_list») (now addresses) (now states) (now owners) (now «free_map») (now active) (now updating) (now images) (now used))) ⌝ }
-    ensures { λ r. ⌜ r ≡ test (allRules z (stateOf (take count frames) pool (now (records .entry)) (now (numbers .entry)) (now (accounts .entry)) (now (maps .entry)) (now (limits .entry)) (now (words .entry)) (now («free_queue» .entry)) (now («removal_list» .entry)) (now (addresses .entry)) (now (states .entry)) (now (owners .entry)) (now («free_map» .entry)) (now (active .entry)) (now (updating .entry)) (now (images .entry)) (now (used .entry)))) ⌝ }
+    requires { ⌜ Holds (allFit z (given (take count frames) pool records numbers accounts maps limits words «free_queue» «removal_list» addresses states owners «free_map» active updating images used)) ⌝ }
+    ensures { λ r. ⌜ r ≡ test (allRules z (entered (take count frames) pool records numbers accounts maps limits words «free_queue» «removal_list» addresses states owners «free_map» active updating images used)) ⌝ }
 {
-    let mut listed: [u32; 128] = [0; 128];
+    let mut listed: [u32; RECORD_MARKS] = [0; RECORD_MARKS];
     if crate::groups::disk(z, numbers, accounts, maps, &mut listed) {} else {
         return false;
     }
-    let mut totals: [usize; 16] = [0; 16];
+    let mut totals: [usize; Sizes::MOST_ACCOUNTS] = [0; Sizes::MOST_ACCOUNTS];
     if crate::groups::files(
         z,
         &mut totals,

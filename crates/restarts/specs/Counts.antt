@@ -19,7 +19,7 @@ use Rattle.model.specs.Lines.{FREE, FILED}
 use Rattle.model.specs.State.{Files, Frames, allPages, slotOf, mapWords, payer, usedOf, freeWord}
 use Rattle.tables.specs.Marks.{bitOf}
 use Rattle.leaves.specs.FreeMap.{freeMap, free-map, isFree, bit-off, free-map-set, free-map-same}
-use Rattle.restarts.specs.Filled.{Filled, filled-same, filled-set, at-zeros}
+use Rattle.restarts.specs.ByEntry.{Filled, filled-same, filled-set, at-zeros}
 
 -- ── used counts ──
 -- entry i is above 0 and of the account's slot

@@ -1,7 +1,8 @@
 -- What restart and format set.
-pub mod Filled
+pub mod ByEntry
 pub mod Formats
 pub mod Filed
 pub mod Counts
 pub mod Restarts
+pub mod Contracts
 pub mod Answers

@@ -15,6 +15,7 @@ use Rattle.model.specs.declared.sizes.Sizes.{Sizes}
 use Rattle.model.specs.declared.frame.Frame.{Frame}
 use Rattle.model.specs.declared.frame.Pool.{Pool}
 use Rattle.model.specs.State.{Disk, State, files, noFrame, allPages, mapWords, freeCount}
+use Rattle.model.specs.Sizes.{mostSlots}
 use Rattle.model.specs.Lines.{FREE}
 use Rattle.model.specs.Lent.{diskOf}
 use Rattle.model.specs.Fit.{Within, Fit}
@@ -24,7 +25,7 @@ use Rattle.model.specs.Setters.{counted}
 use Rattle.model.specs.Restart.{restarted, isListed, listedAt}
 use Rattle.model.specs.Bounds.{pages-most}
 use Rattle.leaves.specs.FreeMap.{freeMap}
-use Rattle.restarts.specs.Filled.{Filled, filled-tab, at-zeros}
+use Rattle.restarts.specs.ByEntry.{Filled, filled-tab, at-zeros}
 use Rattle.restarts.specs.Filed.{filedStates, filedOwners}
 use Rattle.restarts.specs.Counts.{listedUsed, used-inactive}
 
@@ -86,7 +87,7 @@ ready z st f d = record {
 
 -- ── what the passes require ──
 module _ (z : Sizes) (accounts maps states owners free-map used : List ℕ) (r : Recorded z accounts maps states owners free-map used) where
-  pub to-file : (0 < z .pages) × (length maps ≤ 64 * z .pages) × (length owners ≡ length states) × Holds (fit (length maps) (length states) (at maps)) × Holds (once (length maps) (at maps))
+  pub to-file : (0 < z .pages) × (length maps ≤ mostSlots * z .pages) × (length owners ≡ length states) × Holds (fit (length maps) (length states) (at maps)) × Holds (once (length maps) (at maps))
   to-file = (
     r .within .pages,
     (let h : z .slots * z .pages ≤ 64 * z .pages = mul-le-mul-right (z .pages) (omega (arith, r .within .slots-most)) in omega (arith, h, r .maps-long)),

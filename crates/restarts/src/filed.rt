@@ -4,6 +4,7 @@ ghost use Prim.Native.Nat.{_*_, _<_, _≤_};
 ghost use lib.ListN.{length};
 ghost use Rattle.tables.specs.Base.{at};
 ghost use Rattle.tables.specs.Rule.{Holds};
+ghost use Rattle.model.specs.Sizes.{mostSlots};
 ghost use Rattle.model.specs.Rules.{fit, once};
 ghost use Rattle.restarts.specs.Filed.{filedStates, filedOwners};
 use crate::zero::zero8;
@@ -11,7 +12,7 @@ use model::lines::FILED;
 
 // One pass over the maps; no record is listed twice.
 pub fn file_records(pages: usize, maps: &[u16], states: &mut [u8], owners: &mut [u8])
-    requires { ⌜ (0 < pages) × (length (now maps) ≤ 64 * pages) × (length (now owners) ≡ length (now states)) × Holds (fit (length (now maps)) (length (now states)) (at (now maps))) × Holds (once (length (now maps)) (at (now maps))) ⌝ }
+    requires { ⌜ (0 < pages) × (length (now maps) ≤ mostSlots * pages) × (length (now owners) ≡ length (now states)) × Holds (fit (length (now maps)) (length (now states)) (at (now maps))) × Holds (once (length (now maps)) (at (now maps))) ⌝ }
     ensures states { λ _. ⌜ now (states .exit) ≡ filedStates (length (now (states .entry))) (length (now (maps .entry))) (at (now (maps .entry))) ⌝ }
     ensures owners { λ _. ⌜ now (owners .exit) ≡ filedOwners (length (now (states .entry))) (length (now (maps .entry))) pages (at (now (maps .entry))) ⌝ }
 {

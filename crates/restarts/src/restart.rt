@@ -1,8 +1,8 @@
 // The work of restart, from the disk part alone: every table of the memory part is set anew.
 ghost use mathlib.Core.Path.{_≡_};
 ghost use lib.ListN.{length, replicate, take};
-ghost use Rattle.model.specs.Restart.{restarted};
-ghost use Rattle.restarts.specs.Restarts.{seen, poolOf, Recorded, Ready};
+ghost use Rattle.restarts.specs.Restarts.{poolOf};
+ghost use Rattle.restarts.specs.Contracts.{RecordsGiven, TablesGiven, restartedFrom};
 use crate::counts::build_free_map;
 use crate::counts::count_used;
 use crate::filed::file_records;
@@ -50,12 +50,12 @@ pub fn restart_records(
     free_map: &mut [u32],
     used: &mut [u16],
 ) -> usize
-    requires { ⌜ Recorded sizes (now accounts) (now maps) (now states) (now owners) (now «free_map») (now used) ⌝ }
-    ensures states { λ _. ⌜ now (states .exit) ≡ restarted sizes (seen (now (accounts .entry)) (now (maps .entry))) .memory .held .states ⌝ }
-    ensures owners { λ _. ⌜ now (owners .exit) ≡ restarted sizes (seen (now (accounts .entry)) (now (maps .entry))) .memory .held .owners ⌝ }
-    ensures free { λ _. ⌜ now («free_map» .exit) ≡ restarted sizes (seen (now (accounts .entry)) (now (maps .entry))) .memory .held .free-map ⌝ }
-    ensures used { λ _. ⌜ now (used .exit) ≡ restarted sizes (seen (now (accounts .entry)) (now (maps .entry))) .memory .used ⌝ }
-    ensures pool { λ r. ⌜ poolOf r ≡ restarted sizes (seen (now (accounts .entry)) (now (maps .entry))) .memory .held .pool ⌝ }
+    requires { ⌜ RecordsGiven sizes accounts maps states owners «free_map» used ⌝ }
+    ensures states { λ _. ⌜ now (states .exit) ≡ restartedFrom sizes accounts maps .held .states ⌝ }
+    ensures owners { λ _. ⌜ now (owners .exit) ≡ restartedFrom sizes accounts maps .held .owners ⌝ }
+    ensures free { λ _. ⌜ now («free_map» .exit) ≡ restartedFrom sizes accounts maps .held .free-map ⌝ }
+    ensures used { λ _. ⌜ now (used .exit) ≡ restartedFrom sizes accounts maps .used ⌝ }
+    ensures pool { λ r. ⌜ poolOf r ≡ restartedFrom sizes accounts maps .held .pool ⌝ }
 {
     let pages = sizes.pages;
     file_records(pages, maps, states, owners);
@@ -80,21 +80,21 @@ pub fn restart_tables(
     images: &mut [u16],
     used: &mut [u16],
 ) -> Applied
-    requires { ⌜ Ready sizes (now accounts) (now maps) (now words) (now «free_queue») (now «removal_list») (now addresses) (now states) (now owners) (now «free_map») (now active) (now updating) (now images) (now used) ⌝ }
+    requires { ⌜ TablesGiven sizes accounts maps words «free_queue» «removal_list» addresses states owners «free_map» active updating images used ⌝ }
     ensures answer { λ r. ⌜ r .answer ≡ record { refusal = 0; result = 0 } ⌝ }
-    ensures frames { λ r. ⌜ take (sizes .frames) (r .frames) ≡ restarted sizes (seen (now (accounts .entry)) (now (maps .entry))) .memory .core .frames ⌝ }
-    ensures words { λ _. ⌜ now (words .exit) ≡ restarted sizes (seen (now (accounts .entry)) (now (maps .entry))) .memory .core .words ⌝ }
-    ensures queue { λ _. ⌜ now («free_queue» .exit) ≡ restarted sizes (seen (now (accounts .entry)) (now (maps .entry))) .memory .core .free-queue ⌝ }
-    ensures removing { λ _. ⌜ now («removal_list» .exit) ≡ restarted sizes (seen (now (accounts .entry)) (now (maps .entry))) .memory .core .removal-list ⌝ }
-    ensures addresses { λ _. ⌜ now (addresses .exit) ≡ restarted sizes (seen (now (accounts .entry)) (now (maps .entry))) .memory .held .addresses ⌝ }
-    ensures states { λ _. ⌜ now (states .exit) ≡ restarted sizes (seen (now (accounts .entry)) (now (maps .entry))) .memory .held .states ⌝ }
-    ensures owners { λ _. ⌜ now (owners .exit) ≡ restarted sizes (seen (now (accounts .entry)) (now (maps .entry))) .memory .held .owners ⌝ }
-    ensures free { λ _. ⌜ now («free_map» .exit) ≡ restarted sizes (seen (now (accounts .entry)) (now (maps .entry))) .memory .held .free-map ⌝ }
-    ensures pool { λ r. ⌜ r .pool ≡ restarted sizes (seen (now (accounts .entry)) (now (maps .entry))) .memory .held .pool ⌝ }
-    ensures active { λ _. ⌜ now (active .exit) ≡ restarted sizes (seen (now (accounts .entry)) (now (maps .entry))) .memory .slots .active ⌝ }
-    ensures updating { λ _. ⌜ now (updating .exit) ≡ restarted sizes (seen (now (accounts .entry)) (now (maps .entry))) .memory .slots .updating ⌝ }
-    ensures images { λ _. ⌜ now (images .exit) ≡ restarted sizes (seen (now (accounts .entry)) (now (maps .entry))) .memory .slots .images ⌝ }
-    ensures used { λ _. ⌜ now (used .exit) ≡ restarted sizes (seen (now (accounts .entry)) (now (maps .entry))) .memory .used ⌝ }
+    ensures frames { λ r. ⌜ take (sizes .frames) (r .frames) ≡ restartedFrom sizes accounts maps .core .frames ⌝ }
+    ensures words { λ _. ⌜ now (words .exit) ≡ restartedFrom sizes accounts maps .core .words ⌝ }
+    ensures queue { λ _. ⌜ now («free_queue» .exit) ≡ restartedFrom sizes accounts maps .core .free-queue ⌝ }
+    ensures removing { λ _. ⌜ now («removal_list» .exit) ≡ restartedFrom sizes accounts maps .core .removal-list ⌝ }
+    ensures addresses { λ _. ⌜ now (addresses .exit) ≡ restartedFrom sizes accounts maps .held .addresses ⌝ }
+    ensures states { λ _. ⌜ now (states .exit) ≡ restartedFrom sizes accounts maps .held .states ⌝ }
+    ensures owners { λ _. ⌜ now (owners .exit) ≡ restartedFrom sizes accounts maps .held .owners ⌝ }
+    ensures free { λ _. ⌜ now («free_map» .exit) ≡ restartedFrom sizes accounts maps .held .free-map ⌝ }
+    ensures pool { λ r. ⌜ r .pool ≡ restartedFrom sizes accounts maps .held .pool ⌝ }
+    ensures active { λ _. ⌜ now (active .exit) ≡ restartedFrom sizes accounts maps .slots .active ⌝ }
+    ensures updating { λ _. ⌜ now (updating .exit) ≡ restartedFrom sizes accounts maps .slots .updating ⌝ }
+    ensures images { λ _. ⌜ now (images .exit) ≡ restartedFrom sizes accounts maps .slots .images ⌝ }
+    ensures used { λ _. ⌜ now (used .exit) ≡ restartedFrom sizes accounts maps .used ⌝ }
 {
     clear_tables(words, removal_list, addresses, active, updating, images);
     fill_queue(free_queue);

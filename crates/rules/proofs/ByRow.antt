@@ -10,13 +10,16 @@ use native.Mathlib.Decide.{ℕ-discrete}
 use Rattle.tables.specs.Base.{at}
 use Rattle.tables.specs.Rule.{Rule, same, _and_, each, Holds, test, alike}
 use Rattle.tables.specs.Turn.{Passed, again, done, yes-so, not-so, learn, unlearn}
-use Rattle.rules.specs.Passes.{Prefix, distinct, unmarked, noted, imagedEntries, heldRow, imagedRow, allEntries}
+use Rattle.rules.specs.Passes.{Prefix, distinct, marked, unmarked, noted, imagedEntries, heldRow, imagedRow, allEntries}
 use Rattle.rules.proofs.Entries.{inactive-zero, not-updating, part}
-use Rattle.rules.proofs.Marked.{among, step, skip-run, first-distinct}
+use Rattle.rules.proofs.Marked.{among, step, skip-run, first-distinct, ended}
 
 -- an entry that may be marked is at most the number of what it names
-pub unmarked-le : (m : ℕ) (marks : List ℕ) (e : ℕ) → Holds (unmarked m marks e) → e ≤ m
+unmarked-le : (m : ℕ) (marks : List ℕ) (e : ℕ) → Holds (unmarked m marks e) → e ≤ m
 unmarked-le m marks e u = elim (ℕ-discrete e 0) [ yes q ↦ omega arith | no q ↦ omega (arith, u (e - 1) (omega arith) .0) ]
+
+pub passed-le : (m : ℕ) (marks : List ℕ) (e : ℕ) {passed : Bool} → passed ≡ true → passed ≡ test (unmarked m marks e) → e ≤ m
+passed-le m marks e taken told = unmarked-le m marks e (learn (unmarked m marks e) (sym taken ∙ told))
 
 -- ── the entries of a row, from `from` up ──
 module _ (m : ℕ) (entry : ℕ → ℕ) (size : ℕ) (marks : List ℕ) where
@@ -95,6 +98,11 @@ module _ (slots pages records : ℕ) (active updating maps addresses images stat
     learn (allEntries slots pages active updating maps addresses images states owners) (done s slots row p l),
     (rw e at (first-distinct records n (at addresses) size marks (s * pages) a), rw e at (first-distinct records o (at images) isize imarks (s * pages) g)),
   )
+
+-- once every row is passed, what all of them name is marked
+pub rows-marked : (m n : ℕ) (entry : ℕ → ℕ) (size : ℕ) (marks : List ℕ) (s slots pages : ℕ) → Prefix m n entry size marks (s * pages) → s ≡ slots → Holds (marked m (slots * pages) entry marks)
+rows-marked m n entry size marks s slots pages p e =
+    ended m (slots * pages) entry size marks (slots * pages) (among m n entry size marks (slots * pages) (rw e at p) (slots * pages) (omega arith)) (omega arith) .1
 
 -- the end of row s is the start of the next
 pub to-next : (m n : ℕ) (entry : ℕ → ℕ) (size : ℕ) (marks : List ℕ) (s pages : ℕ) → Prefix m n entry size marks (s * pages + pages) → Prefix m n entry size marks ((s + 1) * pages)

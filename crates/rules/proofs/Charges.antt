@@ -2,8 +2,7 @@
 use mathlib.Core.Path.{_≡_, refl, sym, _∙_}
 use mathlib.Core.Bool.{Bool}
 use mathlib.Core.List.{List}
-use Prim.Native.Nat.{ℕ, _+_, _-_, _*_, _/_, _<_, _≤_}
-use native.Mathlib.Nat.{div-lt-iff-lt-mul}
+use Prim.Native.Nat.{ℕ, _+_, _-_, _/_, _<_, _≤_}
 use native.Mathlib.Omega.{arith}
 use native.Mathlib.Decide.{ℕ-discrete}
 use lib.ListN.{length, set}
@@ -46,10 +45,6 @@ module _ (pages page : ℕ) (account address state : ℕ → ℕ) (t : List ℕ)
 
         dead : ¬ (Holds live)
         dead l = let e : _≡_ {A = ℕ} x 1 = says ∙ rw (told live l) in omega arith
-
--- the slot of a frame's page
-pub slot-in : (pages page n : ℕ) → 0 < pages → ¬ (page ≡ 0) → page ≤ n * pages → (page - 1) / pages < n
-slot-in pages page n pos d h = div-lt-iff-lt-mul pos .1 (omega arith)
 
 -- ── along the frames ──
 module _ (pages : ℕ) (page : ℕ → ℕ) (account addresses states t : List ℕ) where

@@ -1,2 +1,3 @@
 -- What the passes of question 2 decide.
 pub mod Passes
+pub mod Contracts

@@ -12,9 +12,18 @@ use Rattle.tables.specs.Queue.{members, times}
 use Rattle.tables.specs.Rule.{Rule, same, below, non, _and_, _or_, _then_, each, some, named, names, Holds, test}
 use Rattle.model.specs.declared.sizes.Sizes.{Sizes}
 use Rattle.model.specs.declared.frame.Frame.{Frame}
+use Rattle.model.specs.Sizes.{mostFrames, mostSlots, mostPages, mostAccounts}
 use Rattle.model.specs.Lines.{FREE, FILED, NULLED, LIVE, RELEASED, LEAVING}
 use Rattle.model.specs.State.{NONE, READING, WRITING, frameAt}
 use Rattle.model.specs.Rules.{fit, once}
+
+-- the pages of all slots, at most
+abbrev pub mostEntries : ℕ
+mostEntries = mostSlots * mostPages
+
+-- before the frames are passed over each count is below this: they add at most one each, so that no sum is too large
+abbrev pub countRoom : ℕ
+countRoom = 32768
 
 -- each of the first n entries names a number below m or none, and none is named twice
 abbrev pub distinct : ℕ → ℕ → (ℕ → ℕ) → Rule
@@ -109,7 +118,7 @@ recordRows records slots held listed states owners updating = each records λ r.
 -- ── the tables of pages are of one length, and the map names records that there are ──
 pub record HeldFit (records : ℕ) (maps addresses states owners : List ℕ) : Type 0 where
   pub addresses-long : length addresses ≡ length maps
-  pub few : length maps ≤ 16384
+  pub few : length maps ≤ mostEntries
   pub states-long : length states ≡ records
   pub owners-long : length owners ≡ records
   pub maps-fit : Holds (fit (length maps) records (at maps))
@@ -166,10 +175,10 @@ frameRows n w pages frames words records active addresses states queued removing
 
 -- what the pass over the frames needs of the tables
 pub record FramesFit (z : Sizes) (account active addresses states words records : List ℕ) : Type 0 where
-  pub few : z .frames ≤ 64
+  pub few : z .frames ≤ mostFrames
   pub pages : 0 < z .pages
   pub accounts-long : length account ≡ length active
-  pub accounts-fit : Holds (each (length account) λ s. below (at account s) 16)
+  pub accounts-fit : Holds (each (length account) λ s. below (at account s) mostAccounts)
   pub addresses-long : length addresses ≡ length active * z .pages
   pub addresses-fit : Holds (fit (length addresses) (length states) (at addresses))
   pub words-long : z .frames * z .words ≤ length words
@@ -184,7 +193,7 @@ abbrev pub usedPages : (pages n q : ℕ) (account active maps addresses states :
 usedPages pages n q account active maps addresses states = count n λ i. eqb (at account (i / pages)) q && usedPage (at active (i / pages)) (at maps i) (at addresses i) (at states)
 
 abbrev pub usedTable : (slots pages : ℕ) (account active maps addresses states t : List ℕ) → Rule
-usedTable slots pages account active maps addresses states t = each 16 λ q. same (at t q) (usedPages pages (slots * pages) q account active maps addresses states)
+usedTable slots pages account active maps addresses states t = each mostAccounts λ q. same (at t q) (usedPages pages (slots * pages) q account active maps addresses states)
 
 -- .. or by its frame alone: its address is not live
 abbrev pub framedPage : (pages q page : ℕ) (account address state : ℕ → ℕ) → Rule
@@ -195,7 +204,7 @@ framedPages n pages q page account addresses states = count n λ f. test (framed
 
 -- table t with those of the first n frames counted too
 abbrev pub framedTable : (n pages : ℕ) (page : ℕ → ℕ) (account addresses states t t' : List ℕ) → Rule
-framedTable n pages page account addresses states t t' = each 16 λ q. same (at t' q) (at t q + framedPages n pages q page account addresses states)
+framedTable n pages page account addresses states t t' = each mostAccounts λ q. same (at t' q) (at t q + framedPages n pages q page account addresses states)
 
 abbrev pub freeRecord : (records : ℕ) (states : List ℕ) → ℕ → Bool
 freeRecord records states r = ltb r records && eqb (at states r) FREE

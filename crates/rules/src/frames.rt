@@ -6,9 +6,11 @@ ghost use lib.ListN.{length};
 ghost use Rattle.tables.specs.Base.{at, if};
 ghost use Rattle.tables.specs.Rule.{same, below, non, _and_, _then_, each, test, Holds};
 ghost use lib.Dec.{eqb};
-ghost use Rattle.model.specs.State.{NONE, WRITING, frameAt};
+ghost use Rattle.model.specs.Sizes.{mostAccounts};
+ghost use Rattle.model.specs.State.{NONE, WRITING};
 ghost use Rattle.model.specs.Rules.{fit};
-ghost use Rattle.rules.specs.Passes.{distinct, marked, switches, onePlace, bare, activePage, heldPage, frameRow, frameRows, framedPage, framedTable, FramesFit};
+ghost use Rattle.rules.specs.Passes.{switches, onePlace, bare, activePage, heldPage, frameRow, framedPage};
+ghost use Rattle.rules.specs.Contracts.{FramesGiven, framesEntered, FramesLeft};
 use crate::clean::clean;
 use crate::counts::live_one;
 use crate::marks::mark_entry;
@@ -126,8 +128,8 @@ fn charge(
     addresses: &[u16],
     states: &[u8],
 )
-    requires { ⌜ (0 < pages) × (page ≤ length (now accounts) * pages) × (page ≤ length (now addresses)) × Holds (fit (length (now addresses)) (length (now states)) (at (now addresses))) × Holds (each (length (now accounts)) (λ s. below (at (now accounts) s) 16)) × (length (now totals) ≡ 16) × Holds (each 16 (λ q. below (at (now totals) q) 65536)) ⌝ }
-    ensures { λ _. ⌜ Holds (each 16 (λ q. same (at (now (totals .exit)) q) (at (now (totals .entry)) q + if (test (framedPage pages q page (at (now (accounts .entry))) (at (now (addresses .entry))) (at (now (states .entry))))) 1 0))) ⌝ }
+    requires { ⌜ (0 < pages) × (page ≤ length (now accounts) * pages) × (page ≤ length (now addresses)) × Holds (fit (length (now addresses)) (length (now states)) (at (now addresses))) × Holds (each (length (now accounts)) (λ s. below (at (now accounts) s) mostAccounts)) × (length (now totals) ≡ mostAccounts) × Holds (each mostAccounts (λ q. below (at (now totals) q) 65536)) ⌝ }
+    ensures { λ _. ⌜ Holds (each mostAccounts (λ q. same (at (now (totals .exit)) q) (at (now (totals .entry)) q + if (test (framedPage pages q page (at (now (accounts .entry))) (at (now (addresses .entry))) (at (now (states .entry))))) 1 0))) ⌝ }
 {
     if page == 0 {
         return;
@@ -143,9 +145,9 @@ fn charge(
 // their frames are counted.
 pub fn frames_ok(
     z: Sizes,
-    frames: [Frame; 64],
-    queued: [u8; 64],
-    removing: [u8; 64],
+    frames: [Frame; Sizes::MOST_FRAMES],
+    queued: [u8; Sizes::MOST_FRAMES],
+    removing: [u8; Sizes::MOST_FRAMES],
     marks: &mut [u32],
     totals: &mut [usize],
     accounts: &[u16],
@@ -155,8 +157,8 @@ pub fn frames_ok(
     words: &[u32],
     records: &[u32],
 ) -> bool
-    requires { ⌜ FramesFit z (now accounts) (now active) (now addresses) (now states) (now words) (now records) × (length (now addresses) ≤ 32 * length (now marks)) × Holds (each (length (now marks)) (λ k. same (at (now marks) k) 0)) × (length (now totals) ≡ 16) × Holds (each 16 (λ q. below (at (now totals) q) 32768)) ⌝ }
-    ensures { λ r. ⌜ (r ≡ test (distinct (z .frames) (length (now (addresses .entry))) (λ f. frameAt frames f .page) and frameRows (z .frames) (z .words) (z .pages) frames (now (words .entry)) (now (records .entry)) (now (active .entry)) (now (addresses .entry)) (now (states .entry)) queued removing)) × (r ≡ true → Holds (marked (length (now (addresses .entry))) (z .frames) (λ f. frameAt frames f .page) (now (marks .exit))) × Holds (framedTable (z .frames) (z .pages) (λ f. frameAt frames f .page) (now (accounts .entry)) (now (addresses .entry)) (now (states .entry)) (now (totals .entry)) (now (totals .exit)))) ⌝ }
+    requires { ⌜ FramesGiven z marks totals accounts active addresses states words records ⌝ }
+    ensures { λ r. ⌜ (r ≡ test (framesEntered z frames queued removing active addresses states words records)) × (r ≡ true → FramesLeft z frames marks totals accounts addresses states) ⌝ }
 {
     let n = addresses.len();
     let mut f = 0;

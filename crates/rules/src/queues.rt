@@ -5,8 +5,10 @@ ghost use lib.ListN.{length};
 ghost use Rattle.tables.specs.Base.{at};
 ghost use Rattle.tables.specs.Queue.{queue};
 ghost use Rattle.tables.specs.Rule.{same, each, test, Holds};
+ghost use Rattle.model.specs.Sizes.{mostFrames};
 ghost use Rattle.rules.specs.Passes.{queueEntry, counted};
 use leaves::cells::at16;
+use model::sizes::Sizes;
 
 fn entry_ok(frames: usize, entry: u16, next: u16) -> bool
     ensures { λ r. ⌜ r ≡ test (queueEntry frames entry next) ⌝ }
@@ -30,9 +32,9 @@ pub fn queue(frames: usize, entries: &[u16]) -> bool
 }
 
 // How often each frame is in the queue, from a table of zeros.
-pub fn places(entries: &[u16], none: [u8; 64]) -> [u8; 64]
-    requires { ⌜ (length (now entries) ≤ 64) × (length none ≡ 64) × Holds (each 64 (λ f. same (at none f) 0)) × Holds (queue (length (now entries)) (now entries)) ⌝ }
-    ensures { λ r. ⌜ Holds (counted 64 (now (entries .entry)) r) ⌝ }
+pub fn places(entries: &[u16], none: [u8; Sizes::MOST_FRAMES]) -> [u8; Sizes::MOST_FRAMES]
+    requires { ⌜ (length (now entries) ≤ mostFrames) × (length none ≡ mostFrames) × Holds (each mostFrames (λ f. same (at none f) 0)) × Holds (queue (length (now entries)) (now entries)) ⌝ }
+    ensures { λ r. ⌜ Holds (counted mostFrames (now (entries .entry)) r) ⌝ }
 {
     let mut t = none;
     let mut k = 0;

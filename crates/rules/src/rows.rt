@@ -6,9 +6,10 @@ ghost use Prim.Native.Nat.{_+_, _*_, _≤_, _<_};
 ghost use lib.Dec.{ltb};
 ghost use lib.ListN.{length};
 ghost use Rattle.tables.specs.Base.{at, count};
-ghost use Rattle.tables.specs.Rule.{same, below, _and_, each, test, Holds};
+ghost use Rattle.tables.specs.Rule.{same, each, test, Holds};
 ghost use Rattle.model.specs.Rules.{fit};
-ghost use Rattle.rules.specs.Passes.{Prefix, distinct, marked, heldRow, imagedRow, allEntries, HeldFit, ImagedFit, livePage, usedPage, usedTable};
+ghost use Rattle.rules.specs.Passes.{mostEntries, heldRow, HeldFit, ImagedFit, livePage, usedPage};
+ghost use Rattle.rules.specs.Contracts.{MarkedTo, MarkedOn, heldEntered, imagedEntered, PagesGiven, pagesEntered, PagesLeft};
 use crate::counts::listed_one;
 use crate::counts::live_one;
 use crate::marks::mark_entry;
@@ -37,8 +38,8 @@ fn active_row(
     states: &[u8],
     owners: &[u8],
 ) -> Row
-    requires { ⌜ (active ≡ 1) × (s * pages + pages ≤ length (now maps)) × HeldFit records (now maps) (now addresses) (now states) (now owners) × Prefix records (length (now maps)) (at (now addresses)) (length (now marks)) (now marks) (s * pages) ⌝ }
-    ensures { λ r. ⌜ (r .ok ≡ test (heldRow pages s active (now (maps .entry)) (now (addresses .entry)) (now (states .entry)) (now (owners .entry)) and distinct (s * pages + pages) records (at (now (addresses .entry))))) × (r .ok ≡ true → Prefix records (length (now (maps .entry))) (at (now (addresses .entry))) (length (now (marks .entry))) (now (marks .exit)) (s * pages + pages) × (r .used ≡ count pages (λ p. test (livePage (at (now (addresses .entry)) (s * pages + p)) (at (now (states .entry))))))) ⌝ }
+    requires { ⌜ (active ≡ 1) × (s * pages + pages ≤ length (now maps)) × HeldFit records (now maps) (now addresses) (now states) (now owners) × MarkedTo records (length (now maps)) addresses marks (s * pages) ⌝ }
+    ensures { λ r. ⌜ (r .ok ≡ test (heldEntered pages s active records maps addresses states owners)) × (r .ok ≡ true → MarkedOn records (length (now (maps .entry))) addresses marks (s * pages + pages) × (r .used ≡ count pages (λ p. test (livePage (at (now (addresses .entry)) (s * pages + p)) (at (now (states .entry))))))) ⌝ }
 {
     let base = s * pages;
     let mut used = 0;
@@ -68,7 +69,7 @@ fn inactive_row(
     states: &[u8],
     owners: &[u8],
 ) -> Row
-    requires { ⌜ (active ≡ 1 → ⊥) × (s * pages + pages ≤ length (now maps)) × (length (now addresses) ≡ length (now maps)) × (length (now maps) ≤ 16384) × (length (now owners) ≡ length (now states)) × Holds (fit (length (now maps)) (length (now states)) (at (now maps))) ⌝ }
+    requires { ⌜ (active ≡ 1 → ⊥) × (s * pages + pages ≤ length (now maps)) × (length (now addresses) ≡ length (now maps)) × (length (now maps) ≤ mostEntries) × (length (now owners) ≡ length (now states)) × Holds (fit (length (now maps)) (length (now states)) (at (now maps))) ⌝ }
     ensures { λ r. ⌜ (r .ok ≡ test (heldRow pages s active (now (maps .entry)) (now (addresses .entry)) (now (states .entry)) (now (owners .entry)))) × (r .ok ≡ true → Holds (each pages (λ p. same (at (now (addresses .entry)) (s * pages + p)) 0)) × (r .used ≡ count pages (λ p. ltb 0 (at (now (maps .entry)) (s * pages + p))))) ⌝ }
 {
     let base = s * pages;
@@ -99,8 +100,8 @@ fn row_ok(
     states: &[u8],
     owners: &[u8],
 ) -> Row
-    requires { ⌜ (s * pages + pages ≤ length (now maps)) × HeldFit records (now maps) (now addresses) (now states) (now owners) × Prefix records (length (now maps)) (at (now addresses)) (length (now marks)) (now marks) (s * pages) ⌝ }
-    ensures { λ r. ⌜ (r .ok ≡ test (heldRow pages s active (now (maps .entry)) (now (addresses .entry)) (now (states .entry)) (now (owners .entry)) and distinct (s * pages + pages) records (at (now (addresses .entry))))) × (r .ok ≡ true → Prefix records (length (now (maps .entry))) (at (now (addresses .entry))) (length (now (marks .entry))) (now (marks .exit)) (s * pages + pages) × (r .used ≡ count pages (λ p. usedPage active (at (now (maps .entry)) (s * pages + p)) (at (now (addresses .entry)) (s * pages + p)) (at (now (states .entry)))))) ⌝ }
+    requires { ⌜ (s * pages + pages ≤ length (now maps)) × HeldFit records (now maps) (now addresses) (now states) (now owners) × MarkedTo records (length (now maps)) addresses marks (s * pages) ⌝ }
+    ensures { λ r. ⌜ (r .ok ≡ test (heldEntered pages s active records maps addresses states owners)) × (r .ok ≡ true → MarkedOn records (length (now (maps .entry))) addresses marks (s * pages + pages) × (r .used ≡ count pages (λ p. usedPage active (at (now (maps .entry)) (s * pages + p)) (at (now (addresses .entry)) (s * pages + p)) (at (now (states .entry)))))) ⌝ }
 {
     if active == 1 {
         return active_row(
@@ -130,8 +131,8 @@ fn image_row(
     states: &[u8],
     owners: &[u8],
 ) -> bool
-    requires { ⌜ (updating ≡ 1) × (s * pages + pages ≤ length (now addresses)) × ImagedFit records (now addresses) (now images) (now states) (now owners) × Prefix records (length (now addresses)) (at (now images)) (length (now marks)) (now marks) (s * pages) ⌝ }
-    ensures { λ r. ⌜ (r ≡ test (imagedRow pages s updating (now (addresses .entry)) (now (images .entry)) (now (states .entry)) (now (owners .entry)) and distinct (s * pages + pages) records (at (now (images .entry))))) × (r ≡ true → Prefix records (length (now (addresses .entry))) (at (now (images .entry))) (length (now (marks .entry))) (now (marks .exit)) (s * pages + pages)) ⌝ }
+    requires { ⌜ (updating ≡ 1) × (s * pages + pages ≤ length (now addresses)) × ImagedFit records (now addresses) (now images) (now states) (now owners) × MarkedTo records (length (now addresses)) images marks (s * pages) ⌝ }
+    ensures { λ r. ⌜ (r ≡ test (imagedEntered pages s updating records addresses images states owners)) × (r ≡ true → MarkedOn records (length (now (addresses .entry))) images marks (s * pages + pages)) ⌝ }
 {
     let base = s * pages;
     let mut p = 0;
@@ -160,8 +161,8 @@ fn image_ok(
     states: &[u8],
     owners: &[u8],
 ) -> bool
-    requires { ⌜ (s * pages + pages ≤ length (now addresses)) × ImagedFit records (now addresses) (now images) (now states) (now owners) × Prefix records (length (now addresses)) (at (now images)) (length (now marks)) (now marks) (s * pages) ⌝ }
-    ensures { λ r. ⌜ (r ≡ test (imagedRow pages s updating (now (addresses .entry)) (now (images .entry)) (now (states .entry)) (now (owners .entry)) and distinct (s * pages + pages) records (at (now (images .entry))))) × (r ≡ true → Prefix records (length (now (addresses .entry))) (at (now (images .entry))) (length (now (marks .entry))) (now (marks .exit)) (s * pages + pages)) ⌝ }
+    requires { ⌜ (s * pages + pages ≤ length (now addresses)) × ImagedFit records (now addresses) (now images) (now states) (now owners) × MarkedTo records (length (now addresses)) images marks (s * pages) ⌝ }
+    ensures { λ r. ⌜ (r ≡ test (imagedEntered pages s updating records addresses images states owners)) × (r ≡ true → MarkedOn records (length (now (addresses .entry))) images marks (s * pages + pages)) ⌝ }
 {
     if updating == 1 {
         return image_row(
@@ -197,8 +198,8 @@ pub fn pages_ok(
     states: &[u8],
     owners: &[u8],
 ) -> bool
-    requires { ⌜ (0 < pages) × (slots ≤ length (now accounts)) × (slots ≤ length (now active)) × (slots ≤ length (now updating)) × (length (now maps) ≡ slots * pages) × HeldFit records (now maps) (now addresses) (now states) (now owners) × ImagedFit records (now addresses) (now images) (now states) (now owners) × Holds (each slots (λ s. below (at (now accounts) s) 16)) × (length (now totals) ≡ 16) × Holds (each 16 (λ q. same (at (now totals) q) 0)) × (records ≤ 32 * length (now marks)) × Holds (each (length (now marks)) (λ k. same (at (now marks) k) 0)) × (records ≤ 32 * length (now «image_marks»)) × Holds (each (length (now «image_marks»)) (λ k. same (at (now «image_marks») k) 0)) ⌝ }
-    ensures { λ r. ⌜ (r ≡ test (allEntries slots pages (now (active .entry)) (now (updating .entry)) (now (maps .entry)) (now (addresses .entry)) (now (images .entry)) (now (states .entry)) (now (owners .entry)) and distinct (slots * pages) records (at (now (addresses .entry))) and distinct (slots * pages) records (at (now (images .entry))))) × (r ≡ true → Holds (marked records (slots * pages) (at (now (addresses .entry))) (now (marks .exit))) × Holds (marked records (slots * pages) (at (now (images .entry))) (now («image_marks» .exit))) × Holds (usedTable slots pages (now (accounts .entry)) (now (active .entry)) (now (maps .entry)) (now (addresses .entry)) (now (states .entry)) (now (totals .exit)))) ⌝ }
+    requires { ⌜ PagesGiven slots pages records marks «image_marks» totals accounts active updating maps addresses images states owners ⌝ }
+    ensures { λ r. ⌜ (r ≡ test (pagesEntered slots pages records active updating maps addresses images states owners)) × (r ≡ true → PagesLeft slots pages records marks «image_marks» totals accounts active maps addresses images states) ⌝ }
 {
     let mut s = 0;
     while s < slots {

@@ -68,16 +68,10 @@ pub fn numbers_ok(slots: usize, numbers: &[u32]) -> bool
 }
 
 // A switch is 0 or 1;
-fn active_fit(active: u8) -> bool
-    ensures { λ r. ⌜ r ≡ test (below active 2) ⌝ }
+fn switch_fit(switch: u8) -> bool
+    ensures { λ r. ⌜ r ≡ test (below switch 2) ⌝ }
 {
-    active < 2
-}
-
-fn updating_fit(updating: u8) -> bool
-    ensures { λ r. ⌜ r ≡ test (below updating 2) ⌝ }
-{
-    updating < 2
+    switch < 2
 }
 
 // an active slot is filled,
@@ -97,8 +91,8 @@ fn update_active(active: u8, updating: u8) -> bool
 fn memory_slot_ok(number: u32, active: u8, updating: u8) -> bool
     ensures { λ r. ⌜ r ≡ test (memorySlot number active updating) ⌝ }
 {
-    active_fit(active)
-        & updating_fit(updating)
+    switch_fit(active)
+        & switch_fit(updating)
         & active_filled(number, active)
         & update_active(active, updating)
 }

@@ -7,12 +7,12 @@ use Rattle.questions.proofs.groups.disk.Tie as tie
 
 mark-all-requires : tie.Need-mark-all-requires
 mark-all-requires c κs =
-    let pre = c .before .before .before .before .before .pre in
+    let s₀ : tie.Start = search in let pre = s₀ .pre in
     (pre .1, pre .2)
 
 returns : tie.Need-returns
 returns c =
-    let mark-all = c .before .before .before .before .before .mark-all in
+    let after-mark-all : tie.After-mark-all = search in let mark-all = after-mark-all .mark-all in
     (four _ _ _ _ _ _ _ _ (mark-all .ensures .0) (c .before .before .disk-slots-ok .ensures) (c .before .numbers-ok .ensures) (c .empty-maps-ok .ensures), λ e. mark-all .ensures .1 (four-true _ _ _ _ e))
 
 pub disk-spec : {M : Type 1} → statement M

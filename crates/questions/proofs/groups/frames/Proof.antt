@@ -17,7 +17,7 @@ use Rattle.questions.proofs.groups.frames.Tie as tie
 -- once both queues are asked: they are queues
 module _ (c : tie.Then1) where
   abbrev begun : tie.Start
-  begun = c .before .before .before .before .before .before .before .before .before .before .before .before
+  begun = search
 
   free-queued : Holds (lists.queue (begun .args .z .frames) (begun .args .free-queue .now))
   free-queued = learn (lists.queue _ (begun .args .free-queue .now)) (sym (both-true (c .before .before .queue .result) (c .before .queue2 .result) (c .if1 .taken) .0) ∙ c .before .before .queue .ensures)
@@ -27,7 +27,7 @@ module _ (c : tie.Then1) where
 
 returns : tie.Need-returns
 returns c =
-    let args = c .before .before .before .before .before .before .before .before .before .before .before .before .args in
+    let s₀ : tie.Start = search in let args = s₀ .args in
     (not-so _ (λ h. unlearn (lists.queue _ (args .free-queue .now) and lists.queue _ (args .removal-list .now)) (sym (c .if1 .left) ∙ both _ _ _ _ (c .before .before .queue .ensures) (c .before .queue2 .ensures)) (h .0 .1)), not-true)
 
 places-requires : tie.Need-places-requires
@@ -37,12 +37,12 @@ places-requires c κs =
 
 places-requires-2 : tie.Need-places-requires-2
 places-requires-2 c κs =
-    let pre = begun (c .before) .pre in
-    (omega (arith, pre .0 .removal-long, pre .0 .within .frames-most), length-replicate {A = ℕ} 64 0, all-zero 64, rw (pre .0 .removal-long) (list-queued (c .before)))
+    let t : tie.Then1 = search in let pre = begun t .pre in
+    (omega (arith, pre .0 .removal-long, pre .0 .within .frames-most), length-replicate {A = ℕ} 64 0, all-zero 64, rw (pre .0 .removal-long) (list-queued t))
 
 frames-ok-requires : tie.Need-frames-ok-requires
 frames-ok-requires c κs =
-    let s = c .before .before .before .before .before .before .before .before .before .before .before .before .before .before .before .before in
+    let s : tie.Start = search in
     let a = s .args in (
       frames-fit (a .z) (a .accounts .now) (a .records .now) (a .words .now) (a .free-queue .now) (a .removal-list .now) (a .addresses .now) (a .states .now) (a .active .now) (s .pre .0) (s .pre .1) (s .pre .2),
       omega (arith, length-replicate {A = ℕ} 512 0, pages-most (a .z) (s .pre .0 .within), s .pre .0 .addresses-long),
@@ -53,11 +53,16 @@ frames-ok-requires c κs =
 
 returns-2 : tie.Need-returns-2
 returns-2 c =
-    let frames-ok = c .before .before .before .frames-ok in
-    let t = c .before .before .before .before .before .before .before .before in
+    let after-frames-ok : tie.After-frames-ok = search in let frames-ok = after-frames-ok .frames-ok in
+    let after-places2 : tie.After-places2 = search in let places2 = after-places2 .places2 in
+    let after-places : tie.After-places = search in let places = after-places .places in
+    let t : tie.Then1 = search in
     let s = begun t in
-    let a = s .args in
-    (frames-ok .ensures .0 ∙ frames-decide (a .z) (a .accounts .now) (a .records .now) (a .words .now) (a .free-queue .now) (a .removal-list .now) (a .addresses .now) (a .states .now) (a .active .now) (s .pre .0) (a .frames) (c .before .before .before .before .before .before .before .places .result) (c .before .before .before .before .before .before .places2 .result) (c .before .before .before .before .before .before .before .places .ensures) (c .before .before .before .before .before .before .places2 .ensures) (free-queued t) (list-queued t), λ e. frames-ok .ensures .1 e .1)
+    let a = s .args in (
+      frames-ok .ensures .0 ∙ frames-decide (a .z) (a .accounts .now) (a .records .now) (a .words .now) (a .free-queue .now) (a .removal-list .now) (a .addresses .now) (a .states .now) (a .active .now)
+          (s .pre .0) (a .frames) (places .result) (places2 .result) (places .ensures) (places2 .ensures) (free-queued t) (list-queued t),
+      λ e. frames-ok .ensures .1 e .1,
+    )
 
 pub frames-spec : {M : Type 1} → statement M
 frames-spec = tie.close (tie.spec (λ c κs. search needs) (λ c κs. search needs) returns places-requires places-requires-2 (λ c. search needs) frames-ok-requires (λ c. search needs) returns-2)

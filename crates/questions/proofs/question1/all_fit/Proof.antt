@@ -10,24 +10,24 @@ use Rattle.questions.proofs.question1.all_fit.Tie as tie
 returns : tie.Need-returns
 unfolding allFit
 returns c =
-    let args = c .before .before .before .before .before .before .before .before .before .before .before .before .before .before .before .before .before .before .args in
+    let s₀ : tie.Start = search in let args = s₀ .args in
     λ frames pool e. first-no (sizesFit (args .z)) _ (sym (c .if1 .left) ∙ c .before .sizes-fit .ensures)
 
 disk-lengths-fit-requires : tie.Need-disk-lengths-fit-requires
 disk-lengths-fit-requires c κs =
-    let args = c .before .before .before .before .before .before .before .before .before .before .before .before .before .before .before .before .before .before .args in
+    let s₀ : tie.Start = search in let args = s₀ .args in
     learn (sizesFit (args .z)) (sym (c .if1 .taken) ∙ c .before .sizes-fit .ensures)
 
 memory-lengths-fit-requires : tie.Need-memory-lengths-fit-requires
 memory-lengths-fit-requires c κs =
-    let args = c .before .before .before .before .before .before .before .before .before .before .before .before .before .before .before .before .before .before .before .args in
+    let s₀ : tie.Start = search in let args = s₀ .args in
     learn (sizesFit (args .z)) (sym (c .before .if1 .taken) ∙ c .before .before .sizes-fit .ensures)
 
 returns-2 : tie.Need-returns-2
 unfolding allFit
 returns-2 c =
-    let sizes-fit = c .before .before .before .sizes-fit in
-    let args = c .before .before .before .before .before .before .before .before .before .before .before .before .before .before .before .before .before .before .before .before .args in
+    let s₀ : tie.Start = search in let args = s₀ .args in
+    let after-sizes-fit : tie.After-sizes-fit = search in let sizes-fit = after-sizes-fit .sizes-fit in
     λ frames pool e. second-told (sizesFit (args .z)) _ _ (learn (sizesFit (args .z)) (sym (c .before .before .if1 .taken) ∙ sizes-fit .ensures)) (both _ _ _ _ (c .before .disk-lengths-fit .ensures) (c .memory-lengths-fit .ensures frames pool e))
 
 pub all-fit-spec : {M : Type 1} → statement M

@@ -12,9 +12,8 @@ mul-result c = omega (arith, record-words-most (c .before .args .z) (within (c .
 
 mul-result-2 : tie.Need-mul-result-2
 mul-result-2 c =
-    let args = c .before .before .before .before .args in
-    let pre = c .before .before .before .before .pre in
-    omega (arith, pages-most (args .z) (within (args .z) (pre)))
+    let s₀ : tie.Start = search in let args = s₀ .args in let pre = s₀ .pre in
+    omega (arith, pages-most (args .z) (within (args .z) pre))
 
 returns : tie.Need-returns
 unfolding test

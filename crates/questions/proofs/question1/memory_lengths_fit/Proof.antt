@@ -16,15 +16,18 @@ mul-pages c = omega (arith, pages-most (c .before .args .z) (within (c .before .
 
 mul-result : tie.Need-mul-result
 mul-result c =
-    let args = c .before .before .before .args in
-    let pre = c .before .before .before .pre in
-    omega (arith, frame-words-most (args .z) (within (args .z) (pre)))
+    let s₀ : tie.Start = search in let args = s₀ .args in let pre = s₀ .pre in
+    omega (arith, frame-words-most (args .z) (within (args .z) pre))
 
 returns : tie.Need-returns
 unfolding test
 returns c =
-    let args = c .before .before .before .before .before .before .before .before .before .before .before .args in
-    λ frames pool e. rw e (twelve (eqb (args .count) (args .z .frames)) (eqb (length (args .words .now)) (args .z .frames * args .z .words)) (eqb (length (args .free-queue .now)) (args .z .frames)) (eqb (length (args .removal-list .now)) (args .z .frames)) (eqb (length (args .addresses .now)) (args .z .slots * args .z .pages)) (eqb (length (args .states .now)) (args .z .records)) (eqb (length (args .owners .now)) (args .z .records)) (eqb (length (args .free-map .now)) ((args .z .records + 31) / 32)) (eqb (length (args .active .now)) (args .z .slots)) (eqb (length (args .updating .now)) (args .z .slots)) (eqb (length (args .images .now)) (args .z .slots * args .z .pages)) (eqb (length (args .used .now)) (args .z .accounts)))
+    let s₀ : tie.Start = search in let args = s₀ .args in let z = args .z in
+    λ frames pool e. rw e (
+    twelve (eqb (args .count) (z .frames)) (eqb (length (args .words .now)) (z .frames * z .words)) (eqb (length (args .free-queue .now)) (z .frames)) (eqb (length (args .removal-list .now)) (z .frames))
+    (eqb (length (args .addresses .now)) (z .slots * z .pages)) (eqb (length (args .states .now)) (z .records)) (eqb (length (args .owners .now)) (z .records)) (eqb (length (args .free-map .now)) ((z .records + 31) / 32))
+    (eqb (length (args .active .now)) (z .slots)) (eqb (length (args .updating .now)) (z .slots)) (eqb (length (args .images .now)) (z .slots * z .pages)) (eqb (length (args .used .now)) (z .accounts))
+    )
 
 pub memory-lengths-fit-spec : {M : Type 1} → statement M
 memory-lengths-fit-spec = tie.close (tie.spec mul-pages mul-result (λ c. search needs) returns)

@@ -13,14 +13,12 @@ use Rattle.questions.proofs.question2.disk_rules.Tie as tie
 
 disk-requires : tie.Need-disk-requires
 disk-requires c κs =
-    let pre = c .before .before .before .before .before .before .pre in
-    let args = c .before .before .before .before .before .before .args in
+    let s₀ : tie.Start = search in let pre = s₀ .pre in let args = s₀ .args in
     (record { within = within (args .z) (pre .0); numbers-long = pre .1 .1 .0; accounts-long = pre .1 .1 .1 .0; maps-long = pre .1 .1 .1 .1 .0 }, omega (arith, length-replicate {A = ℕ} 128 0, within (args .z) (pre .0) .records-most), λ k h. zeros 128 k)
 
 returns : tie.Need-returns
 returns c =
-    let pre = c .before .before .before .before .before .before .before .before .pre in
-    let args = c .before .before .before .before .before .before .before .before .args in
+    let s₀ : tie.Start = search in let pre = s₀ .pre in let args = s₀ .args in
     λ m. c .before .disk .ensures .0 ∙ disk-told (args .z) (record { disk = diskOf (args .records .now) (args .numbers .now) (args .accounts .now) (args .maps .now) (args .limits .now); memory = m }) (record { within = within (args .z) (pre .0); numbers-long = pre .1 .1 .0; accounts-long = pre .1 .1 .1 .0; maps-long = pre .1 .1 .1 .1 .0 })
 
 pub disk-rules-spec : {M : Type 1} → statement M

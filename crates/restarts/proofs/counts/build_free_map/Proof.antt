@@ -25,15 +25,15 @@ abbrev μ-loop : tie.MeasureT-loop
 
 loop-holds : tie.Need-loop-holds Inv-loop μ-loop
 loop-holds c =
-    let h = c .before .before in
-    let s = c .before .before .before .before .before .before in
+    let s : tie.Start Inv-loop μ-loop = search in
+    let h : tie.After-zero32 Inv-loop μ-loop = search in
     let state = at (s .args .states .now) in
     (omega arith, free-none state, h .zero32 .ensures ∙ ap (λ (n : ℕ). replicate {A = ℕ} n 0) (s .pre .1) ∙ free-start (s .args .sizes) state)
 
 set-mark-requires : tie.Need-set-mark-requires Inv-loop μ-loop
 set-mark-requires c κs =
-    let l = c .before .before .before .before .before .loop in
-    let s = c .before .before .before .before .before .before .before .before .before .before .before .before in
+    let s : tie.Start Inv-loop μ-loop = search in
+    let at-loop : tie.At-loop Inv-loop μ-loop = search in let l = at-loop .loop in
     let z = s .args .sizes in
     let state = at (s .args .states .now) in
     let long : length (l .map) ≡ mapWords z = ap length (l .inv .2) ∙ length-tab (mapWords z) (freeWord z (passed (l .r) state)) 0 in
@@ -42,14 +42,14 @@ set-mark-requires c κs =
 
 add-free : tie.Need-add-free Inv-loop μ-loop
 add-free c =
-    let l = c .before .before .before .before .before .before .before .before .loop in
-    let s = c .before .before .before .before .before .before .before .before .before .before .before .before .before .before .before in
+    let s : tie.Start Inv-loop μ-loop = search in
+    let at-loop : tie.At-loop Inv-loop μ-loop = search in let l = at-loop .loop in
     omega (arith, l .inv .1, count-bound (l .r) (λ x. eqb (at (s .args .states .now) x) FREE))
 
 loop-again : tie.Need-loop-again Inv-loop μ-loop
 loop-again c =
-    let l = c .before .before .before .before .loop in
-    let s = c .before .before .before .before .before .before .before .before .before .before .before in
+    let s : tie.Start Inv-loop μ-loop = search in
+    let at-loop : tie.At-loop Inv-loop μ-loop = search in let l = at-loop .loop in
     let z = s .args .sizes in
     let state = at (s .args .states .now) in
     let k = l .r in
@@ -65,15 +65,15 @@ loop-again c =
 
 same-length : tie.Need-same-length Inv-loop μ-loop
 same-length c =
+    let s : tie.Start Inv-loop μ-loop = search in
     let l = c .before .before .loop in
-    let s = c .before .before .before .before .before .before .before .before .before in
     ap length (l .inv .2) ∙ length-tab (mapWords (s .args .sizes)) (freeWord (s .args .sizes) (passed (l .r) (at (s .args .states .now)))) 0 ∙ sym (s .pre .1)
 
 returns : tie.Need-returns Inv-loop μ-loop
 unfolding freeCount
 returns c =
+    let s : tie.Start Inv-loop μ-loop = search in
     let l = c .before .before .loop in
-    let s = c .before .before .before .before .before .before .before .before .before in
     let z = s .args .sizes in
     let state = at (s .args .states .now) in
     let n : l .r ≡ z .records = omega arith in

@@ -2,13 +2,14 @@
 use borrow.Author.Needs.{needs}
 use mathlib.Core.Path.{_≡_, sym, _∙_}
 use mathlib.Core.Logic.{⊎-elim}
-use Prim.Native.Nat.{ℕ, _-_, _≤_}
+use Prim.Native.Nat.{_-_, _/_, _<_, _≤_}
+use native.Mathlib.Nat.{div-lt-iff-lt-mul}
 use native.Mathlib.Omega.{arith}
 use lib.ListN.{length}
 use Rattle.tables.specs.Base.{at}
-use Rattle.restarts.specs.Filled.{Filled, filled-tab, filled-by, filled-start}
+use Rattle.model.specs.Sizes.{mostSlots}
+use Rattle.restarts.specs.ByEntry.{Filled, filled-tab, filled-by, filled-start}
 use Rattle.restarts.specs.Filed.{filedStates, filedOwners, stateBy, ownerBy, state-none, owner-none, state-turn, state-pass, owner-turn, owner-pass}
-use Rattle.restarts.proofs.Entries.{slot-inside}
 use Rattle.restarts.proofs.filed.file_records.Statement.{statement}
 use Rattle.restarts.proofs.filed.file_records.Tie as tie
 
@@ -20,9 +21,9 @@ abbrev μ-loop : tie.MeasureT-loop
 
 loop-holds : tie.Need-loop-holds Inv-loop μ-loop
 loop-holds c =
-    let k = c .before .before in
-    let h = k .before .before .before .before in
-    let s = h .before .before .before .before .before in
+    let s : tie.Start Inv-loop μ-loop = search in
+    let k : tie.After-zero82 Inv-loop μ-loop = search in
+    let h : tie.After-zero8 Inv-loop μ-loop = search in
     let e : length (h .zero8 .last .0) ≡ length (s .args .states .now) = h .zero8 .kept .0 in (
       omega arith,
       filled-start _ (stateBy 0 (at (s .args .maps .now))) (h .zero8 .ensures) e (state-none (at (s .args .maps .now))),
@@ -32,48 +33,65 @@ loop-holds c =
 cast-entry : tie.Need-cast-entry Inv-loop μ-loop
 cast-entry c = omega (arith, c .shared-slice-known2 .given (c .before .before .loop .i))
 
+-- the entry that a turn looks at: its slot is one of the slots, and the record that it lists is one of the records
+module _ (turn : tie.In-loop Inv-loop μ-loop) where
+  abbrev start : tie.Start Inv-loop μ-loop
+  start = search
+
+  abbrev zeroed : tie.After-zero8 Inv-loop μ-loop
+  zeroed = search
+
+  slot-inside : turn .before .loop .i / start .args .pages < mostSlots
+  slot-inside = div-lt-iff-lt-mul (start .pre .0) .1 (omega (arith, start .pre .1))
+
+  listed-inside : ¬ (at (start .args .maps .now) (turn .before .loop .i) ≡ 0) → at (start .args .maps .now) (turn .before .loop .i) - 1 < length (zeroed .zero8 .last .0)
+  listed-inside h =
+      let i = turn .before .loop .i in let entry = at (start .args .maps .now) i in
+      omega (arith, zeroed .zero8 .kept .0, start .pre .3 i (omega arith) (entry - 1) (omega (arith, h)))
+
 slice-write-states : tie.Need-slice-write-states Inv-loop μ-loop
 slice-write-states c =
-    let a = c .before .before .before in
-    let h = a .before .before .before .before .before .before .before in
-    let s = h .before .before .before .before .before in
-    let e : length (h .zero8 .last .0) ≡ length (s .args .states .now) = h .zero8 .kept .0 in
-    let m : ℕ = at (s .args .maps .now) (a .loop .i) in
-    omega (arith, e, a .loop .inv .1 .long, s .pre .3 (a .loop .i) (omega arith) (m - 1) (omega arith))
+    let turn : tie.In-loop Inv-loop μ-loop = search in
+    omega (arith, turn .before .loop .inv .1 .long, listed-inside turn (omega arith))
 
 cast-owners : tie.Need-cast-owners Inv-loop μ-loop
-cast-owners c = let s = c .before .before .before .before .before .before .before .before .before .before .before .before .before .before .before in omega (arith, slot-inside (c .before .before .before .loop .i) (s .args .pages) 64 (s .pre .0) (omega arith))
+cast-owners c = omega (arith, slot-inside (search))
 
 slice-write-owners : tie.Need-slice-write-owners Inv-loop μ-loop
 slice-write-owners c =
-    let a = c .before .before .before in
-    let h = a .before .before .before .before .before .before .before in
-    let s = h .before .before .before .before .before in
-    let e : length (h .zero8 .last .0) ≡ length (s .args .states .now) = h .zero8 .kept .0 in
-    let m : ℕ = at (s .args .maps .now) (a .loop .i) in
-    omega (arith, e, a .loop .inv .2 .long, s .pre .3 (a .loop .i) (omega arith) (m - 1) (omega arith))
+    let turn : tie.In-loop Inv-loop μ-loop = search in
+    omega (arith, turn .before .loop .inv .2 .long, listed-inside turn (omega arith))
 
 loop-again : tie.Need-loop-again Inv-loop μ-loop
 loop-again c =
-    let a = c .before .before .before in
-    let s = a .before .before .before .before .before .before .before .before .before .before .before .before in
+    let s : tie.Start Inv-loop μ-loop = search in
+    let a : tie.At-loop Inv-loop μ-loop = search in
     let m = at (s .args .maps .now) in
     ⊎-elim
-    (λ w. (omega arith, filled-by (state-turn m (a .loop .i) (a .loop .inv .1) (w .0 .taken)) (w .1), filled-by (owner-turn m (a .loop .i) (s .args .pages) (length (s .args .maps .now)) (s .pre .4) (omega arith) (a .loop .inv .2) (w .0 .taken)) (w .2)))
+    (λ w. (
+      omega arith,
+      filled-by (state-turn m (a .loop .i) (a .loop .inv .1) (w .0 .taken)) (w .1),
+      filled-by (owner-turn m (a .loop .i) (s .args .pages) (length (s .args .maps .now)) (s .pre .4) (omega arith) (a .loop .inv .2) (w .0 .taken)) (w .2),
+    ))
     (λ w. (omega arith, filled-by (state-pass m (a .loop .i) (a .loop .inv .1) (w .0 .left)) (w .1), filled-by (owner-pass m (a .loop .i) (s .args .pages) (a .loop .inv .2) (w .0 .left)) (w .2)))
     (c .if1 .came)
 
 same-length : tie.Need-same-length Inv-loop μ-loop
-same-length c = c .before .loop .inv .1 .long ∙ c .before .before .before .before .before .before .before .before .zero8 .kept .0
+same-length c =
+    let after-zero8 : tie.After-zero8 Inv-loop μ-loop = search in
+    c .before .loop .inv .1 .long ∙ after-zero8 .zero8 .kept .0
 
 same-length-2 : tie.Need-same-length-2 Inv-loop μ-loop
-same-length-2 c = c .before .loop .inv .2 .long ∙ c .before .before .before .before .before .before .before .before .zero8 .kept .0 ∙ sym (c .before .before .before .before .before .before .before .before .before .before .before .before .before .pre .2)
+same-length-2 c =
+    let s₀ : tie.Start Inv-loop μ-loop = search in
+    let after-zero8 : tie.After-zero8 Inv-loop μ-loop = search in
+    c .before .loop .inv .2 .long ∙ after-zero8 .zero8 .kept .0 ∙ sym (s₀ .pre .2)
 
 returns : tie.Need-returns Inv-loop μ-loop
 returns c =
-    let a = c .before in
-    let h = a .before .before .before .before .before .before .before in
-    let s = h .before .before .before .before .before in
+    let s : tie.Start Inv-loop μ-loop = search in
+    let a : tie.At-loop Inv-loop μ-loop = search in
+    let h : tie.After-zero8 Inv-loop μ-loop = search in
     let e : length (h .zero8 .last .0) ≡ length (s .args .states .now) = h .zero8 .kept .0 in
     let n : a .loop .i ≡ length (s .args .maps .now) = omega arith in (
       filled-tab (a .loop .inv .1) ∙ (λ x. filedStates (e x) (n x) (at (s .args .maps .now))),

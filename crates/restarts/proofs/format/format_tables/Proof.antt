@@ -4,7 +4,12 @@ use Rattle.restarts.proofs.format.format_tables.Statement.{statement}
 use Rattle.restarts.proofs.format.format_tables.Tie as tie
 
 returns : tie.Need-returns
-returns c = (c .before .before .before .before .before .before .before .before .before .before .before .before .before .before .before .before .before .before .zero32 .ensures, (c .before .before .before .before .before .before .before .before .before .before .before .before .before .before .zero322 .ensures, (c .before .before .before .before .before .before .before .before .before .before .zero16 .ensures, (c .before .before .before .before .before .before .zero162 .ensures, c .before .before .zero163 .ensures))))
+returns c =
+    let after-zero162 : tie.After-zero162 = search in
+    let after-zero16 : tie.After-zero16 = search in
+    let after-zero322 : tie.After-zero322 = search in
+    let after-zero32 : tie.After-zero32 = search in
+    (after-zero32 .zero32 .ensures, (after-zero322 .zero322 .ensures, (after-zero16 .zero16 .ensures, (after-zero162 .zero162 .ensures, c .before .before .zero163 .ensures))))
 
 pub format-tables-spec : {M : Type 1} → statement M
 format-tables-spec =

@@ -14,17 +14,21 @@ use Rattle.restarts.proofs.restart.restart_records.Statement.{statement
 use Rattle.restarts.proofs.restart.restart_records.Tie as tie
 
 file-records-requires : tie.Need-file-records-requires
-file-records-requires c κs = let s = c .before .before .before .before .before .before .before .before in let a = s .args in to-file (a .sizes) (a .accounts .now) (a .maps .now) (a .states .now) (a .owners .now) (a .free-map .now) (a .used .now) (s .pre)
+file-records-requires c κs =
+    let s : tie.Start = search in
+    let a = s .args in to-file (a .sizes) (a .accounts .now) (a .maps .now) (a .states .now) (a .owners .now) (a .free-map .now) (a .used .now) (s .pre)
 
 count-used-requires : tie.Need-count-used-requires
-count-used-requires c κs = let s = c .before .before .before .before .before .before .before .before .before .before .before .before .before .before in let a = s .args in to-count (a .sizes) (a .accounts .now) (a .maps .now) (a .states .now) (a .owners .now) (a .free-map .now) (a .used .now) (s .pre)
+count-used-requires c κs =
+    let s : tie.Start = search in
+    let a = s .args in to-count (a .sizes) (a .accounts .now) (a .maps .now) (a .states .now) (a .owners .now) (a .free-map .now) (a .used .now) (s .pre)
 
 returns : tie.Need-returns
 returns c =
+    let s : tie.Start = search in
+    let after-count-used : tie.After-count-used = search in let u = after-count-used .count-used .ensures in
+    let after-file-records : tie.After-file-records = search in let f = after-file-records .file-records in
     let b = c .before .before .build-free-map .ensures in
-    let u = c .before .before .before .before .before .before .before .count-used .ensures in
-    let f = c .before .before .before .before .before .before .before .before .before .before .before .before .before .file-records in
-    let s = c .before .before .before .before .before .before .before .before .before .before .before .before .before .before .before .before .before .before .before .before .before .before in
     let z = s .args .sizes in
     let d = seen (s .args .accounts .now) (s .args .maps .now) in
     let map = at (s .args .maps .now) in

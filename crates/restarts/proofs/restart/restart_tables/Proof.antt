@@ -9,21 +9,30 @@ use Rattle.restarts.specs.Restarts.{seen, zeros-of, queued-none, take-fr
 use Rattle.restarts.proofs.restart.restart_tables.Statement.{statement}
 use Rattle.restarts.proofs.restart.restart_tables.Tie as tie
 
+-- back to the start, in two legs
+abbrev cleared : tie.After-restart-records → tie.After-clear-tables
+cleared records = search
+
+abbrev begun : tie.After-clear-tables → tie.Start
+begun tables = search
+
 fill-queue-requires : tie.Need-fill-queue-requires
-fill-queue-requires c κs = let p = c .before .before .before .before .before .before .before .before .before .before .before .before .before .before .before .before .before .before .before .before .before .before .before .before .before .before .before .before .before .before .before .before .before .pre in omega (arith, p .free-queue-long, p .recorded .within .frames-most)
+fill-queue-requires c κs =
+    let s₀ : tie.Start = search in
+    let p = s₀ .pre in omega (arith, p .free-queue-long, p .recorded .within .frames-most)
 
 cast-t42 : tie.Need-cast-t42
 cast-t42 c =
-    let t = c .before .before .before .before .before .before .before .before .before .restart-records in
-    let s = c .before .before .before .before .before .before .before .before .before .before .before .before .before .before .before .before .before .before .before .before .before .before .before .before .before .before .before .before .before .before .before .before .before .before .before .before .before .before .before .before .before .before .before .before .before .before .before .before .before .before in
+    let records : tie.After-restart-records = search in let t = records .restart-records in
+    let s = begun (cleared records) in
     omega (arith, pool-room (s .args .sizes) (seen (s .args .accounts .now) (s .args .maps .now)) (t .result) (s .pre .recorded .within) (t .ensures .1 .1 .1 .1))
 
 returns : tie.Need-returns
 returns c =
-    let t = c .before .before .before .before .before .before .before .before .before .restart-records .ensures in
-    let q = c .before .before .before .before .before .before .before .before .before .before .before .before .before .before .before .before .fill-queue .ensures in
-    let k = c .before .before .before .before .before .before .before .before .before .before .before .before .before .before .before .before .before .before .before .before .before .before .before .before .before .before .before .before .before .before .clear-tables .ensures in
-    let s = c .before .before .before .before .before .before .before .before .before .before .before .before .before .before .before .before .before .before .before .before .before .before .before .before .before .before .before .before .before .before .before .before .before .before .before .before .before .before .before .before .before .before .before .before .before .before .before .before .before .before in
+    let records : tie.After-restart-records = search in let t = records .restart-records .ensures in
+    let after-fill-queue : tie.After-fill-queue = search in let q = after-fill-queue .fill-queue .ensures in
+    let k = cleared records .clear-tables .ensures in
+    let s = begun (cleared records) in
     let z = s .args .sizes in
     let d = seen (s .args .accounts .now) (s .args .maps .now) in
     let p = s .pre in (

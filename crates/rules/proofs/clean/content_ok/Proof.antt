@@ -7,12 +7,12 @@ use Rattle.rules.proofs.clean.content_ok.Tie as tie
 
 returns : tie.Need-returns
 returns c =
-    let args = c .before .before .before .before .args in
+    let s₀ : tie.Start = search in let args = s₀ .args in
     c .equal .ensures ∙ live-words (args .w) (args .f) (args .r) (args .state) (args .words .now) (args .records .now) (c .before .if1 .taken)
 
 returns-2 : tie.Need-returns-2
 returns-2 c =
-    let args = c .before .before .before .before .args in
+    let s₀ : tie.Start = search in let args = s₀ .args in
     c .all-zero .ensures ∙ zero-words (args .w) (args .f) (args .r) (args .state) (args .words .now) (args .records .now) (c .before .if1 .left)
 
 pub content-ok-spec : {M : Type 1} → statement M

@@ -29,32 +29,30 @@ loop-holds c =
 
 mul-word : tie.Need-mul-word Inv-loop μ-loop
 mul-word c =
-    let args = c .before .before .before .before .before .args in
-    let loop = c .before .before .before .loop in
+    let s₀ : tie.Start Inv-loop μ-loop = search in let args = s₀ .args in let pre = s₀ .pre in
+    let at-loop : tie.At-loop Inv-loop μ-loop = search in let loop = at-loop .loop in
     let loop-test = c .before .before .loop-test in
-    let pre = c .before .before .before .before .before .pre in
     omega (arith, word-small (free (args .states .now)) (args .from) (args .count) (loop .n) (loop .word) (loop-test .taken) (loop .inv .0) (pre .0))
 
 add-word : tie.Need-add-word Inv-loop μ-loop
 add-word c =
-    let args = c .before .before .before .before .before .args in
-    let loop = c .before .before .before .loop in
+    let s₀ : tie.Start Inv-loop μ-loop = search in let args = s₀ .args in let pre = s₀ .pre in
+    let at-loop : tie.At-loop Inv-loop μ-loop = search in let loop = at-loop .loop in
     let loop-test = c .before .before .loop-test in
-    let pre = c .before .before .before .before .before .pre in
     let free-one = c .free-one in
     omega (arith, word-small (free (args .states .now)) (args .from) (args .count) (loop .n) (loop .word) (loop-test .taken) (loop .inv .0) (pre .0), one-le (free (args .states .now) (args .from + (args .count - 1 - loop .n))), free-one .ensures)
 
 loop-again : tie.Need-loop-again Inv-loop μ-loop
 loop-again c =
-    let args = c .before .before .before .before .before .args in
-    let loop = c .before .before .before .loop in
+    let s₀ : tie.Start Inv-loop μ-loop = search in let args = s₀ .args in
+    let at-loop : tie.At-loop Inv-loop μ-loop = search in let loop = at-loop .loop in
     let loop-test = c .before .before .loop-test in
     let free-one = c .free-one in
     (word-next (free (args .states .now)) (args .from) (args .count) (loop .n) (loop .word) (loop-test .taken) (loop .inv .0) _ (free-one .ensures), omega (arith, loop-test .taken))
 
 returns : tie.Need-returns Inv-loop μ-loop
 returns c =
-    let args = c .before .before .before .args in
+    let s₀ : tie.Start Inv-loop μ-loop = search in let args = s₀ .args in
     let loop = c .before .loop in
     let loop-test = c .loop-test in
     word-end (free (args .states .now)) (args .from) (args .count) (loop .n) _ (loop .inv .1) (loop-test .left) (loop .inv .0)

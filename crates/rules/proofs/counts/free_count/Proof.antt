@@ -20,14 +20,13 @@ loop-holds c = (count-start _, omega arith)
 
 add-n : tie.Need-add-n Inv-loop μ-loop
 add-n c =
-    let loop = c .before .before .before .loop in
-    let args = c .before .before .before .before .before .args in
-    let pre = c .before .before .before .before .before .pre in
+    let s₀ : tie.Start Inv-loop μ-loop = search in let args = s₀ .args in let pre = s₀ .pre in
+    let at-loop : tie.At-loop Inv-loop μ-loop = search in let loop = at-loop .loop in
     let l = one-le (eqb (at (args .states .now) (loop .r)) 0) in omega (arith, count-few _ _ _ (loop .inv .0), l, c .free-one .ensures, c .before .before .loop-test .taken, pre)
 
 loop-again : tie.Need-loop-again Inv-loop μ-loop
 loop-again c =
-    let loop = c .before .before .before .loop in
+    let at-loop : tie.At-loop Inv-loop μ-loop = search in let loop = at-loop .loop in
     (count-next _ _ _ _ (loop .inv .0) (c .free-one .ensures), omega (arith, c .before .before .loop-test .taken))
 
 returns : tie.Need-returns Inv-loop μ-loop

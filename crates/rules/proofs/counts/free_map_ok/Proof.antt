@@ -18,13 +18,13 @@ abbrev μ-loop : tie.MeasureT-loop
 
 returns : tie.Need-returns Inv-loop μ-loop
 returns c =
-    let loop-test = c .before .before .before .loop-test in
-    let loop = c .before .before .before .before .loop in
+    let in-loop : tie.In-loop Inv-loop μ-loop = search in let loop-test = in-loop .loop-test in
+    let at-loop : tie.At-loop Inv-loop μ-loop = search in let loop = at-loop .loop in
     fails (loop .k) _ _ (loop-test .taken) (not-so (same _ _) (λ e. c .if1 .taken (e ∙ sym (c .before .free-word .ensures))))
 
 loop-again : tie.Need-loop-again Inv-loop μ-loop
 loop-again c =
-    let loop = c .before .before .before .before .loop in
+    let at-loop : tie.At-loop Inv-loop μ-loop = search in let loop = at-loop .loop in
     again _ _ (loop .inv) (yes-so (same _ _) (c .if1 .left ∙ c .before .free-word .ensures))
 
 returns-2 : tie.Need-returns-2 Inv-loop μ-loop

@@ -12,12 +12,12 @@ returns c =
 
 returns-2 : tie.Need-returns-2
 returns-2 c =
-    let args = c .before .before .before .args in
+    let s₀ : tie.Start = search in let args = s₀ .args in
     is-live (args .address) (at (args .states .now)) (c .before .before .if1 .left) (c .if2 .taken)
 
 returns-3 : tie.Need-returns-3
 returns-3 c =
-    let args = c .before .before .before .args in
+    let s₀ : tie.Start = search in let args = s₀ .args in
     not-live (args .address) (at (args .states .now)) (c .before .before .if1 .left) (c .if2 .left)
 
 pub live-one-spec : {M : Type 1} → statement M

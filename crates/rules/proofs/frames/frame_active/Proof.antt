@@ -11,7 +11,9 @@ returns : tie.Need-returns
 returns c = named-none _ _ (c .if1 .taken)
 
 shared-slice-read-result : tie.Need-shared-slice-read-result
-shared-slice-read-result c = slot-below (c .before .before .args .page) (length (c .before .before .args .active .now)) (c .before .before .args .pages) (c .before .before .pre .0) (c .before .if1 .left) (c .before .before .pre .1)
+shared-slice-read-result c =
+    let s₀ : tie.Start = search in
+    slot-below (s₀ .args .page) (length (s₀ .args .active .now)) (s₀ .args .pages) (s₀ .pre .0) (c .before .if1 .left) (s₀ .pre .1)
 
 returns-2 : tie.Need-returns-2
 returns-2 c = test-same _ 1 ∙ named-one _ _ (c .before .if1 .left)

@@ -7,7 +7,9 @@ use Rattle.rules.proofs.frames.in_one_place.Statement.{statement}
 use Rattle.rules.proofs.frames.in_one_place.Tie as tie
 
 add-result-3 : tie.Need-add-result-3
-add-result-3 c = omega (arith, moving-le (c .before .before .args .x .transfer), c .moving .ensures)
+add-result-3 c =
+    let s₀ : tie.Start = search in
+    omega (arith, moving-le (s₀ .args .x .transfer), c .moving .ensures)
 
 returns : tie.Need-returns
 unfolding test

@@ -19,7 +19,7 @@ abbrev μ-loop : tie.MeasureT-loop
 
 loop-holds : tie.Need-loop-holds Inv-loop μ-loop
 loop-holds c =
-    let pre = c .before .before .pre in
+    let s₀ : tie.Start Inv-loop μ-loop = search in let pre = s₀ .pre in
     start _ _ _ _ _ refl (pre .0) (pre .1)
 
 zeros-from-requires : tie.Need-zeros-from-requires Inv-loop μ-loop
@@ -35,35 +35,35 @@ add-i c =
 
 loop-less : tie.Need-loop-less Inv-loop μ-loop
 loop-less c =
+    let in-loop : tie.In-loop Inv-loop μ-loop = search in let loop-test = in-loop .loop-test in
     let zeros-from = c .zeros-from in
-    let loop-test = c .before .before .before .loop-test in
     omega (arith, zeros-from .ensures .0, loop-test .taken)
 
 loop-again : tie.Need-loop-again Inv-loop μ-loop
 loop-again c =
-    let loop = c .before .before .before .before .loop in
+    let at-loop : tie.At-loop Inv-loop μ-loop = search in let loop = at-loop .loop in
     let zeros-from = c .zeros-from in
     skip-run _ _ _ _ _ _ (loop .inv) _ (zeros-from .ensures .1) (zeros-from .ensures .2)
 
 mark-entry-requires : tie.Need-mark-entry-requires Inv-loop μ-loop
 mark-entry-requires c κs =
-    let loop = c .before .before .before .before .loop in
+    let at-loop : tie.At-loop Inv-loop μ-loop = search in let loop = at-loop .loop in
     omega (arith, loop .inv .enough, loop .inv .sized)
 
 returns : tie.Need-returns Inv-loop μ-loop
 returns c =
-    let loop = c .before .before .before .before .before .before .before .before .loop in
-    let loop-test = c .before .before .before .before .before .before .before .loop-test in
+    let after-mark-entry : tie.After-mark-entry Inv-loop μ-loop = search in let mark-entry = after-mark-entry .mark-entry in
+    let in-loop : tie.In-loop Inv-loop μ-loop = search in let loop-test = in-loop .loop-test in
+    let at-loop : tie.At-loop Inv-loop μ-loop = search in let loop = at-loop .loop in
     let if2 = c .if2 in
-    let mark-entry = c .before .before .before .mark-entry in
     (not-so _ (stuck _ _ _ _ _ _ (loop .inv) (loop-test .taken) (unlearn _ (sym (if2 .left) ∙ mark-entry .ensures .0))), not-true)
 
 loop-again-2 : tie.Need-loop-again-2 Inv-loop μ-loop
 loop-again-2 c =
-    let mark-entry = c .before .before .before .mark-entry in
+    let after-mark-entry : tie.After-mark-entry Inv-loop μ-loop = search in let mark-entry = after-mark-entry .mark-entry in
+    let in-loop : tie.In-loop Inv-loop μ-loop = search in let loop-test = in-loop .loop-test in
+    let at-loop : tie.At-loop Inv-loop μ-loop = search in let loop = at-loop .loop in
     let if2 = c .if2 in
-    let loop = c .before .before .before .before .before .before .before .before .loop in
-    let loop-test = c .before .before .before .before .before .before .before .loop-test in
     rw (mark-entry .ensures .1 (if2 .taken)) (step _ _ _ _ _ _ (loop .inv) (loop-test .taken) (learn _ (sym (if2 .taken) ∙ mark-entry .ensures .0)))
 
 same-length-2 : tie.Need-same-length-2 Inv-loop μ-loop

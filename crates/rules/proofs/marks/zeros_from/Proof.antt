@@ -14,17 +14,19 @@ returns c =
 
 returns-2 : tie.Need-returns-2
 returns-2 c =
-    let if1 = c .before .before .before .before .before .before .before .before .if1 in
-    let pre = c .before .before .before .before .before .before .before .before .before .pre in
-    let args = c .before .before .before .before .before .before .before .before .before .args in
+    let s₀ : tie.Start = search in let pre = s₀ .pre in let args = s₀ .args in
+    let else1 : tie.Else1 = search in let if1 = else1 .if1 in
     let if2 = c .if2 in
     (omega arith, omega (arith, if1 .left, pre .1), run-of-eight (at (args .entries .now)) (args .i) (pre .2) (if2 .taken))
 
 returns-3 : tie.Need-returns-3
 returns-3 c =
-    let pre = c .before .before .before .before .before .before .before .before .before .pre in
-    let args = c .before .before .before .before .before .before .before .before .before .args in
+    let s₀ : tie.Start = search in let pre = s₀ .pre in let args = s₀ .args in
     (omega arith, omega (arith, pre .1), run-of-one (at (args .entries .now)) (args .i) (pre .2))
 
 pub zeros-from-spec : {M : Type 1} → statement M
-zeros-from-spec = tie.close (tie.spec (λ c. search needs) returns (λ c. search needs) (λ c. search needs) (λ c. search needs) (λ c. search needs) (λ c. search needs) (λ c. search needs) (λ c. search needs) (λ c. search needs) (λ c. search needs) (λ c. search needs) (λ c. search needs) (λ c. search needs) (λ c. search needs) (λ c. search needs) (λ c. search needs) (λ c. search needs) (λ c. search needs) (λ c. search needs) (λ c. search needs) (λ c. search needs) (λ c. search needs) returns-2 returns-3)
+zeros-from-spec =
+    tie.close
+    (tie.spec (λ c. search needs) returns (λ c. search needs) (λ c. search needs) (λ c. search needs) (λ c. search needs) (λ c. search needs) (λ c. search needs) (λ c. search needs)
+    (λ c. search needs) (λ c. search needs) (λ c. search needs) (λ c. search needs) (λ c. search needs) (λ c. search needs) (λ c. search needs) (λ c. search needs)
+    (λ c. search needs) (λ c. search needs) (λ c. search needs) (λ c. search needs) (λ c. search needs) (λ c. search needs) returns-2 returns-3)

@@ -18,19 +18,18 @@ abbrev μ-loop : tie.MeasureT-loop
 
 empty-map-requires : tie.Need-empty-map-requires Inv-loop μ-loop
 empty-map-requires c κs =
-    let args = c .before .before .before .before .before .args in
-    let pre = c .before .before .before .before .before .pre in
+    let s₀ : tie.Start Inv-loop μ-loop = search in let args = s₀ .args in let pre = s₀ .pre in
     part (c .before .before .loop .s) (args .slots) (args .pages) (length (args .maps .now)) (c .before .loop-test .taken) (pre .1)
 
 returns : tie.Need-returns Inv-loop μ-loop
 returns c =
-    let loop-test = c .before .before .before .loop-test in
-    let loop = c .before .before .before .before .loop in
+    let in-loop : tie.In-loop Inv-loop μ-loop = search in let loop-test = in-loop .loop-test in
+    let at-loop : tie.At-loop Inv-loop μ-loop = search in let loop = at-loop .loop in
     fails (loop .s) _ _ (loop-test .taken) (sym (c .if1 .left) ∙ c .before .empty-map .ensures)
 
 loop-again : tie.Need-loop-again Inv-loop μ-loop
 loop-again c =
-    let loop = c .before .before .before .before .loop in
+    let at-loop : tie.At-loop Inv-loop μ-loop = search in let loop = at-loop .loop in
     again _ _ (loop .inv) (sym (c .if1 .taken) ∙ c .before .empty-map .ensures)
 
 returns-2 : tie.Need-returns-2 Inv-loop μ-loop

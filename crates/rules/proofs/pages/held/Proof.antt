@@ -12,12 +12,14 @@ returns : tie.Need-returns
 returns c = named-none _ _ (c .if1 .taken)
 
 cast-result : tie.Need-cast-result
-cast-result c = omega (arith, c .shared-slice-known .given (c .before .before .args .address - 1))
+cast-result c =
+    let s₀ : tie.Start = search in
+    omega (arith, c .shared-slice-known .given (s₀ .args .address - 1))
 
 returns-2 : tie.Need-returns-2
 returns-2 c =
-    let if1 = c .before .before .before .if1 in
-    let args = c .before .before .before .before .args in
+    let s₀ : tie.Start = search in let args = s₀ .args in
+    let else1 : tie.Else1 = search in let if1 = else1 .if1 in
     held-told (args .s) (args .address) (at (args .states .now)) (at (args .owners .now)) (if1 .left)
 
 pub held-spec : {M : Type 1} → statement M

@@ -16,17 +16,19 @@ returns : tie.Need-returns
 returns c = named-none _ _ (c .if1 .taken)
 
 returns-2 : tie.Need-returns-2
-returns-2 c = yes-so (named (c .before .before .args .image) (imagedRecord (c .before .before .args .s) (at (c .before .before .args .states .now)) (at (c .before .before .args .owners .now)) (c .before .before .args .address))) (λ r e. inl (c .if2 .taken ∙ e))
+returns-2 c =
+    let s₀ : tie.Start = search in
+    yes-so (named (s₀ .args .image) (imagedRecord (s₀ .args .s) (at (s₀ .args .states .now)) (at (s₀ .args .owners .now)) (s₀ .args .address))) (λ r e. inl (c .if2 .taken ∙ e))
 
 cast-result : tie.Need-cast-result
 cast-result c =
-    let args = c .before .before .before .args in
+    let s₀ : tie.Start = search in let args = s₀ .args in
     omega (arith, c .shared-slice-known .given (args .image - 1))
 
 returns-3 : tie.Need-returns-3
 returns-3 c =
-    let if1 = c .before .before .before .if1 in
-    let args = c .before .before .before .before .args in
+    let s₀ : tie.Start = search in let args = s₀ .args in
+    let else1 : tie.Else1 = search in let if1 = else1 .if1 in
     imaged-told (args .s) (args .image) (at (args .states .now)) (at (args .owners .now)) (if1 .left) (args .address) (c .before .before .if2 .left)
 
 pub imaged-spec : {M : Type 1} → statement M

@@ -23,35 +23,31 @@ cast-e c = omega (arith, c .shared-slice-known .given (c .before .before .loop .
 
 returns : tie.Need-returns Inv-loop μ-loop
 returns c =
-    let loop = c .before .before .before .loop in
+    let at-loop : tie.At-loop Inv-loop μ-loop = search in let loop = at-loop .loop in
     stopped _ _ _ (loop .inv) (c .if1 .taken)
 
 array-read-t : tie.Need-array-read-t Inv-loop μ-loop
 array-read-t c =
-    let loop = c .before .before .before .loop in
-    let args = c .before .before .before .before .args in
-    let pre = c .before .before .before .before .pre in
+    let s₀ : tie.Start Inv-loop μ-loop = search in let args = s₀ .args in let pre = s₀ .pre in
+    let at-loop : tie.At-loop Inv-loop μ-loop = search in let loop = at-loop .loop in
     omega (arith, loop .inv .sized, c .if1 .left, below-n (args .entries .now) [] (length (args .entries .now)) (loop .k) (pre .3) (c .before .before .loop-test .taken) (c .if1 .left))
 
 add-t : tie.Need-add-t Inv-loop μ-loop
 add-t c =
-    let loop = c .before .before .before .loop in
-    let args = c .before .before .before .before .args in
-    let pre = c .before .before .before .before .pre in
+    let s₀ : tie.Start Inv-loop μ-loop = search in let args = s₀ .args in let pre = s₀ .pre in
+    let at-loop : tie.At-loop Inv-loop μ-loop = search in let loop = at-loop .loop in
     omega (arith, loop .inv .few (at (args .entries .now) (loop .k) - 1) (omega (arith, pre .0, c .if1 .left, below-n (args .entries .now) [] (length (args .entries .now)) (loop .k) (pre .3) (c .before .before .loop-test .taken) (c .if1 .left))), pre .0, c .before .before .loop-test .taken)
 
 array-write-t : tie.Need-array-write-t Inv-loop μ-loop
 array-write-t c =
-    let loop = c .before .before .before .loop in
-    let args = c .before .before .before .before .args in
-    let pre = c .before .before .before .before .pre in
+    let s₀ : tie.Start Inv-loop μ-loop = search in let args = s₀ .args in let pre = s₀ .pre in
+    let at-loop : tie.At-loop Inv-loop μ-loop = search in let loop = at-loop .loop in
     omega (arith, loop .inv .sized, c .if1 .left, below-n (args .entries .now) [] (length (args .entries .now)) (loop .k) (pre .3) (c .before .before .loop-test .taken) (c .if1 .left))
 
 loop-again : tie.Need-loop-again Inv-loop μ-loop
 loop-again c =
-    let loop = c .before .before .before .loop in
-    let pre = c .before .before .before .before .pre in
-    let args = c .before .before .before .before .args in
+    let s₀ : tie.Start Inv-loop μ-loop = search in let pre = s₀ .pre in let args = s₀ .args in
+    let at-loop : tie.At-loop Inv-loop μ-loop = search in let loop = at-loop .loop in
     one-more _ _ _ (loop .inv) (c .if1 .left) (omega (arith, pre .0, below-n (args .entries .now) [] (length (args .entries .now)) (loop .k) (pre .3) (c .before .before .loop-test .taken) (c .if1 .left)))
 
 returns-2 : tie.Need-returns-2 Inv-loop μ-loop

@@ -19,15 +19,15 @@ abbrev μ-loop : tie.MeasureT-loop
 
 returns : tie.Need-returns Inv-loop μ-loop
 returns c =
-    let loop-test = c .before .before .before .before .loop-test in
-    let loop = c .before .before .before .before .before .loop in
-    let args = c .before .before .before .before .before .before .before .args in
+    let s₀ : tie.Start Inv-loop μ-loop = search in let args = s₀ .args in
+    let in-loop : tie.In-loop Inv-loop μ-loop = search in let loop-test = in-loop .loop-test in
+    let at-loop : tie.At-loop Inv-loop μ-loop = search in let loop = at-loop .loop in
     fails (loop .k) _ _ (loop-test .taken) (sym (c .if1 .left) ∙ next-entry _ _ _ _ _ (c .before .before .at16 .ensures ∙ ap (at (args .entries .now)) (add-one (loop .k))) (c .before .entry-ok .ensures))
 
 loop-again : tie.Need-loop-again Inv-loop μ-loop
 loop-again c =
-    let loop = c .before .before .before .before .before .loop in
-    let args = c .before .before .before .before .before .before .before .args in
+    let s₀ : tie.Start Inv-loop μ-loop = search in let args = s₀ .args in
+    let at-loop : tie.At-loop Inv-loop μ-loop = search in let loop = at-loop .loop in
     again _ _ (loop .inv) (sym (c .if1 .taken) ∙ next-entry _ _ _ _ _ (c .before .before .at16 .ensures ∙ ap (at (args .entries .now)) (add-one (loop .k))) (c .before .entry-ok .ensures))
 
 returns-2 : tie.Need-returns-2 Inv-loop μ-loop

@@ -8,11 +8,13 @@ use Rattle.rules.proofs.records.held_by.Tie as tie
 
 returns : tie.Need-returns
 returns c =
-    let args = c .before .before .before .args in
+    let s₀ : tie.Start = search in let args = s₀ .args in
     c .is-marked .ensures ∙ asked-for (args .state) 2 3 (bitOf (args .held .now) (args .r)) (c .before .if1 .taken)
 
 returns-2 : tie.Need-returns-2
-returns-2 c = not-asked-for (c .before .before .args .state) 2 3 (bitOf (c .before .before .args .held .now) (c .before .before .args .r)) (c .if1 .left)
+returns-2 c =
+    let s₀ : tie.Start = search in
+    not-asked-for (s₀ .args .state) 2 3 (bitOf (s₀ .args .held .now) (s₀ .args .r)) (c .if1 .left)
 
 pub held-by-spec : {M : Type 1} → statement M
 held-by-spec = tie.close (tie.spec (λ c κs. search needs) returns returns-2)

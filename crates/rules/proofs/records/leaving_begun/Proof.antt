@@ -6,7 +6,9 @@ use Rattle.rules.proofs.records.leaving_begun.Statement.{statement}
 use Rattle.rules.proofs.records.leaving_begun.Tie as tie
 
 returns : tie.Need-returns
-returns c = when (same (c .before .before .args .state) 5) _ _ (c .before .if1 .taken) (test-same _ 1)
+returns c =
+    let s₀ : tie.Start = search in
+    when (same (s₀ .args .state) 5) _ _ (c .before .if1 .taken) (test-same _ 1)
 
 returns-2 : tie.Need-returns-2
 returns-2 c = unless (same (c .before .args .state) 5) _ (c .if1 .left)

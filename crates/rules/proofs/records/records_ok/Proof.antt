@@ -21,18 +21,18 @@ loop-holds c = none _
 
 record-ok-requires : tie.Need-record-ok-requires Inv-loop μ-loop
 record-ok-requires c κs =
-    let pre = c .before .before .before .before .before .before .before .before .before .pre in
+    let s₀ : tie.Start Inv-loop μ-loop = search in let pre = s₀ .pre in
     (pre .4, omega (arith, pre .0, c .before .before .loop-test .taken), omega (arith, pre .1, c .before .before .loop-test .taken))
 
 returns : tie.Need-returns Inv-loop μ-loop
 returns c =
-    let loop-test = c .before .before .before .before .loop-test in
-    let loop = c .before .before .before .before .before .loop in
+    let in-loop : tie.In-loop Inv-loop μ-loop = search in let loop-test = in-loop .loop-test in
+    let at-loop : tie.At-loop Inv-loop μ-loop = search in let loop = at-loop .loop in
     fails (loop .r) _ _ (loop-test .taken) (sym (c .if1 .left) ∙ c .before .record-ok .ensures)
 
 loop-again : tie.Need-loop-again Inv-loop μ-loop
 loop-again c =
-    let loop = c .before .before .before .before .before .loop in
+    let at-loop : tie.At-loop Inv-loop μ-loop = search in let loop = at-loop .loop in
     again _ _ (loop .inv) (sym (c .if1 .taken) ∙ c .before .record-ok .ensures)
 
 returns-2 : tie.Need-returns-2 Inv-loop μ-loop

@@ -14,8 +14,8 @@ use Rattle.rules.proofs.rows.image_ok.Tie as tie
 
 image-row-requires : tie.Need-image-row-requires
 image-row-requires c κs =
+    let s₀ : tie.Start = search in let pre = s₀ .pre in
     let if1 = c .before .if1 in
-    let pre = c .before .before .before .before .before .before .before .pre in
     (if1 .taken, pre .0, pre .1, pre .2)
 
 returns : tie.Need-returns
@@ -25,16 +25,19 @@ returns c =
 
 image-zero-requires : tie.Need-image-zero-requires
 image-zero-requires c κs =
-    let pre = c .before .before .before .before .before .before .pre in
+    let s₀ : tie.Start = search in let pre = s₀ .pre in
     omega (arith, pre .0, pre .1 .images-long)
 
 returns-2 : tie.Need-returns-2
 returns-2 c =
-    let args = c .before .before .before .before .before .before .before .args in
-    let pre = c .before .before .before .before .before .before .before .pre in
+    let s₀ : tie.Start = search in let args = s₀ .args in let pre = s₀ .pre in
     let if1 = c .before .if1 in
-    let image-zero = c .image-zero in
-    (image-only (args .pages) (args .s) (args .records) (length (args .addresses .now)) (length (args .marks .now)) (args .marks .now) _ (pre .0) (args .updating) (args .addresses .now) (args .images .now) (args .states .now) (args .owners .now) (if1 .left) (pre .2) (image-zero .ensures), λ e. skip-run (args .records) (length (args .addresses .now)) (at (args .images .now)) (length (args .marks .now)) (args .marks .now) (args .s * args .pages) (pre .2) (args .pages) (pre .0) (learn (each _ λ k. same (at (args .images .now) (args .s * args .pages + k)) 0) (sym e ∙ image-zero .ensures)))
+    let image-zero = c .image-zero in (
+      image-only (args .pages) (args .s) (args .records) (length (args .addresses .now)) (length (args .marks .now)) (args .marks .now) _ (pre .0)
+          (args .updating) (args .addresses .now) (args .images .now) (args .states .now) (args .owners .now) (if1 .left) (pre .2) (image-zero .ensures),
+      λ e. skip-run (args .records) (length (args .addresses .now)) (at (args .images .now)) (length (args .marks .now)) (args .marks .now) (args .s * args .pages) (pre .2) (args .pages) (pre .0)
+          (learn (each _ λ k. same (at (args .images .now) (args .s * args .pages + k)) 0) (sym e ∙ image-zero .ensures)),
+    )
 
 pub image-ok-spec : {M : Type 1} → statement M
 image-ok-spec = tie.close (tie.spec image-row-requires (λ c. search needs) returns image-zero-requires returns-2)

@@ -22,15 +22,14 @@ abbrev μ-loop : tie.MeasureT-loop
 
 address-active-requires : tie.Need-address-active-requires Inv-loop μ-loop
 address-active-requires c κs =
-    let pre = c .before .before .before .before .pre in
+    let s₀ : tie.Start Inv-loop μ-loop = search in let pre = s₀ .pre in
     omega (arith, pre .1, pre .2)
 
 returns : tie.Need-returns Inv-loop μ-loop
 returns c =
-    let args = c .before .before .before .before .before .before .args in
+    let s₀ : tie.Start Inv-loop μ-loop = search in let args = s₀ .args in let pre = s₀ .pre in
     let if1 = c .if1 in
     let address-active = c .before .address-active in
-    let pre = c .before .before .before .before .before .before .pre in
     (not-so _ (λ h. unlearn (each _ λ k. same (at (args .addresses .now) (args .s * args .pages + k)) 0) (sym (if1 .left) ∙ address-active .ensures) (λ k l. inactive-zero _ _ _ _ _ _ (pre .0) (h k l))), not-true)
 
 loop-holds : tie.Need-loop-holds Inv-loop μ-loop
@@ -39,53 +38,49 @@ loop-holds c =
 
 filed-requires : tie.Need-filed-requires Inv-loop μ-loop
 filed-requires c κs =
-    let args = c .before .before .before .before .before .before .before .before .before .args in
-    let pre = c .before .before .before .before .before .before .before .before .before .pre in
+    let s₀ : tie.Start Inv-loop μ-loop = search in let args = s₀ .args in let pre = s₀ .pre in
     let loop = c .before .before .loop in
     let loop-test = c .before .loop-test in
     let e = fit-le _ _ (at (args .maps .now)) (pre .5) (args .s * args .pages + loop .p) (omega (arith, loop-test .taken, pre .1)) in (e, omega (arith, e, pre .4))
 
 returns-2 : tie.Need-returns-2 Inv-loop μ-loop
 returns-2 c =
-    let loop = c .before .before .before .before .loop in
-    let loop-test = c .before .before .before .loop-test in
+    let s₀ : tie.Start Inv-loop μ-loop = search in let pre = s₀ .pre in let args = s₀ .args in
+    let in-loop : tie.In-loop Inv-loop μ-loop = search in let loop-test = in-loop .loop-test in
+    let at-loop : tie.At-loop Inv-loop μ-loop = search in let loop = at-loop .loop in
+    let then1 : tie.Then1 Inv-loop μ-loop = search in let if1 = then1 .if1 in
+    let after-address-active : tie.After-address-active Inv-loop μ-loop = search in let address-active = after-address-active .address-active in
     let if2 = c .if2 in
-    let pre = c .before .before .before .before .before .before .before .before .before .before .before .pre in
-    let args = c .before .before .before .before .before .before .before .before .before .before .before .args in
-    let if1 = c .before .before .before .before .before .if1 in
-    let address-active = c .before .before .before .before .before .before .address-active in
     let filed = c .before .filed in
     (fails (loop .p) _ _ (loop-test .taken) (sym (if2 .left) ∙ inactive-told _ _ _ _ _ _ (pre .0) (learn (each _ λ k. same (at (args .addresses .now) (args .s * args .pages + k)) 0) (sym (if1 .taken) ∙ address-active .ensures) (loop .p) (loop-test .taken)) _ (filed .ensures)), not-true)
 
 add-used : tie.Need-add-used Inv-loop μ-loop
 add-used c =
-    let args = c .before .before .before .before .before .before .before .before .before .before .before .before .args in
-    let loop = c .before .before .before .before .before .loop in
+    let s₀ : tie.Start Inv-loop μ-loop = search in let args = s₀ .args in let pre = s₀ .pre in
+    let in-loop : tie.In-loop Inv-loop μ-loop = search in let loop-test = in-loop .loop-test in
+    let at-loop : tie.At-loop Inv-loop μ-loop = search in let loop = at-loop .loop in
     let listed-one = c .listed-one in
-    let loop-test = c .before .before .before .before .loop-test in
-    let pre = c .before .before .before .before .before .before .before .before .before .before .before .before .pre in
     let l = one-le (ltb 0 (at (args .maps .now) (args .s * args .pages + loop .p))) in omega (arith, count-few _ _ _ (loop .inv .1), l, listed-one .ensures, loop-test .taken, pre .1, pre .3)
 
 loop-again : tie.Need-loop-again Inv-loop μ-loop
 loop-again c =
-    let loop = c .before .before .before .before .before .loop in
+    let s₀ : tie.Start Inv-loop μ-loop = search in let pre = s₀ .pre in let args = s₀ .args in
+    let in-loop : tie.In-loop Inv-loop μ-loop = search in let loop-test = in-loop .loop-test in
+    let at-loop : tie.At-loop Inv-loop μ-loop = search in let loop = at-loop .loop in
+    let then1 : tie.Then1 Inv-loop μ-loop = search in let if1 = then1 .if1 in
+    let after-address-active : tie.After-address-active Inv-loop μ-loop = search in let address-active = after-address-active .address-active in
     let if2 = c .before .if2 in
-    let pre = c .before .before .before .before .before .before .before .before .before .before .before .before .pre in
-    let args = c .before .before .before .before .before .before .before .before .before .before .before .before .args in
-    let if1 = c .before .before .before .before .before .before .if1 in
-    let address-active = c .before .before .before .before .before .before .before .address-active in
-    let loop-test = c .before .before .before .before .loop-test in
     let filed = c .before .before .filed in
     let listed-one = c .listed-one in
     (again _ _ (loop .inv .0) (sym (if2 .taken) ∙ inactive-told _ _ _ _ _ _ (pre .0) (learn (each _ λ k. same (at (args .addresses .now) (args .s * args .pages + k)) 0) (sym (if1 .taken) ∙ address-active .ensures) (loop .p) (loop-test .taken)) _ (filed .ensures)), count-next _ _ _ _ (loop .inv .1) (listed-one .ensures), omega (arith, loop-test .taken))
 
 returns-3 : tie.Need-returns-3 Inv-loop μ-loop
 returns-3 c =
+    let s₀ : tie.Start Inv-loop μ-loop = search in let args = s₀ .args in
+    let after-address-active : tie.After-address-active Inv-loop μ-loop = search in let address-active = after-address-active .address-active in
     let loop = c .before .loop in
     let loop-test = c .loop-test in
-    let args = c .before .before .before .before .before .before .before .before .args in
     let if1 = c .before .before .if1 in
-    let address-active = c .before .before .before .address-active in
     (done _ _ _ (loop .inv .0) (loop-test .left), λ e. (learn (each _ λ k. same (at (args .addresses .now) (args .s * args .pages + k)) 0) (sym (if1 .taken) ∙ address-active .ensures), count-end _ _ _ _ (loop .inv .1) (loop .inv .2) (loop-test .left)))
 
 pub inactive-row-spec : {M : Type 1} → statement M

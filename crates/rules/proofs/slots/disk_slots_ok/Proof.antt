@@ -20,15 +20,15 @@ loop-holds c = none _
 
 returns : tie.Need-returns Inv-loop μ-loop
 returns c =
-    let empty-account = c .before .before .before .empty-account in
-    let loop-test = c .before .before .before .before .before .before .loop-test in
-    let loop = c .before .before .before .before .before .before .before .loop in
+    let after-empty-account : tie.After-empty-account Inv-loop μ-loop = search in let empty-account = after-empty-account .empty-account in
+    let in-loop : tie.In-loop Inv-loop μ-loop = search in let loop-test = in-loop .loop-test in
+    let at-loop : tie.At-loop Inv-loop μ-loop = search in let loop = at-loop .loop in
     fails (loop .s) _ _ (loop-test .taken) (sym (c .if1 .left) ∙ both _ _ _ _ (empty-account .ensures) (c .before .account-fit .ensures))
 
 loop-again : tie.Need-loop-again Inv-loop μ-loop
 loop-again c =
-    let empty-account = c .before .before .before .empty-account in
-    let loop = c .before .before .before .before .before .before .before .loop in
+    let after-empty-account : tie.After-empty-account Inv-loop μ-loop = search in let empty-account = after-empty-account .empty-account in
+    let at-loop : tie.At-loop Inv-loop μ-loop = search in let loop = at-loop .loop in
     again _ _ (loop .inv) (sym (c .if1 .taken) ∙ both _ _ _ _ (empty-account .ensures) (c .before .account-fit .ensures))
 
 returns-2 : tie.Need-returns-2 Inv-loop μ-loop

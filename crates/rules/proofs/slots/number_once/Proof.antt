@@ -18,14 +18,14 @@ returns c = unless (non (same _ _)) (each _ _) (λ h. h (c .if1 .taken))
 
 returns-2 : tie.Need-returns-2 Inv-loop μ-loop
 returns-2 c =
-    let loop = c .before .before .before .loop in
-    let if1 = c .before .before .before .before .if1 in
-    let args = c .before .before .before .before .before .before .args in
+    let s₀ : tie.Start Inv-loop μ-loop = search in let args = s₀ .args in
+    let at-loop : tie.At-loop Inv-loop μ-loop = search in let loop = at-loop .loop in
+    let else1 : tie.Else1 Inv-loop μ-loop = search in let if1 = else1 .if1 in
     when (non (same _ _)) (each _ _) _ (if1 .left) (fails (loop .t) _ (λ k. non (same (at (args .numbers .now) k) (at (args .numbers .now) (args .s)))) (c .before .before .loop-test .taken) (not-so (non (same _ _)) (λ h. h (c .if2 .taken))))
 
 loop-again : tie.Need-loop-again Inv-loop μ-loop
 loop-again c =
-    let loop = c .before .before .before .loop in
+    let at-loop : tie.At-loop Inv-loop μ-loop = search in let loop = at-loop .loop in
     again _ _ (loop .inv) (yes-so (non (same _ _)) (c .if2 .left))
 
 returns-3 : tie.Need-returns-3 Inv-loop μ-loop

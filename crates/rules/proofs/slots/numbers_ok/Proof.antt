@@ -15,12 +15,12 @@ abbrev μ-loop : tie.MeasureT-loop
 
 returns : tie.Need-returns Inv-loop μ-loop
 returns c =
-    let loop = c .before .before .before .loop in
+    let at-loop : tie.At-loop Inv-loop μ-loop = search in let loop = at-loop .loop in
     fails (loop .s) _ _ (c .before .before .loop-test .taken) (sym (c .if1 .left) ∙ c .before .number-once .ensures)
 
 loop-again : tie.Need-loop-again Inv-loop μ-loop
 loop-again c =
-    let loop = c .before .before .before .loop in
+    let at-loop : tie.At-loop Inv-loop μ-loop = search in let loop = at-loop .loop in
     again _ _ (loop .inv) (sym (c .if1 .taken) ∙ c .before .number-once .ensures)
 
 returns-2 : tie.Need-returns-2 Inv-loop μ-loop
