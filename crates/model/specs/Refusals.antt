@@ -108,7 +108,7 @@ pub record Refused : Type 0 where
   unstored-right : judged unstored ≡ 0 ∷ []
   released-right : judged released ≡ 0 ∷ []
   reread-right : judged reread ≡ 0 ∷ []
-  -- The disk rules. (An entry past R is refused by another rule too, in memory; restart asks the disk rules only.)
+  -- The disk rules. An entry past R is never refused alone: past R a state reads 0, neither filed nor released nor leaving, so the rule on what a design at rest, or an active one, lists says no too. A restart asks the disk rules only.
   emptyAccount : judged (onDisk (setAccounts (1 ∷ 0 ∷ [])) empty) ≡ 2 ∷ 1 ∷ []
   emptyMap : judged (onDisk (setNumbers (0 ∷ 0 ∷ [])) resting) ≡ 2 ∷ 2 ∷ []
   mapFit-resting : judged (agree (onDisk (setMaps (entries 5 0)) filled)) ≡ 2 ∷ 3 ∷ 16 ∷ []
@@ -122,7 +122,7 @@ pub record Refused : Type 0 where
   mapOnce-found : found (onDisk (setMaps (entries 1 1)) resting) ≡ 2 ∷ 4 ∷ []
   numberOnce-found : found (onDisk (setNumbers (7 ∷ 7 ∷ [])) filled) ≡ 2 ∷ 5 ∷ []
   accountFit-found : found (onDisk (setAccounts (2 ∷ 0 ∷ [])) filled) ≡ 2 ∷ 6 ∷ []
-  -- The ranges. Past R a record has state and slot 0, so that an address or an image entry there is refused by the rule on what a page holds, or on what an image lists, too.
+  -- The ranges. For the same reason an address past R is refused with the rule on what a page holds, an image entry past R with the rule on what an image lists.
   addressFit : judged (onHeld (setAddresses (entries 5 0)) active) ≡ 2 ∷ 7 ∷ 14 ∷ []
   imageFit : judged (onSlots (setImages (entries 1 5)) begun) ≡ 2 ∷ 8 ∷ 19 ∷ []
   stateFit : judged (agree (onHeld (setStates (6 ∷ 0 ∷ 0 ∷ 0 ∷ [])) filled)) ≡ 2 ∷ 9 ∷ []
@@ -156,7 +156,7 @@ pub record Refused : Type 0 where
   free-queue-past : judged (onCore (setFreeQueue (3 ∷ 0 ∷ [])) full) ≡ 2 ∷ 26 ∷ []
   removal-list-gap : judged (onCore (setRemovalList (0 ∷ 1 ∷ [])) empty) ≡ 2 ∷ 27 ∷ []
   removal-list-past : judged (onCore (setRemovalList (3 ∷ 0 ∷ [])) empty) ≡ 2 ∷ 27 ∷ []
-  -- The frames. A page in a frame has an address, and only an active slot has one: that an inactive slot has no frame follows, so with it one of these two says no.
+  -- The frames.
   frameFit-used : judged (onCore (onFrame 0 (setUsedSwitch 2)) served) ≡ 2 ∷ 28 ∷ []
   frameFit-modified : judged (onCore (onFrame 0 (setModified 2)) served) ≡ 2 ∷ 28 ∷ []
   frameFit-initial : judged (onCore (onFrame 0 (setInitial 2)) served) ≡ 2 ∷ 28 ∷ []
@@ -164,6 +164,7 @@ pub record Refused : Type 0 where
   inOnePlace-wired : judged (onCore (onFrame 0 (setWired 1)) served) ≡ 2 ∷ 29 ∷ []
   inOnePlace-both : judged (onCore (setRemovalList (1 ∷ 0 ∷ [])) empty) ≡ 2 ∷ 29 ∷ []
   inOnePlace-none : judged (onCore (setRemovalList (0 ∷ 0 ∷ [])) served) ≡ 2 ∷ 29 ∷ []
+  -- An inactive slot has no frame: this follows, since a page in a frame has an address and only an active slot's page has one. One of the two says no too.
   frameActive-bare : judged (seated filled) ≡ 2 ∷ 30 ∷ 32 ∷ []
   frameActive-held : judged (agree (onHeld (λ h. setAddresses (entries 1 0) (setStates (2 ∷ 0 ∷ 0 ∷ 0 ∷ []) h)) (seated filled))) ≡ 2 ∷ 24 ∷ 30 ∷ []
   framedOnce : judged (onCore (λ c. setFreeQueue (0 ∷ 0 ∷ []) (setRemovalList (1 ∷ 2 ∷ []) (onFrame 1 (λ g. fresh 0) c))) served) ≡ 2 ∷ 31 ∷ []

@@ -60,7 +60,7 @@ pub asked-rules : (z : Sizes) (st : State) → Rules.allRules z st
 unfolding Rules.allRules Rules.memoryRules Rules.diskRules Rules.rangeRules Rules.recordRules Rules.queueRules Rules.frameRules Rules.countRules
 asked-rules z st = refl
 
--- the numbers of those that say no, counted from n
+-- the numbers of the rules that say no, counted from n
 unfoldable pub saysNo : ℕ → List Rule → List ℕ
 unfolding said
 saysNo n [] = []
