@@ -33,3 +33,4 @@ pub mod RuleList
 pub mod Refusals
 pub mod Runs
 pub mod Worlds
+pub mod Implied

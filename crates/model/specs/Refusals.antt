@@ -1,4 +1,4 @@
--- What is refused, by computation: questions 12 and 16, and for each rule of question 2 tables that no other rule refuses.
+-- What is refused, by computation: questions 12 and 16, and for each rule of question 2 tables that no other rule refuses, where there are any.
 use mathlib.Core.Path.{_≡_, refl}
 use mathlib.Core.List.{List, [], _∷_, _++_}
 use Prim.Native.Nat.{ℕ}
@@ -108,7 +108,7 @@ pub record Refused : Type 0 where
   unstored-right : judged unstored ≡ 0 ∷ []
   released-right : judged released ≡ 0 ∷ []
   reread-right : judged reread ≡ 0 ∷ []
-  -- The disk rules. An entry past R is never refused alone: past R a state reads 0, neither filed nor released nor leaving, so the rule on what a design at rest, or an active one, lists says no too. A restart asks the disk rules only.
+  -- The disk rules. An entry past R is refused with the rule on what a design at rest, or an active one, lists (Implied.map-fit). A restart asks the disk rules only.
   emptyAccount : judged (onDisk (setAccounts (1 ∷ 0 ∷ [])) empty) ≡ 2 ∷ 1 ∷ []
   emptyMap : judged (onDisk (setNumbers (0 ∷ 0 ∷ [])) resting) ≡ 2 ∷ 2 ∷ []
   mapFit-resting : judged (agree (onDisk (setMaps (entries 5 0)) filled)) ≡ 2 ∷ 3 ∷ 16 ∷ []
@@ -122,7 +122,7 @@ pub record Refused : Type 0 where
   mapOnce-found : found (onDisk (setMaps (entries 1 1)) resting) ≡ 2 ∷ 4 ∷ []
   numberOnce-found : found (onDisk (setNumbers (7 ∷ 7 ∷ [])) filled) ≡ 2 ∷ 5 ∷ []
   accountFit-found : found (onDisk (setAccounts (2 ∷ 0 ∷ [])) filled) ≡ 2 ∷ 6 ∷ []
-  -- The ranges. For the same reason an address past R is refused with the rule on what a page holds, an image entry past R with the rule on what an image lists.
+  -- The ranges. An address past R is refused with the rule on what a page holds (address-fit), an image entry past R with the rule on what an image lists (image-fit).
   addressFit : judged (onHeld (setAddresses (entries 5 0)) active) ≡ 2 ∷ 7 ∷ 14 ∷ []
   imageFit : judged (onSlots (setImages (entries 1 5)) begun) ≡ 2 ∷ 8 ∷ 19 ∷ []
   stateFit : judged (agree (onHeld (setStates (6 ∷ 0 ∷ 0 ∷ 0 ∷ [])) filled)) ≡ 2 ∷ 9 ∷ []
@@ -164,7 +164,7 @@ pub record Refused : Type 0 where
   inOnePlace-wired : judged (onCore (onFrame 0 (setWired 1)) served) ≡ 2 ∷ 29 ∷ []
   inOnePlace-both : judged (onCore (setRemovalList (1 ∷ 0 ∷ [])) empty) ≡ 2 ∷ 29 ∷ []
   inOnePlace-none : judged (onCore (setRemovalList (0 ∷ 0 ∷ [])) served) ≡ 2 ∷ 29 ∷ []
-  -- An inactive slot has no frame: this follows, since a page in a frame has an address and only an active slot's page has one. One of the two says no too.
+  -- An inactive slot has no frame: one of the two says no too from which this follows (frame-active).
   frameActive-bare : judged (seated filled) ≡ 2 ∷ 30 ∷ 32 ∷ []
   frameActive-held : judged (agree (onHeld (λ h. setAddresses (entries 1 0) (setStates (2 ∷ 0 ∷ 0 ∷ 0 ∷ []) h)) (seated filled))) ≡ 2 ∷ 24 ∷ 30 ∷ []
   framedOnce : judged (onCore (λ c. setFreeQueue (0 ∷ 0 ∷ []) (setRemovalList (1 ∷ 2 ∷ []) (onFrame 1 (λ g. fresh 0) c))) served) ≡ 2 ∷ 31 ∷ []
