@@ -6,19 +6,16 @@ use Prim.Native.Nat.{ℕ}
 use lib.Dec.{T, eqb}
 use Rattle.model.specs.declared.frame.Frame.{Frame}
 use Rattle.model.specs.State.{State}
-use Rattle.model.specs.declared.event.Design.the-variants.{Limit}
-use Rattle.model.specs.declared.event.Event.the-variants as Event
-use Rattle.model.specs.Setters.{onHeld, setStates, setOwners, setFreeMap, setFree}
 use Rattle.model.specs.Step
 use Rattle.model.specs.Acts.{Act}
 use Rattle.model.specs.Lists.{limit, create, activate, fault, read, write, wire, unwire, claim, truncate, update, pageDone, mapDone, restart, sized, small, junk, cut, trace, begin, says, leaves}
 
 -- a design of limit n with page 0 in a frame
-abbrev opened : ℕ → List Act
+abbrev pub opened : ℕ → List Act
 opened n = restart ∷ limit 0 n ∷ create 0 0 7 ∷ activate 0 ∷ fault 0 0 ∷ []
 
 -- its page written, stored and listed
-abbrev listing : List Act
+abbrev pub listing : List Act
 listing = opened 2 ++ write 0 0 1 9 ∷ claim ∷ pageDone 0 1 ∷ update 0 ∷ mapDone 0 1 ∷ []
 
 -- the listed page in a frame again, written to zeros and claimed
@@ -112,30 +109,6 @@ edges = record {
   e10-state = refl;
   e11 = refl;
 }
-
--- ── what question 2 refuses beside the edges ──
--- a design that is listed and not active, as a restart leaves it
-abbrev resting : State
-resting = leaves small (listing ++ restart ∷ [])
-
--- .. with the listed record called free: the next fault would give it to another design
-abbrev lost : State
-lost = onHeld (λ h. setStates (0 ∷ 0 ∷ 0 ∷ 0 ∷ []) (setFreeMap (15 ∷ []) (setFree 4 h))) resting
-
--- .. with the record of another slot
-abbrev strayed : State
-strayed = onHeld (λ h. setOwners (1 ∷ 0 ∷ 0 ∷ 0 ∷ []) h) resting
-
-pub record Refused : Type 0 where
-  -- as restarted, the tables keep the rules
-  kept : Step.step small resting (Event.Design (Limit 0 1)) .answer .refusal ≡ 0
-  -- each record's state and slot agree with its holder, a design that lists it among the holders
-  state-disagrees : Step.step small lost (Event.Design (Limit 0 1)) .answer .refusal ≡ 2
-  slot-disagrees : Step.step small strayed (Event.Design (Limit 0 1)) .answer .refusal ≡ 2
-
-pub refused : Refused
-unfolding says leaves trace
-refused = record { kept = refl; state-disagrees = refl; slot-disagrees = refl }
 
 -- 12. Limit 1, design A's listed page claimed as zeros, design B's page written and updated, cut: restart gives used 2; an empty fault gives 18.
 twelfth : List Act

@@ -30,4 +30,8 @@ pub mod Demand3
 pub mod Linked
 pub mod Lists
 pub mod Edges
+pub mod RuleList
+pub mod Refusals
 pub mod Runs
+pub mod Worlds
+pub mod Implied
