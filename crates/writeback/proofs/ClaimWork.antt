@@ -35,6 +35,13 @@ use Rattle.writeback.proofs.DoneWork.{answered}
 use Rattle.writeback.proofs.Looks.{cut, look-take, taken-in}
 use Rattle.tables.specs.StoreLoops.{part-fits}
 
+-- the frame that the looks end at, as the calls after them ask it
+pub record Taken (z : Sizes) (fs : List Frame) (ac ws fq ads ss us : List ℕ) (f : ℕ) : Type 0 where
+  pub words-fit : f * z .words + z .words ≤ length ws
+  pub room : (f < 65535) × Holds (queue (length fq) fq) × (size fq < length fq)
+  pub pays : 0 < at us (at ac (pred (frameAt fs f .page) / z .pages))
+  pub moves : (r : ℕ) → r ≡ pred (at ads (pred (frameAt fs f .page))) → (at ss r ≡ NULLED) ⊎ (at ss r ≡ LIVE)
+
 module _ (z : Sizes) (fs : List Frame) (ac ws fq rl ads ss us : List ℕ) where
   abbrev st : State
   st = seen z fs ac ws fq rl ads ss us
@@ -59,7 +66,7 @@ module _ (z : Sizes) (fs : List Frame) (ac ws fq rl ads ss us : List ℕ) where
       no = sym (own-no z st claim _ (sym says) (λ h. omega arith))
 
   module _ {e : ℕ} (a : e ≡ at rl 0) (d : ¬ (e ≡ 0)) where
-    pub some : 0 < size rl
+    some : 0 < size rl
     some = size-more rl 0 (omega arith) (λ h. d (a ∙ h))
 
     says : firstNo (questions z st claim) ≡ 0
@@ -85,7 +92,7 @@ module _ (z : Sizes) (fs : List Frame) (ac ws fq rl ads ss us : List ℕ) where
       in-list : 0 < times (members rl) f
       in-list = rw (here ∙ t .the-taken) (taken-in fs rl some)
 
-      pub below : f < z .frames
+      below : f < z .frames
       below = members-within rl (ready .list-long) (ready .listed) f in-list
 
       abbrev old : Frame
@@ -97,24 +104,20 @@ module _ (z : Sizes) (fs : List Frame) (ac ws fq rl ads ss us : List ℕ) where
       held : Claimable z (old .page) ac fq ads ss us
       held = subst (λ (g : Frame). Claimable z (g .page) ac fq ads ss us) same-frame (ready .held f below in-list)
 
-      pub words-fit : f * z .words + z .words ≤ length ws
-      words-fit = rw (ready .words-long) (part-fits (z .frames) (z .words) f below)
-
-      pub room : (f < 65535) × Holds (queue (length fq) fq) × (size fq < length fq)
-      room = (omega (arith, below, ready .most), rw (ready .queue-long) (ready .queued), omega (arith, held .room, ready .queue-long))
-
-      pub pays : 0 < at us (at ac (pred (old .page) / z .pages))
-      pays = held .pays
-
       module _ {r : ℕ} (found : r ≡ pred (at ads (pred (old .page)))) where
         item-is : r ≡ held .item
         item-is = found ∙ ap pred (held .holds)
 
-        pub moves : (at ss r ≡ NULLED) ⊎ (at ss r ≡ LIVE)
-        moves = rw item-is (held .moves)
-
         record-is : recordIn z st (looking z st .taken) ≡ r
         record-is = rw (taken-is, same-frame) (sym found)
+
+      pub taken : Taken z fs ac ws fq ads ss us f
+      taken = record {
+        words-fit = rw (ready .words-long) (part-fits (z .frames) (z .words) f below);
+        room = (omega (arith, below, ready .most), rw (ready .queue-long) (ready .queued), omega (arith, held .room, ready .queue-long));
+        pays = held .pays;
+        moves = λ r found. rw (item-is found) (held .moves);
+      }
 
       -- ── a write begins, or not ──
       module _ {b : Bool} (w : b ≡ if (eqb (old .modified) 1) (not (all (z .words) (λ k. eqb (at ws (f * z .words + k)) 0))) false) where

@@ -58,6 +58,15 @@ module _ (n : ℕ) (fs : List Frame) where
       (λ h. elim h [ inl l ↦ inl l | inr q ↦ inr (q .0, q .1, sym (same-page (q .0) (q .1)) ∙ q .2) ])
       (λ h. elim h [ inl l ↦ inl l | inr q ↦ inr (q .0, q .1, same-page (q .0) (q .1) ∙ q .2) ])
 
+-- what the answers tell, as the passes ask it
+pub record Passed (z : Sizes) (fs : List Frame) (ac fq rl ds ss us : List ℕ) (s k : ℕ) : Type 0 where
+  pub from : k ≤ z .pages
+  pub small : s < 65
+  pub addresses-fit : s * z .pages + z .pages ≤ length ds
+  pub cutting : Cutting (z .frames) (z .pages) s k fs fq rl
+  pub releasing : Releasing z s k ss ds
+  pub pays : (m : ℕ) → m ≡ number (z .pages) (λ p. leb k p && test (chargedPage (z .frames) fs ds ss (s * z .pages + p))) → m ≤ at us (at ac s)
+
 module _ (z : Sizes) (fs : List Frame) (ns ac fq rl ds ss act us : List ℕ) (s k : ℕ) where
   abbrev st : State
   st = seen z fs ns ac fq rl ds ss act us
@@ -91,19 +100,19 @@ module _ (z : Sizes) (fs : List Frame) (ns ac fq rl ds ss act us : List ℕ) (s 
       asked : Asked (questions z st (truncate s k))
       asked = all-yes 2 (questions z st (truncate s k)) tt (sym e ∙ yes)
 
-      pub inside : s < z .slots
+      inside : s < z .slots
       inside = asked .0 .0
 
-      pub from : k ≤ z .pages
+      from : k ≤ z .pages
       from = omega (arith, asked .0 .1)
 
-      pub small : s < 65
+      small : s < 65
       small = omega (arith, inside, ready .slots-most)
 
-      pub addresses-fit : s * z .pages + z .pages ≤ length ds
+      addresses-fit : s * z .pages + z .pages ≤ length ds
       addresses-fit = rw (ready .addresses-long) (part-fits (z .slots) (z .pages) s inside)
 
-      pub cutting : Cutting (z .frames) (z .pages) s k fs fq rl
+      cutting : Cutting (z .frames) (z .pages) s k fs fq rl
       cutting = record {
         most = ready .most;
         pages-most = ready .pages-most;
@@ -119,7 +128,7 @@ module _ (z : Sizes) (fs : List Frame) (ns ac fq rl ds ss act us : List ℕ) (s 
         framed-once = λ f g h i b q. ready .framed-once f g h i (rw (same-page (z .frames) fs f h) at b) (sym (same-page (z .frames) fs g i) ∙ q ∙ same-page (z .frames) fs f h);
       }
 
-      pub releasing : Releasing z s k ss ds
+      releasing : Releasing z s k ss ds
       releasing = record {
         pages-some = ready .pages-some;
         from = from;
@@ -133,8 +142,15 @@ module _ (z : Sizes) (fs : List Frame) (ns ac fq rl ds ss act us : List ℕ) (s 
       charges-are : count (z .pages) (λ p. leb k p && test (chargedPage (z .frames) fs ds ss (s * z .pages + p))) ≡ count (z .pages) (λ p. leb k p && test (chargedPage (z .frames) (take (z .frames) fs) ds ss (s * z .pages + p)))
       charges-are = count-same (z .pages) _ _ (λ p h. ap (λ (b : Bool). leb k p && b) (charged-alike (z .frames) fs ds ss (s * z .pages + p)))
 
-      pub pays : {m : ℕ} → m ≡ number (z .pages) (λ p. leb k p && test (chargedPage (z .frames) fs ds ss (s * z .pages + p))) → m ≤ at us (at ac s)
-      pays q = rw (q ∙ charges-are) (ready .pays s k inside)
+      pub passed : Passed z fs ac fq rl ds ss us s k
+      passed = record {
+        from = from;
+        small = small;
+        addresses-fit = addresses-fit;
+        cutting = cutting;
+        releasing = releasing;
+        pays = λ m q. rw (q ∙ charges-are) (ready .pays s k inside);
+      }
 
       -- a frame is cut off
       to-cut : (f : ℕ) → f < z .frames → Holds (cutUpTo (z .pages) s k (z .pages) (frameAt fs f)) → Holds (Writeback.cutFrame z st s k f)

@@ -8,11 +8,20 @@ use Rattle.writeback.proofs.claim.uncharge.Statement.{statement}
 use Rattle.writeback.proofs.claim.uncharge.Tie as tie
 
 sub-put16 : tie.Need-sub-put16
-sub-put16 c = let e : c .at162 .result ≡ at (c .before .before .before .before .before .before .before .before .before .args .used .now) (at (c .before .before .before .before .before .before .before .before .before .args .accounts .now) (c .before .before .before .before .before .before .before .before .before .args .slot)) = c .at162 .ensures ∙ ap (at (c .before .before .before .before .before .before .before .before .before .args .used .now)) (c .before .before .before .at16 .ensures) in omega (arith, c .before .before .before .before .before .before .before .before .before .pre, e)
+sub-put16 c =
+    let after-at16 : tie.After-at16 = search in
+    let start : tie.Start = search in
+    let a = start .args in
+    let e : c .at162 .result ≡ at (a .used .now) (at (a .accounts .now) (a .slot)) = c .at162 .ensures ∙ ap (at (a .used .now)) (after-at16 .at16 .ensures) in omega (arith, start .pre, e)
 
 returns : tie.Need-returns
-returns c = rw (eq-eqb _ _ (sym (c .before .before .before .before .before .before .before .before .at8 .ensures) ∙ c .before .before .before .before .before .before .before .if1 .taken))
-    (c .before .before .put16 .ensures ∙ rw (c .before .before .before .at162 .ensures, c .before .before .before .before .before .before .at16 .ensures))
+returns c =
+    let after-at162 : tie.After-at162 = search in
+    let after-at16 : tie.After-at16 = search in
+    let then1 : tie.Then1 = search in
+    let after-at8 : tie.After-at8 = search in
+    rw (eq-eqb _ _ (sym (after-at8 .at8 .ensures) ∙ then1 .if1 .taken))
+    (c .before .before .put16 .ensures ∙ rw (after-at162 .at162 .ensures, after-at16 .at16 .ensures))
 
 returns-2 : tie.Need-returns-2
 returns-2 c = rw (ne-eqb _ _ (λ e. c .if1 .left (c .before .at8 .ensures ∙ e)))

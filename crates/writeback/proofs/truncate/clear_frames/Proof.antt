@@ -54,20 +54,28 @@ loop-holds : tie.Need-loop-holds Inv-loop μ-loop
 loop-holds c = (omega arith, record { so-far = λ i h. absurd (omega arith); ahead = λ i h. refl; long = refl })
 
 add-if1 : tie.Need-add-if1 Inv-loop μ-loop
-add-if1 c = omega (arith, fits (c .before .before .before .before .args .slot) (c .before .before .before .before .args .pages) (c .before .before .before .before .pre .2) (c .before .before .before .before .pre .1), c .before .before .before .before .pre .3, c .before .before .before .before .pre .1)
+add-if1 c =
+    let start : tie.Start Inv-loop μ-loop = search in
+    let a = start .args in
+    omega (arith, fits (a .slot) (a .pages) (start .pre .2) (start .pre .1), start .pre .3, start .pre .1)
 
 add-if2 : tie.Need-add-if2 Inv-loop μ-loop
-add-if2 c = omega (arith, fits (c .before .before .before .before .before .args .slot) (c .before .before .before .before .before .args .pages) (c .before .before .before .before .before .pre .2) (c .before .before .before .before .before .pre .1), c .before .before .before .before .before .pre .1)
+add-if2 c =
+    let start : tie.Start Inv-loop μ-loop = search in
+    let a = start .args in
+    omega (arith, fits (a .slot) (a .pages) (start .pre .2) (start .pre .1), start .pre .1)
 
 loop-again : tie.Need-loop-again Inv-loop μ-loop
 loop-again c =
-    let old = ap (λ (g : Frame). g .page) (c .before .before .before .before .loop .inv .1 .ahead (c .before .before .before .before .loop .f) (omega arith)) in (
+    let at-loop : tie.At-loop Inv-loop μ-loop = search in
+    let start : tie.Start Inv-loop μ-loop = search in
+    let old = ap (λ (g : Frame). g .page) (at-loop .loop .inv .1 .ahead (at-loop .loop .f) (omega arith)) in (
       omega arith,
       ⊎-elim
-          (λ w. turn-on (c .before .before .before .before .loop .f) (c .before .before .before .before .loop .inv .1) (omega (arith, c .before .before .before .before .before .good .1 .1 .1 .1 .0, c .before .before .before .before .before .pre .0)) (omega (arith, old, w .0 .taken), omega (arith, old, w .1 .taken)) (w .2 .ensures) (w .3))
+          (λ w. turn-on (at-loop .loop .f) (at-loop .loop .inv .1) (omega (arith, start .good .1 .1 .1 .1 .0, start .pre .0)) (omega (arith, old, w .0 .taken), omega (arith, old, w .1 .taken)) (w .2 .ensures) (w .3))
           (λ v. ⊎-elim
-          (λ w. turn-off (c .before .before .before .before .loop .f) (c .before .before .before .before .loop .inv .1) (λ h. omega (arith, old, h .1, w .1 .left)) (w .2))
-          (λ w. turn-off (c .before .before .before .before .loop .f) (c .before .before .before .before .loop .inv .1) (λ h. omega (arith, old, h .0, w .0 .left)) (w .1))
+          (λ w. turn-off (at-loop .loop .f) (at-loop .loop .inv .1) (λ h. omega (arith, old, h .1, w .1 .left)) (w .2))
+          (λ w. turn-off (at-loop .loop .f) (at-loop .loop .inv .1) (λ h. omega (arith, old, h .0, w .0 .left)) (w .1))
           v)
           (c .if1 .came),
     )

@@ -7,10 +7,16 @@ use Rattle.writeback.proofs.truncate.uncharge.Statement.{statement}
 use Rattle.writeback.proofs.truncate.uncharge.Tie as tie
 
 sub-less : tie.Need-sub-less
-sub-less c = let e : c .at162 .result ≡ at (c .before .before .before .before .before .args .used .now) (at (c .before .before .before .before .before .args .accounts .now) (c .before .before .before .before .before .args .slot)) = c .at162 .ensures ∙ ap (at (c .before .before .before .before .before .args .used .now)) (c .before .before .at16 .ensures) in omega (arith, c .before .before .before .before .before .pre, e)
+sub-less c =
+    let start : tie.Start = search in
+    let a = start .args in
+    let e : c .at162 .result ≡ at (a .used .now) (at (a .accounts .now) (a .slot)) = c .at162 .ensures ∙ ap (at (a .used .now)) (c .before .before .at16 .ensures) in omega (arith, start .pre, e)
 
 returns : tie.Need-returns
-returns c = c .before .before .put16 .ensures ∙ rw (c .before .before .before .before .at162 .ensures, c .before .before .before .before .before .before .at16 .ensures)
+returns c =
+    let after-at162 : tie.After-at162 = search in
+    let after-at16 : tie.After-at16 = search in
+    c .before .before .put16 .ensures ∙ rw (after-at162 .at162 .ensures, after-at16 .at16 .ensures)
 
 pub uncharge-spec : {M : Type 1} → statement M
 uncharge-spec = tie.close (tie.spec (λ c κs. search needs) (λ c. search needs) (λ c κs. search needs) (λ c. search needs) sub-less (λ c. search needs) (λ c κs. search needs) (λ c. search needs) returns)
