@@ -3,5 +3,6 @@ pub mod ByPage
 pub mod Claim
 pub mod Done
 pub mod MapDone
+pub mod Nothing
 pub mod Truncate
 pub mod Update

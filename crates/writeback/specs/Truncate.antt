@@ -1,7 +1,7 @@
 -- Truncate: the tables that it reads, what they keep when it is asked, and what it leaves.
 use mathlib.Core.Path.{_≡_}
 use mathlib.Core.Bool.{Bool, _&&_}
-use mathlib.Core.List.{List, [], map}
+use mathlib.Core.List.{List, map}
 use Prim.Native.Nat.{ℕ, zero, suc, _+_, _-_, _*_, _<_, _≤_}
 use lib.Dec.{T, leb, eqb}
 use lib.ListN.{length, take, set}
@@ -12,6 +12,7 @@ use Rattle.tables.specs.TimesLaws.{Once}
 use Rattle.tables.specs.Rule.{Rule, Holds, same, below, non, each, some, names, _and_, _or_, _then_, test}
 use Rattle.model.specs.declared.sizes.Sizes.{Sizes}
 use Rattle.model.specs.declared.frame.Frame.{Frame}
+use Rattle.model.specs.declared.applied.Framed.{Framed}
 use Rattle.model.specs.declared.event.Answer.{Answer}
 use Rattle.model.specs.declared.event.Event.{Event}
 use Rattle.model.specs.declared.event.Event.the-variants as Event
@@ -22,7 +23,9 @@ use Rattle.model.specs.Rules.{once}
 use Rattle.model.specs.Questions.{questions}
 use Rattle.model.specs.Step.{outcome}
 use Rattle.model.specs.Own.{own}
-use Rattle.model.specs.Lent.{stateOf, noPool}
+use Rattle.model.specs.Setters.{onDisk, onCore, onHeld, onSlots, setNumbers, setAccounts, setFrames, setFreeQueue, setRemovalList, setAddresses, setStates, setActive, setUsed}
+use Rattle.model.specs.Lent.{Ref, Table}
+use Rattle.writeback.specs.Nothing.{noState}
 
 abbrev pub truncate : ℕ → ℕ → Event
 truncate s k = Event.Writeback (Truncate s k)
@@ -74,11 +77,13 @@ pub record Cutting (n pages s k : ℕ) (fs : List Frame) (free-queue removal-lis
 -- the tables that truncate reads; no definition of it looks at the others
 abbrev pub seen : Sizes → List Frame → List ℕ → List ℕ → List ℕ → List ℕ → List ℕ → List ℕ → List ℕ → List ℕ → State
 seen z fs numbers accounts free-queue removal-list addresses states active used =
-    stateOf (take (z .frames) fs) noPool [] numbers accounts [] [] [] free-queue removal-list addresses states [] [] active [] [] used
+    onDisk (λ d. setNumbers numbers (setAccounts accounts d))
+    (onCore (λ c. setFrames (take (z .frames) fs) (setFreeQueue free-queue (setRemovalList removal-list c)))
+    (onHeld (λ h. setAddresses addresses (setStates states h)) (onSlots (setActive active) (setUsed used noState))))
 
 -- .. and its questions
-abbrev pub asked : Sizes → List Frame → List ℕ → List ℕ → State
-asked z fs numbers active = seen z fs numbers [] [] [] [] [] active []
+abbrev pub asked : Sizes → List Frame → Table → Table → State
+asked z fs numbers active = onDisk (setNumbers (numbers .entry .now)) (onCore (setFrames (take (z .frames) fs)) (onSlots (setActive (active .entry .now)) noState))
 
 -- the used counts: one charge less for each charged page that is cut off
 unfoldable pub usedThen : Sizes → State → ℕ → ℕ → List ℕ
@@ -113,3 +118,14 @@ pub record TruncateLeft (z : Sizes) (st : State) (s k : ℕ) (fs : List Frame) (
   pub addresses : ds ≡ own z st (truncate s k) .left .memory .held .addresses
   pub states : ss ≡ own z st (truncate s k) .left .memory .held .states
   pub used : us ≡ outcome (firstNo (questions z st (truncate s k))) 0 (st .memory .used) (usedThen z st s k) .left
+
+-- ── by bare names: what the contract says ──
+abbrev pub Given : Sizes → List Frame → Ref → Ref → Ref → Ref → Ref → Ref → Type 0
+Given z fs accounts free-queue removal-list addresses states used =
+    TruncateReady z (take (z .frames) fs) (accounts .now) (free-queue .now) (removal-list .now) (addresses .now) (states .now) (used .now)
+
+abbrev pub Left : Sizes → ℕ → ℕ → List Frame → Table → Table → Table → Table → Table → Table → Table → Table → Framed → Type 0
+Left z s k fs numbers accounts free-queue removal-list addresses states active used r =
+    TruncateLeft z
+    (seen z fs (numbers .entry .now) (accounts .entry .now) (free-queue .entry .now) (removal-list .entry .now) (addresses .entry .now) (states .entry .now) (active .entry .now) (used .entry .now))
+    s k (r .frames) (r .answer) (free-queue .exit .now) (removal-list .exit .now) (addresses .exit .now) (states .exit .now) (used .exit .now)

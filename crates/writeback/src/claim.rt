@@ -4,13 +4,13 @@ ghost use mathlib.Core.Bool.{false, not};
 ghost use mathlib.Core.Logic.{_⊎_};
 ghost use Prim.Native.Nat.{_+_, _-_, _*_, _/_, _<_, _≤_};
 ghost use lib.Dec.{eqb};
-ghost use lib.ListN.{length, take, set};
+ghost use lib.ListN.{length, set};
 ghost use Rattle.tables.specs.Base.{at, all, if};
 ghost use Rattle.tables.specs.Queue.{queue, size};
 ghost use Rattle.tables.specs.Rule.{Holds};
 ghost use Rattle.model.specs.Lines.{NULLED, LIVE};
 ghost use Rattle.model.specs.Writeback.{warm};
-ghost use Rattle.writeback.specs.Claim.{seen, LooksLeft, ClaimReady, ClaimLeft};
+ghost use Rattle.writeback.specs.Claim.{LooksLeft, Given, Left};
 use crate::names::named;
 use crate::names::record_of;
 use crate::switches::cool;
@@ -117,8 +117,8 @@ pub fn claim(
     states: &mut [u8],
     used: &mut [u16],
 ) -> Framed
-    requires { ⌜ ClaimReady sizes (take (sizes .frames) frames) (now accounts) (now words) (now «free_queue») (now «removal_list») (now addresses) (now states) (now used) ⌝ }
-    ensures { λ r. ⌜ ClaimLeft sizes (seen sizes frames (now (accounts .entry)) (now (words .entry)) (now («free_queue» .entry)) (now («removal_list» .entry)) (now (addresses .entry)) (now (states .entry)) (now (used .entry))) (r .frames) (r .answer) (now («free_queue» .exit)) (now («removal_list» .exit)) (now (states .exit)) (now (used .exit)) ⌝ }
+    requires { ⌜ Given sizes frames accounts words «free_queue» «removal_list» addresses states used ⌝ }
+    ensures { λ r. ⌜ Left sizes frames accounts words «free_queue» «removal_list» addresses states used r ⌝ }
 {
     if at16(removal_list, 0) == 0 {
         return answered(frames, 21, 0);

@@ -2,7 +2,7 @@
 ghost use mathlib.Core.Path.{_≡_};
 ghost use mathlib.Core.Bool.{_&&_};
 ghost use mathlib.Core.List.{_++_};
-ghost use lib.ListN.{length, take, set};
+ghost use lib.ListN.{length, set};
 ghost use Rattle.tables.specs.Queue.{members, packed, without};
 ghost use Prim.Native.Nat.{ℕ, _+_, _-_, _*_, _<_, _≤_};
 ghost use Rattle.tables.specs.Questions.{firstNo};
@@ -14,7 +14,7 @@ ghost use Rattle.writeback.specs.Truncate.{number};
 ghost use Rattle.tables.specs.Rule.{Holds, test};
 ghost use Rattle.tables.specs.Store.{Split};
 ghost use Rattle.model.specs.State.{frameAt, noFrame};
-ghost use Rattle.writeback.specs.Truncate.{quiet, allQuiet, chargedPage, cutUpTo, cutList, Cutting, truncate, asked, seen, TruncateReady, TruncateLeft};
+ghost use Rattle.writeback.specs.Truncate.{quiet, allQuiet, chargedPage, cutUpTo, cutList, Cutting, truncate, asked, Given, Left};
 use crate::by_page::by_page;
 use crate::by_page::wide;
 use leaves::cells::at8;
@@ -174,7 +174,7 @@ fn ask_truncate(
     active: &[u8],
 ) -> u32
     requires { ⌜ (sizes .frames < 65) × (sizes .pages < 257) × (sizes .slots < 65) ⌝ }
-    ensures { λ r. ⌜ r ≡ firstNo (questions sizes (asked sizes frames (now (numbers .entry)) (now (active .entry))) (truncate slot k)) ⌝ }
+    ensures { λ r. ⌜ r ≡ firstNo (questions sizes (asked sizes frames numbers active) (truncate slot k)) ⌝ }
 {
     if slot >= sizes.slots {
         return 3;
@@ -221,8 +221,8 @@ pub fn truncate(
     active: &[u8],
     used: &mut [u16],
 ) -> Framed
-    requires { ⌜ TruncateReady sizes (take (sizes .frames) frames) (now accounts) (now «free_queue») (now «removal_list») (now addresses) (now states) (now used) ⌝ }
-    ensures { λ r. ⌜ TruncateLeft sizes (seen sizes frames (now (numbers .entry)) (now (accounts .entry)) (now («free_queue» .entry)) (now («removal_list» .entry)) (now (addresses .entry)) (now (states .entry)) (now (active .entry)) (now (used .entry))) slot k (r .frames) (r .answer) (now («free_queue» .exit)) (now («removal_list» .exit)) (now (addresses .exit)) (now (states .exit)) (now (used .exit)) ⌝ }
+    requires { ⌜ Given sizes frames accounts «free_queue» «removal_list» addresses states used ⌝ }
+    ensures { λ r. ⌜ Left sizes slot k frames numbers accounts «free_queue» «removal_list» addresses states active used r ⌝ }
 {
     let refusal = ask_truncate(sizes, slot, k, frames, numbers, active);
     if refusal != 0 {
