@@ -4,5 +4,6 @@ pub mod Claim
 pub mod Done
 pub mod MapDone
 pub mod Nothing
+pub mod Pages
 pub mod Truncate
 pub mod Update

@@ -13,13 +13,14 @@ use Rattle.model.specs.declared.event.Event.{Event}
 use Rattle.model.specs.declared.event.Event.the-variants as Event
 use Rattle.model.specs.declared.event.Writeback.the-variants.{Update}
 use Rattle.model.specs.Lines.{NULLED, LEAVING}
-use Rattle.model.specs.State.{State, frameAt, allPages}
+use Rattle.model.specs.State.{State, allPages}
 use Rattle.model.specs.Rules.{once}
 use Rattle.model.specs.Step.{Outcome}
 use Rattle.model.specs.Own.{own}
 use Rattle.model.specs.Setters.{onDisk, onCore, onHeld, onSlots, setNumbers, setFrames, setAddresses, setStates, setOwners, setActive, setUpdating, setImages}
 use Rattle.model.specs.Lent.{Ref, Table}
 use Rattle.writeback.specs.Nothing.{noState}
+use Rattle.writeback.specs.Pages.{framed}
 
 abbrev pub update : ℕ → Event
 update s = Event.Writeback (Update s)
@@ -37,15 +38,15 @@ asked numbers active updating =
     onDisk (setNumbers (numbers .entry .now)) (onSlots (λ a. setActive (active .entry .now) (setUpdating (updating .entry .now) a)) noState)
 
 -- the page's record is nulled, and the page is in no frame
-abbrev pub leaves : ℕ → List Frame → List ℕ → List ℕ → ℕ → Rule
-leaves n fs addresses states i = (names (at addresses i) λ r. same (at states r) NULLED) and non (some n λ f. same (frameAt fs f .page) (suc i))
+abbrev pub leaving : ℕ → List Frame → List ℕ → List ℕ → ℕ → Rule
+leaving n fs addresses states i = (names (at addresses i) λ r. same (at states r) NULLED) and non (framed n fs i)
 
 -- .. and it is of the slot
-abbrev pub leavesSlot : Sizes → List Frame → List ℕ → List ℕ → ℕ → ℕ → Rule
-leavesSlot z fs addresses states s i = same (i / z .pages) s and leaves (z .frames) fs addresses states i
+abbrev pub leavingPage : Sizes → List Frame → List ℕ → List ℕ → ℕ → ℕ → Rule
+leavingPage z fs addresses states s i = same (i / z .pages) s and leaving (z .frames) fs addresses states i
 
 -- what the pages of a slot keep, for the pass over them
-pub record Leaving (z : Sizes) (s : ℕ) (addresses states : List ℕ) : Type 0 where
+pub record PagesReady (z : Sizes) (s : ℕ) (addresses states : List ℕ) : Type 0 where
   pub frames-most : z .frames < 65
   pub pages-some : 0 < z .pages
   pub long : s * z .pages + z .pages ≤ length addresses
@@ -54,11 +55,11 @@ pub record Leaving (z : Sizes) (s : ℕ) (addresses states : List ℕ) : Type 0 
   pub held-once : Holds (once (length addresses) (at addresses))
 
 -- .. and what the pass leaves: these pages have no address, and their records leave
-abbrev pub LeftPages : Sizes → ℕ → List Frame → Table → Table → Type 0
-LeftPages z s fs addresses states =
-    let ads = addresses .entry .now in let leaving = leavesSlot z fs ads (states .entry .now) s in
-    (addresses .exit .now ≡ store ads leaving (λ i. 0))
-    × (states .exit .now ≡ store (states .entry .now) (λ r. some (length ads) λ i. leaving i and same (at ads i) (suc r)) (λ r. LEAVING))
+abbrev pub PagesLeft : Sizes → ℕ → List Frame → Table → Table → Type 0
+PagesLeft z s fs addresses states =
+    let ads = addresses .entry .now in let gone = leavingPage z fs ads (states .entry .now) s in
+    (addresses .exit .now ≡ store ads gone (λ i. 0))
+    × (states .exit .now ≡ store (states .entry .now) (λ r. some (length ads) λ i. gone i and same (at ads i) (suc r)) (λ r. LEAVING))
 
 pub record UpdateReady (z : Sizes) (addresses states owners images : List ℕ) : Type 0 where
   pub frames-most : z .frames < 65

@@ -8,7 +8,7 @@ ghost use Rattle.tables.specs.Rule.{Holds, same};
 ghost use Rattle.tables.specs.Store.{store, Split};
 ghost use Rattle.model.specs.Questions.{questions};
 ghost use Rattle.leaves.specs.Addresses.{liveAddress};
-ghost use Rattle.writeback.specs.Update.{update, asked, leaves, Leaving, LeftPages, Given, Left};
+ghost use Rattle.writeback.specs.Update.{update, asked, leaving, PagesReady, PagesLeft, Given, Left};
 use leaves::addresses::live_address;
 use leaves::cells::at8;
 use leaves::cells::at16;
@@ -59,7 +59,7 @@ fn fill_image(pages: usize, slot: usize, addresses: &[u16], states: &[u8], image
 // A page's address where its record is nulled and it is in no frame, else 0.
 fn leaving_of(count: usize, frames: [Frame; 64], addresses: &[u16], states: &[u8], i: usize) -> u16
     requires { ⌜ (count < 65) × (i < 65535) ⌝ }
-    ensures { λ r. ⌜ Split (Holds (leaves count frames (now (addresses .entry)) (now (states .entry)) i)) r (at (now (addresses .entry)) i) 0 ⌝ }
+    ensures { λ r. ⌜ Split (Holds (leaving count frames (now (addresses .entry)) (now (states .entry)) i)) r (at (now (addresses .entry)) i) 0 ⌝ }
 {
     let address = at16(addresses, i);
     if address == 0 {
@@ -82,8 +82,8 @@ fn leave_pages(
     addresses: &mut [u16],
     states: &mut [u8],
 )
-    requires { ⌜ Leaving sizes slot (now addresses) (now states) ⌝ }
-    ensures { λ _. ⌜ LeftPages sizes slot frames addresses states ⌝ }
+    requires { ⌜ PagesReady sizes slot (now addresses) (now states) ⌝ }
+    ensures { λ _. ⌜ PagesLeft sizes slot frames addresses states ⌝ }
 {
     let pages = sizes.pages;
     let end = slot * pages + pages;

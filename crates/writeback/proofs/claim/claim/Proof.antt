@@ -89,14 +89,14 @@ make-nulled-requires c κs =
     let g : tie.After-frame-at = search in
     told (first g) .moves _ (c .before .record-of .ensures ∙ recorded g)
 
-div-uncharge : tie.Need-div-uncharge
-div-uncharge c =
+div-uncharge-nulled : tie.Need-div-uncharge-nulled
+div-uncharge-nulled c =
     let r : tie.After-record-of = search in
     let g : tie.After-frame-at = search in
     start (first g) .pre .pages-some
 
-uncharge-requires : tie.Need-uncharge-requires
-uncharge-requires c κs =
+uncharge-nulled-requires : tie.Need-uncharge-nulled-requires
+uncharge-nulled-requires c κs =
     let r : tie.After-record-of = search in
     let g : tie.After-frame-at = search in
     rw (c .before .named .ensures ∙ paged g) (told (first g) .pays)
@@ -110,7 +110,7 @@ push-back-requires c κs =
 returns-3 : tie.Need-returns-3
 returns-3 c =
     let k : tie.After-push-back = search in
-    let u : tie.After-uncharge = search in
+    let u : tie.After-uncharge-nulled = search in
     let n : tie.After-named = search in
     let m : tie.After-make-nulled = search in
     let r : tie.After-record-of = search in
@@ -121,7 +121,7 @@ returns-3 c =
     let t = turned p in
     freed _ _ _ _ _ _ _ _ _ (some p .before .at16 .ensures) (some p .if1 .left) (start p .pre) (t .turn .ensures) (p .first .ensures)
     (b .begins .ensures ∙ rw (g .frame-at .ensures)) (r .before .if2 .left) (r .record-of .ensures ∙ recorded g) (q .pop .ensures) (k .push-back .ensures)
-    (u .uncharge .ensures ∙ rw (n .named .ensures ∙ paged g))
+    (u .uncharge-nulled .ensures ∙ rw (n .named .ensures ∙ paged g))
     (c .answered3 .ensures ∙ ap (λ (l : List Frame). answered l 0 (t .turn .result .looks)) (c .before .with-frame2 .ensures ∙ ap (set (t .turn .result .frames) (p .first .result)) (c .before .before .no-frame .ensures)))
     (m .make-nulled .ensures ∙ rw (g .frame-at .ensures))
 
@@ -144,5 +144,5 @@ claim-spec =
     (tie.spec (λ c κs. search needs) (λ c κs. search needs) (λ c. search needs) returns
     turn-requires (λ c κs. search needs) pop-requires (λ c κs. search needs) begins-requires
     (λ c κs. search needs) (λ c κs. search needs) (λ c κs. search needs) (λ c κs. search needs) same-length-2 returns-2
-    (λ c κs. search needs) make-nulled-requires (λ c κs. search needs) div-uncharge uncharge-requires push-back-requires
+    (λ c κs. search needs) make-nulled-requires (λ c κs. search needs) div-uncharge-nulled uncharge-nulled-requires push-back-requires
     (λ c κs. search needs) (λ c κs. search needs) (λ c κs. search needs) (λ c. search needs) same-length-4 (λ c. search needs) (λ c. search needs) returns-3)

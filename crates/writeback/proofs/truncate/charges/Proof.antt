@@ -11,7 +11,7 @@ use Rattle.tables.specs.Base.{at, count}
 use Rattle.tables.specs.Laws.{count-same}
 use Rattle.tables.specs.Rule.{test}
 use Rattle.writeback.specs.ByPage.{chargedEntry}
-use Rattle.writeback.specs.Truncate.{chargedPage}
+use Rattle.writeback.specs.Pages.{charged}
 use Rattle.writeback.proofs.ByPage.{charged-entry}
 use Rattle.writeback.proofs.Named.{fits}
 use Rattle.writeback.proofs.Cut.{none-below, one-more, one-not}
@@ -73,7 +73,7 @@ returns c =
     let a = s .args in
     let e : l .loop .p ≡ a .pages = omega arith in
     l .loop .inv .3 ∙ ap (λ (m : ℕ). count m (λ q. leb (a .k) q && test (chargedEntry (at (b .by-page .result) q) (a .addresses .now) (a .states .now) (a .slot * a .pages + q)))) e
-    ∙ count-same (a .pages) (λ q. leb (a .k) q && test (chargedEntry (at (b .by-page .result) q) (a .addresses .now) (a .states .now) (a .slot * a .pages + q))) (λ q. leb (a .k) q && test (chargedPage (a .count) (a .frames) (a .addresses .now) (a .states .now) (a .slot * a .pages + q)))
+    ∙ count-same (a .pages) (λ q. leb (a .k) q && test (chargedEntry (at (b .by-page .result) q) (a .addresses .now) (a .states .now) (a .slot * a .pages + q))) (λ q. leb (a .k) q && test (charged (a .count) (a .frames) (a .addresses .now) (a .states .now) (a .slot * a .pages + q)))
     (λ q h. ap (λ (t : Bool). leb (a .k) q && t) (charged-entry (a .pages) (a .slot) (a .frames) (b .by-page .ensures) (a .addresses .now) (a .states .now) q h))
 
 pub charges-spec : {M : Type 1} → statement M

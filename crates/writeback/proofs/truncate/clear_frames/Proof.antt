@@ -12,26 +12,26 @@ use Rattle.tables.specs.Rule.{Holds}
 use Rattle.tables.specs.Store.{Split}
 use Rattle.model.specs.declared.frame.Frame.{Frame}
 use Rattle.model.specs.State.{frameAt, noFrame}
-use Rattle.writeback.specs.Truncate.{cutUpTo}
+use Rattle.writeback.specs.Truncate.{cutFrame}
 use Rattle.writeback.proofs.Named.{fits}
 use Rattle.writeback.proofs.truncate.clear_frames.Statement.{statement}
 use Rattle.writeback.proofs.truncate.clear_frames.Tie as tie
 
 -- the frames below f are done, the others are as they were
 pub record Cleared (pages slot k : ℕ) (fs : List Frame) (f : ℕ) (kept : List Frame) : Type 0 where
-  pub so-far : (i : ℕ) → i < f → Split (Holds (cutUpTo pages slot k pages (frameAt fs i))) (frameAt kept i) noFrame (frameAt fs i)
+  pub so-far : (i : ℕ) → i < f → Split (Holds (cutFrame pages slot k pages (frameAt fs i))) (frameAt kept i) noFrame (frameAt fs i)
   pub ahead : (i : ℕ) → f ≤ i → frameAt kept i ≡ frameAt fs i
   pub long : length kept ≡ length fs
 
 module _ {pages slot k : ℕ} {fs kept : List Frame} (f : ℕ) (c : Cleared pages slot k fs f kept) where
-  turn-off : ¬ Holds (cutUpTo pages slot k pages (frameAt fs f)) → {kept' : List Frame} → kept' ≡ kept → Cleared pages slot k fs (f + 1) kept'
+  turn-off : ¬ Holds (cutFrame pages slot k pages (frameAt fs f)) → {kept' : List Frame} → kept' ≡ kept → Cleared pages slot k fs (f + 1) kept'
   turn-off d e = rw e (record {
     so-far = λ i h. elim (ℕ-discrete i f) [ yes q ↦ inr (rw q d, c .ahead i (omega arith)) | no q ↦ c .so-far i (omega arith) ];
     ahead = λ i h. c .ahead i (omega arith);
     long = c .long;
   })
 
-  turn-on : f < length fs → Holds (cutUpTo pages slot k pages (frameAt fs f)) → {g : Frame} → g ≡ noFrame → {kept' : List Frame} → kept' ≡ set kept f g → Cleared pages slot k fs (f + 1) kept'
+  turn-on : f < length fs → Holds (cutFrame pages slot k pages (frameAt fs f)) → {g : Frame} → g ≡ noFrame → {kept' : List Frame} → kept' ≡ set kept f g → Cleared pages slot k fs (f + 1) kept'
   turn-on b d {g} w e = rw (e, w) (record {
     so-far = λ i h. elim (ℕ-discrete i f) [
       | yes q ↦ inl (rw q d, rw q (getD-set-same kept f noFrame noFrame (rw (c .long) b)))

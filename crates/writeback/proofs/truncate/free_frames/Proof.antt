@@ -12,14 +12,14 @@ use Rattle.tables.specs.Rule.{test}
 use Rattle.model.specs.declared.frame.Frame.{Frame}
 use Rattle.model.specs.State.{frameAt}
 use Rattle.writeback.specs.ByPage.{ByPage}
-use Rattle.writeback.specs.Truncate.{cutList, cutUpTo, Cutting}
+use Rattle.writeback.specs.Truncate.{cutFrames, cutFrame, FramesReady}
 use Rattle.writeback.proofs.CutFrames.{CutTurn, turn-starts, push-asks, remove-asks, turn-frees, turn-leaves, in-entry, its-entry, no-entry}
 use Rattle.writeback.proofs.truncate.free_frames.Statement.{statement}
 use Rattle.writeback.proofs.truncate.free_frames.Tie as tie
 
 abbrev Inv-loop : tie.InvT-loop
 Inv-loop n pages slot k fq₀ rl₀ framed p₀ fq rl p =
-    (k ≤ p) × (p ≤ pages) × ((fs : List Frame) → ByPage n pages slot fs framed → (ready : Cutting n pages slot k fs fq₀ rl₀) → CutTurn n pages slot k fs fq₀ rl₀ ready p fq rl)
+    (k ≤ p) × (p ≤ pages) × ((fs : List Frame) → ByPage n pages slot fs framed → (ready : FramesReady n pages slot k fs fq₀ rl₀) → CutTurn n pages slot k fs fq₀ rl₀ ready p fq rl)
 
 abbrev μ-loop : tie.MeasureT-loop
 μ-loop n pages slot k fq₀ rl₀ framed p₀ fq rl p = pages - p
@@ -91,8 +91,8 @@ returns c =
     let a = s .args in
     let e : l .loop .p ≡ a .pages = omega arith in
     let t = l .loop .inv .2 (a .frames) (l .before .by-page .ensures) (s .pre) in (
-      t .so-queue ∙ ap (λ (m : ℕ). packed (length (a .free-queue .now)) (members (a .free-queue .now) ++ cutList (a .count) (a .pages) (a .slot) (a .k) (a .frames) m)) e,
-      t .so-list ∙ ap (λ (m : ℕ). packed (length (a .removal-list .now)) (without (λ f. test (cutUpTo (a .pages) (a .slot) (a .k) m (frameAt (a .frames) f))) (members (a .removal-list .now)))) e,
+      t .so-queue ∙ ap (λ (m : ℕ). packed (length (a .free-queue .now)) (members (a .free-queue .now) ++ cutFrames (a .count) (a .pages) (a .slot) (a .k) (a .frames) m)) e,
+      t .so-list ∙ ap (λ (m : ℕ). packed (length (a .removal-list .now)) (without (λ f. test (cutFrame (a .pages) (a .slot) (a .k) m (frameAt (a .frames) f))) (members (a .removal-list .now)))) e,
     )
 
 pub free-frames-spec : {M : Type 1} → statement M

@@ -38,7 +38,7 @@ uncharge-requires c κs =
 free-frames-requires : tie.Need-free-frames-requires
 free-frames-requires c κs =
     let p : tie.Else1 = search in
-    told p .cutting
+    told p .frames-ready
 
 release-from-requires : tie.Need-release-from-requires
 release-from-requires c κs =

@@ -8,7 +8,7 @@ use lib.ListN.{length}
 use Rattle.tables.specs.StoreLoops.{Turned, turned-none, turned-all, part-inside}
 use Rattle.tables.specs.StoreNamed.{Named, named-none, named-all}
 use Rattle.model.specs.Lines.{LEAVING}
-use Rattle.writeback.specs.Update.{leavesSlot}
+use Rattle.writeback.specs.Update.{leavingPage}
 use Rattle.writeback.proofs.Leaves.{may, turn-leaves, turn-stays}
 use Rattle.writeback.proofs.update.leave_pages.Statement.{statement}
 use Rattle.writeback.proofs.update.leave_pages.Tie as tie
@@ -16,7 +16,7 @@ use Rattle.writeback.proofs.update.leave_pages.Tie as tie
 abbrev Inv-loop : tie.InvT-loop
 Inv-loop sizes slot frames ads₀ ss₀ pages end i₀ ads ss i =
     (slot * sizes .pages ≤ i) × (i ≤ slot * sizes .pages + sizes .pages)
-    × (Turned ads₀ (leavesSlot sizes frames ads₀ ss₀ slot) (λ k. 0) i ads × Named ss₀ (length ads₀) (leavesSlot sizes frames ads₀ ss₀ slot) ads₀ (λ r. LEAVING) i ss)
+    × (Turned ads₀ (leavingPage sizes frames ads₀ ss₀ slot) (λ k. 0) i ads × Named ss₀ (length ads₀) (leavingPage sizes frames ads₀ ss₀ slot) ads₀ (λ r. LEAVING) i ss)
 
 abbrev μ-loop : tie.MeasureT-loop
 μ-loop sizes slot frames ads₀ ss₀ pages end i₀ ads ss i = slot * sizes .pages + sizes .pages - i

@@ -1,7 +1,7 @@
 -- `update` meets its contract: each way out by its law.
 use borrow.Author.Needs.{needs}
 use native.Mathlib.Omega.{arith}
-use Rattle.writeback.proofs.UpdateWork.{refused, images-fit, leaving, updated}
+use Rattle.writeback.proofs.UpdateWork.{refused, images-fit, pages-ready, updated}
 use Rattle.writeback.proofs.Moves.{released-leaving}
 use Rattle.writeback.proofs.update.update.Statement.{statement}
 use Rattle.writeback.proofs.update.update.Tie as tie
@@ -23,7 +23,7 @@ leave-pages-requires : tie.Need-leave-pages-requires
 leave-pages-requires c κs =
     let p : tie.Else1 = search in
     let a = start p .args in
-    leaving _ (a .frames) (a .numbers .now) _ _ _ (a .active .now) (a .updating .now) _ _ (p .before .ask-update .ensures) (p .if1 .left) (start p .pre)
+    pages-ready _ (a .frames) (a .numbers .now) _ _ _ (a .active .now) (a .updating .now) _ _ (p .before .ask-update .ensures) (p .if1 .left) (start p .pre)
 
 move-all-requires : tie.Need-move-all-requires
 move-all-requires c κs =

@@ -3,8 +3,8 @@ use borrow.Author.Needs.{needs}
 use mathlib.Core.Path.{_≡_, ap, _∙_}
 use native.Mathlib.Omega.{arith}
 use Rattle.tables.specs.Base.{at}
-use Rattle.writeback.proofs.truncate.uncharge.Statement.{statement}
-use Rattle.writeback.proofs.truncate.uncharge.Tie as tie
+use Rattle.writeback.proofs.charges.uncharge.Statement.{statement}
+use Rattle.writeback.proofs.charges.uncharge.Tie as tie
 
 sub-less : tie.Need-sub-less
 sub-less c =
