@@ -21,7 +21,7 @@ use Rattle.model.specs.declared.frame.Frame.{Frame}
 use Rattle.model.specs.declared.applied.Framed.{Framed}
 use Rattle.model.specs.Lines.{NULLED, LIVE}
 use Rattle.model.specs.State.{State, WRITING, frameAt, noFrame, payer}
-use Rattle.model.specs.Setters.{onCore, onHeld, setFrames, setRemovalList, setStates, setTransfer, counted}
+use Rattle.model.specs.Setters.{onCore, onHeld, setStates, setTransfer, counted}
 use Rattle.model.specs.Pages.{onFrame}
 use Rattle.model.specs.Questions.{questions}
 use Rattle.model.specs.Writeback.{Looked, look, looking, beginsWrite, zeros, recordIn, freeFrame}
@@ -32,7 +32,7 @@ use Rattle.leaves.specs.FrameLaws.{frame-take, take-frame}
 use Rattle.model.specs.OwnLaws.{own-yes, own-no}
 use Rattle.writeback.specs.Claim.{claim, seen, payerOf, usedThen, LooksLeft, Claimable, ClaimReady, ClaimLeft}
 use Rattle.writeback.proofs.DoneWork.{answered}
-use Rattle.writeback.proofs.Looks.{cut, look-take, taken-in}
+use Rattle.writeback.proofs.Looks.{cut, looked, look-take, taken-in}
 use Rattle.tables.specs.StoreLoops.{part-fits}
 
 -- the frame that the looks end at, as the calls after them ask it
@@ -125,9 +125,6 @@ module _ (z : Sizes) (fs : List Frame) (ac ws fq rl ads ss us : List ℕ) where
         unfolding beginsWrite zeros
         begins = rw (taken-is, same-frame) (sym w)
 
-        abbrev looked : State
-        looked = onCore (λ c. setFrames (looking z st .frames) (setRemovalList (packed (length (c .removal-list)) (looking z st .list)) c)) st
-
         by-way : (st' : State) → carried z st claim ≡ counted z st' → own z st claim ≡ completed (looking z st .looks) (counted z st')
         unfolding result
         by-way st' c = sym (own-yes z st claim _ (sym says) refl) ∙ ap (completed (looking z st .looks)) c
@@ -150,8 +147,8 @@ module _ (z : Sizes) (fs : List Frame) (ac ws fq rl ads ss us : List ℕ) where
           used = used-by (rw (begins ∙ v));
         }
           where
-            way : own z st claim ≡ completed (looking z st .looks) (counted z (onCore (λ c. onFrame (looking z st .taken) (setTransfer WRITING) c) looked))
-            way = by-way (onCore (λ c. onFrame (looking z st .taken) (setTransfer WRITING) c) looked) (rw (begins ∙ v))
+            way : own z st claim ≡ completed (looking z st .looks) (counted z (onCore (λ c. onFrame (looking z st .taken) (setTransfer WRITING) c) (looked z st)))
+            way = by-way (onCore (λ c. onFrame (looking z st .taken) (setTransfer WRITING) c) (looked z st)) (rw (begins ∙ v))
 
         module _ (v : b ≡ false) {r : ℕ} (found : r ≡ pred (at ads (pred (old .page)))) where
           mod-is : frameAt (take (z .frames) fs) (looking z st .taken) .modified ≡ old .modified
@@ -183,15 +180,15 @@ module _ (z : Sizes) (fs : List Frame) (ac ws fq rl ads ss us : List ℕ) where
           freed-frames y = ap (λ (k : Framed). take (z .frames) (k .frames)) y ∙ take-frame (z .frames) kept f noFrame ∙ rw (frames-are, taken-is)
 
           abbrev nulledSt : State
-          nulledSt = onHeld (λ h. setStates (set (h .states) (recordIn z st (looking z st .taken)) NULLED) h) looked
+          nulledSt = onHeld (λ h. setStates (set (h .states) (recordIn z st (looking z st .taken)) NULLED) h) (looked z st)
 
           way-nulled : old .modified ≡ 1 → own z st claim ≡ completed (looking z st .looks) (counted z (freeFrame (looking z st .taken) nulledSt))
           unfolding carried Writeback.claim
           way-nulled m = by-way (freeFrame (looking z st .taken) nulledSt) (rw (begins ∙ v, eq-eqb _ _ (mod-is ∙ m)))
 
-          way-kept : ¬ (old .modified ≡ 1) → own z st claim ≡ completed (looking z st .looks) (counted z (freeFrame (looking z st .taken) looked))
+          way-kept : ¬ (old .modified ≡ 1) → own z st claim ≡ completed (looking z st .looks) (counted z (freeFrame (looking z st .taken) (looked z st)))
           unfolding carried Writeback.claim
-          way-kept m = by-way (freeFrame (looking z st .taken) looked) (rw (begins ∙ v, ne-eqb _ _ (λ h. m (sym mod-is ∙ h))))
+          way-kept m = by-way (freeFrame (looking z st .taken) (looked z st)) (rw (begins ∙ v, ne-eqb _ _ (λ h. m (sym mod-is ∙ h))))
 
           module _ {fq' rl' ss' us' : List ℕ} {x : Framed} (p : rl' ≡ pop list) (q : fq' ≡ push-back fq f)
               (u : us' ≡ if (eqb (at ss' r) NULLED) less us) (y : x ≡ answered (set kept f noFrame) 0 looks) where

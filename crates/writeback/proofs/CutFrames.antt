@@ -160,14 +160,14 @@ module _ (n pages s k : ℕ) (fs : List Frame) (fq rl : List ℕ) (ready : Frame
     module _ {f' : ℕ} (e : f' ≡ its m) (h : Holds (in-some m)) where
       pub push-asks : (f' < 65535) × Holds (queue (length q) q) × (size q < length q)
       push-asks = (
-        omega (arith, e, its-frame m h .0, ready .most),
+        omega (arith, e, its-frame m h .0, ready .sized .most),
         rw (t .so-queue, length-packed (length fq) (members fq ++ cutFrames n pages s k fs m), ready .queue-long) (rw (ready .queue-long) at (queue-repacked fq (ready .queue-long) (members fq ++ cutFrames n pages s k fs m) (both-within m) queue-fits)),
         rw (t .so-queue, length-packed (length fq) (members fq ++ cutFrames n pages s k fs m), size-packed (length fq) (members fq ++ cutFrames n pages s k fs m) queue-fits, ready .queue-long) (room m up h),
       )
 
       pub remove-asks : (f' < 65535) × Holds (queue (length r) r) × (times (members r) f' ≤ 1)
       remove-asks = (
-        omega (arith, e, its-frame m h .0, ready .most),
+        omega (arith, e, its-frame m h .0, ready .sized .most),
         rw (t .so-list, length-packed (length rl) (without (gone m) (members rl)), ready .list-long) (rw (ready .list-long) at (queue-without rl (ready .list-long) (ready .listed) (gone m))),
         rw (t .so-list, members-packed (length rl) (without (gone m) (members rl)) list-fits) (omega (arith, times-without-le (gone m) (members rl) f', ready .list-once f' (omega (arith, e, its-frame m h .0)))),
       )

@@ -33,7 +33,7 @@ use Rattle.leaves.specs.FrameLaws.{frame-take, frame-found}
 use Rattle.leaves.specs.Released.{Releasing}
 use Rattle.model.specs.OwnLaws.{own-yes, own-no}
 use Rattle.writeback.specs.Pages.{framed, frameOf, charged}
-use Rattle.writeback.specs.Truncate.{truncate, quiet, allQuiet, chargesFrom, cutFrame, cutFrames, FramesReady, seen, usedThen, TruncateReady, TruncateLeft}
+use Rattle.writeback.specs.Truncate.{truncate, quiet, allQuiet, chargesFrom, cutFrame, cutFrames, CutReady, FramesReady, seen, usedThen, TruncateReady, TruncateLeft}
 use Rattle.writeback.proofs.CutFrames.{without-alike}
 use Rattle.writeback.proofs.DoneWork.{answered}
 use Rattle.tables.specs.StoreLoops.{part-fits}
@@ -62,8 +62,7 @@ module _ (n : ℕ) (fs : List Frame) where
 
 -- what the answers tell, as the passes ask it
 pub record Passed (z : Sizes) (fs : List Frame) (ac fq rl ds ss us : List ℕ) (s k : ℕ) : Type 0 where
-  pub from : k ≤ z .pages
-  pub small : s < 65
+  pub sized : CutReady (z .frames) (z .pages) s k
   pub addresses-fit : s * z .pages + z .pages ≤ length ds
   pub frames-ready : FramesReady (z .frames) (z .pages) s k fs fq rl
   pub releasing : Releasing z s k ss ds
@@ -108,18 +107,15 @@ module _ (z : Sizes) (fs : List Frame) (ns ac fq rl ds ss act us : List ℕ) (s 
       from : k ≤ z .pages
       from = omega (arith, asked .0 .1)
 
-      small : s < 65
-      small = omega (arith, inside, ready .slots-most)
+      sized : CutReady (z .frames) (z .pages) s k
+      sized = record { most = ready .most; pages-most = ready .pages-most; slots-most = omega (arith, inside, ready .slots-most); from = from }
 
       addresses-fit : s * z .pages + z .pages ≤ length ds
       addresses-fit = rw (ready .addresses-long) (part-fits (z .slots) (z .pages) s inside)
 
       frames-ready : FramesReady (z .frames) (z .pages) s k fs fq rl
       frames-ready = record {
-        most = ready .most;
-        pages-most = ready .pages-most;
-        slots-most = small;
-        from = from;
+        sized = sized;
         queue-long = ready .queue-long;
         list-long = ready .list-long;
         queued = ready .queued;
@@ -146,8 +142,7 @@ module _ (z : Sizes) (fs : List Frame) (ns ac fq rl ds ss act us : List ℕ) (s 
 
       pub passed : Passed z fs ac fq rl ds ss us s k
       passed = record {
-        from = from;
-        small = small;
+        sized = sized;
         addresses-fit = addresses-fit;
         frames-ready = frames-ready;
         releasing = releasing;

@@ -53,12 +53,16 @@ cutFrame pages s k m g = below (s * pages + k) (g .page) and below (g .page) (su
 abbrev pub cutFrames : ℕ → ℕ → ℕ → ℕ → List Frame → ℕ → List ℕ
 cutFrames n pages s k fs m = map (λ p. frameOf n fs (s * pages + p)) (those m (λ p. leb k p && test (framed n fs (s * pages + p))) 0)
 
--- what the frames and the queues keep, for the pass over the pages
-pub record FramesReady (n pages s k : ℕ) (fs : List Frame) (free-queue removal-list : List ℕ) : Type 0 where
+-- the sizes that a pass over the slot's pages from k up needs
+pub record CutReady (n pages s k : ℕ) : Type 0 where
   pub most : n < 65
   pub pages-most : pages < 257
   pub slots-most : s < 65
   pub from : k ≤ pages
+
+-- what the frames and the queues keep, for the pass that frees
+pub record FramesReady (n pages s k : ℕ) (fs : List Frame) (free-queue removal-list : List ℕ) : Type 0 where
+  pub sized : CutReady n pages s k
   pub queue-long : length free-queue ≡ n
   pub list-long : length removal-list ≡ n
   pub queued : Holds (queue n free-queue)

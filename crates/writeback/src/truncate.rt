@@ -1,6 +1,6 @@
 // Truncate: the pages of a slot from page k up become zeros.
 ghost use mathlib.Core.Path.{_≡_};
-ghost use Prim.Native.Nat.{ℕ, _<_, _≤_};
+ghost use Prim.Native.Nat.{ℕ, _<_};
 ghost use lib.ListN.{length};
 ghost use Rattle.tables.specs.Questions.{firstNo};
 ghost use Rattle.tables.specs.Rule.{Holds, test};
@@ -8,7 +8,7 @@ ghost use Rattle.tables.specs.Store.{Split};
 ghost use Rattle.model.specs.State.{frameAt, noFrame};
 ghost use Rattle.model.specs.Questions.{questions};
 ghost use Rattle.writeback.specs.ByPage.{chargedEntry};
-ghost use Rattle.writeback.specs.Truncate.{quiet, allQuiet, chargesFrom, cutFrame, FramesReady, FramesLeft, truncate, asked, Given, Left};
+ghost use Rattle.writeback.specs.Truncate.{quiet, allQuiet, chargesFrom, cutFrame, CutReady, FramesReady, FramesLeft, truncate, asked, Given, Left};
 use crate::by_page::by_page;
 use crate::by_page::wide;
 use crate::charges::uncharge;
@@ -46,7 +46,7 @@ fn all_quiet(
     k: usize,
     frames: [Frame; 64],
 ) -> bool
-    requires { ⌜ (count < 65) × (pages < 257) × (slot < 65) × (k ≤ pages) ⌝ }
+    requires { ⌜ CutReady count pages slot k ⌝ }
     ensures { λ r. ⌜ r ≡ test (allQuiet which count pages slot k frames) ⌝ }
 {
     let start = slot * pages;
@@ -90,7 +90,7 @@ fn charges(
     addresses: &[u16],
     states: &[u8],
 ) -> usize
-    requires { ⌜ (count < 65) × (pages < 257) × (slot < 65) × (k ≤ pages) ⌝ }
+    requires { ⌜ CutReady count pages slot k ⌝ }
     ensures { λ r. ⌜ r ≡ chargesFrom count pages slot k frames (now (addresses .entry)) (now (states .entry)) ⌝ }
 {
     let start = slot * pages;
@@ -114,7 +114,7 @@ fn clear_frames(
     k: usize,
     frames: [Frame; 64],
 ) -> [Frame; 64]
-    requires { ⌜ (count < 65) × (pages < 257) × (slot < 65) × (k ≤ pages) ⌝ }
+    requires { ⌜ CutReady count pages slot k ⌝ }
     ensures { λ r. ⌜ (length r ≡ length frames) × ((f : ℕ) → f < count → Split (Holds (cutFrame pages slot k pages (frameAt frames f))) (frameAt r f) noFrame (frameAt frames f)) ⌝ }
 {
     let start = slot * pages;

@@ -26,7 +26,7 @@ abbrev μ-loop : tie.MeasureT-loop
 μ-loop which count pages slot k t6 start f₀ f = count - f
 
 mul-start : tie.Need-mul-start Inv-loop μ-loop
-mul-start c = omega (arith, fits (c .args .slot) (c .args .pages) (c .pre .2) (c .pre .1))
+mul-start c = omega (arith, fits (c .args .slot) (c .args .pages) (c .pre .slots-most) (c .pre .pages-most))
 
 loop-holds : tie.Need-loop-holds Inv-loop μ-loop
 loop-holds c = (omega arith, λ i h. absurd (omega arith))
@@ -35,13 +35,13 @@ add-if1 : tie.Need-add-if1 Inv-loop μ-loop
 add-if1 c =
     let start : tie.Start Inv-loop μ-loop = search in
     let a = start .args in
-    omega (arith, fits (a .slot) (a .pages) (start .pre .2) (start .pre .1), start .pre .3, start .pre .1)
+    omega (arith, fits (a .slot) (a .pages) (start .pre .slots-most) (start .pre .pages-most), start .pre .from, start .pre .pages-most)
 
 add-if2 : tie.Need-add-if2 Inv-loop μ-loop
 add-if2 c =
     let start : tie.Start Inv-loop μ-loop = search in
     let a = start .args in
-    omega (arith, fits (a .slot) (a .pages) (start .pre .2) (start .pre .1), start .pre .1)
+    omega (arith, fits (a .slot) (a .pages) (start .pre .slots-most) (start .pre .pages-most), start .pre .pages-most)
 
 returns : tie.Need-returns Inv-loop μ-loop
 returns c =

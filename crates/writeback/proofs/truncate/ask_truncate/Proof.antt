@@ -27,12 +27,12 @@ returns-4 c =
 all-quiet-requires : tie.Need-all-quiet-requires
 all-quiet-requires c κs =
     let start : tie.Start = search in
-    (start .pre .0, start .pre .1, omega (arith, start .pre .2), omega arith)
+    record { most = start .pre .0; pages-most = start .pre .1; slots-most = omega (arith, start .pre .2); from = omega arith }
 
 all-quiet-requires-2 : tie.Need-all-quiet-requires-2
 all-quiet-requires-2 c κs =
     let start : tie.Start = search in
-    (start .pre .0, start .pre .1, omega (arith, start .pre .2), omega arith)
+    record { most = start .pre .0; pages-most = start .pre .1; slots-most = omega (arith, start .pre .2); from = omega arith }
 
 returns-5 : tie.Need-returns-5
 returns-5 c =

@@ -26,29 +26,29 @@ abbrev μ-loop : tie.MeasureT-loop
 μ-loop frames-used pages slot k addresses states start framed n₀ p₀ n p = pages - p
 
 mul-start : tie.Need-mul-start Inv-loop μ-loop
-mul-start c = let s : tie.Start Inv-loop μ-loop = search in omega (arith, fits (s .args .slot) (s .args .pages) (s .pre .2) (s .pre .1))
+mul-start c = let s : tie.Start Inv-loop μ-loop = search in omega (arith, fits (s .args .slot) (s .args .pages) (s .pre .slots-most) (s .pre .pages-most))
 
 by-page-requires : tie.Need-by-page-requires Inv-loop μ-loop
-by-page-requires c κs = let s : tie.Start Inv-loop μ-loop = search in (s .pre .0, s .pre .1, s .pre .2, length-replicate {A = ℕ} 256 0, λ p h. getD-replicate {A = ℕ} 256 p 0 0 h)
+by-page-requires c κs = let s : tie.Start Inv-loop μ-loop = search in (s .pre .most, s .pre .pages-most, s .pre .slots-most, length-replicate {A = ℕ} 256 0, λ p h. getD-replicate {A = ℕ} 256 p 0 0 h)
 
 loop-holds : tie.Need-loop-holds Inv-loop μ-loop
 loop-holds c =
     let s : tie.Start Inv-loop μ-loop = search in
     let a = s .args in
-    (omega arith, s .pre .3, omega arith, sym (none-below (a .k) (λ q. test (chargedEntry (at (c .by-page .result) q) (a .addresses .now) (a .states .now) (a .slot * a .pages + q)))))
+    (omega arith, s .pre .from, omega arith, sym (none-below (a .k) (λ q. test (chargedEntry (at (c .by-page .result) q) (a .addresses .now) (a .states .now) (a .slot * a .pages + q)))))
 
 array-read-is-charged : tie.Need-array-read-is-charged Inv-loop μ-loop
 array-read-is-charged c =
     let start : tie.Start Inv-loop μ-loop = search in
-    omega (arith, start .pre .1)
+    omega (arith, start .pre .pages-most)
 
 add-is-charged : tie.Need-add-is-charged Inv-loop μ-loop
-add-is-charged c = let s : tie.Start Inv-loop μ-loop = search in omega (arith, fits (s .args .slot) (s .args .pages) (s .pre .2) (s .pre .1), s .pre .1)
+add-is-charged c = let s : tie.Start Inv-loop μ-loop = search in omega (arith, fits (s .args .slot) (s .args .pages) (s .pre .slots-most) (s .pre .pages-most), s .pre .pages-most)
 
 add-n : tie.Need-add-n Inv-loop μ-loop
 add-n c =
     let start : tie.Start Inv-loop μ-loop = search in
-    omega (arith, start .pre .1)
+    omega (arith, start .pre .pages-most)
 
 loop-again : tie.Need-loop-again Inv-loop μ-loop
 loop-again c =

@@ -48,7 +48,7 @@ abbrev μ-loop : tie.MeasureT-loop
 μ-loop count pages slot k start kept₀ f₀ kept f = count - f
 
 mul-start : tie.Need-mul-start Inv-loop μ-loop
-mul-start c = omega (arith, fits (c .args .slot) (c .args .pages) (c .pre .2) (c .pre .1))
+mul-start c = omega (arith, fits (c .args .slot) (c .args .pages) (c .pre .slots-most) (c .pre .pages-most))
 
 loop-holds : tie.Need-loop-holds Inv-loop μ-loop
 loop-holds c = (omega arith, record { so-far = λ i h. absurd (omega arith); ahead = λ i h. refl; long = refl })
@@ -57,13 +57,13 @@ add-if1 : tie.Need-add-if1 Inv-loop μ-loop
 add-if1 c =
     let start : tie.Start Inv-loop μ-loop = search in
     let a = start .args in
-    omega (arith, fits (a .slot) (a .pages) (start .pre .2) (start .pre .1), start .pre .3, start .pre .1)
+    omega (arith, fits (a .slot) (a .pages) (start .pre .slots-most) (start .pre .pages-most), start .pre .from, start .pre .pages-most)
 
 add-if2 : tie.Need-add-if2 Inv-loop μ-loop
 add-if2 c =
     let start : tie.Start Inv-loop μ-loop = search in
     let a = start .args in
-    omega (arith, fits (a .slot) (a .pages) (start .pre .2) (start .pre .1), start .pre .1)
+    omega (arith, fits (a .slot) (a .pages) (start .pre .slots-most) (start .pre .pages-most), start .pre .pages-most)
 
 loop-again : tie.Need-loop-again Inv-loop μ-loop
 loop-again c =
@@ -72,7 +72,7 @@ loop-again c =
     let old = ap (λ (g : Frame). g .page) (at-loop .loop .inv .1 .ahead (at-loop .loop .f) (omega arith)) in (
       omega arith,
       ⊎-elim
-          (λ w. turn-on (at-loop .loop .f) (at-loop .loop .inv .1) (omega (arith, start .good .1 .1 .1 .1 .0, start .pre .0)) (omega (arith, old, w .0 .taken), omega (arith, old, w .1 .taken)) (w .2 .ensures) (w .3))
+          (λ w. turn-on (at-loop .loop .f) (at-loop .loop .inv .1) (omega (arith, start .good .1 .1 .1 .1 .0, start .pre .most)) (omega (arith, old, w .0 .taken), omega (arith, old, w .1 .taken)) (w .2 .ensures) (w .3))
           (λ v. ⊎-elim
           (λ w. turn-off (at-loop .loop .f) (at-loop .loop .inv .1) (λ h. omega (arith, old, h .1, w .1 .left)) (w .2))
           (λ w. turn-off (at-loop .loop .f) (at-loop .loop .inv .1) (λ h. omega (arith, old, h .0, w .0 .left)) (w .1))

@@ -25,17 +25,17 @@ abbrev μ-loop : tie.MeasureT-loop
 μ-loop n pages slot k fq₀ rl₀ framed p₀ fq rl p = pages - p
 
 by-page-requires : tie.Need-by-page-requires Inv-loop μ-loop
-by-page-requires c κs = let s : tie.Start Inv-loop μ-loop = search in (s .pre .most, s .pre .pages-most, s .pre .slots-most, length-replicate {A = ℕ} 256 0, λ p h. getD-replicate {A = ℕ} 256 p 0 0 h)
+by-page-requires c κs = let s : tie.Start Inv-loop μ-loop = search in (s .pre .sized .most, s .pre .sized .pages-most, s .pre .sized .slots-most, length-replicate {A = ℕ} 256 0, λ p h. getD-replicate {A = ℕ} 256 p 0 0 h)
 
 loop-holds : tie.Need-loop-holds Inv-loop μ-loop
 loop-holds c =
     let start : tie.Start Inv-loop μ-loop = search in
-    (omega arith, start .pre .from, λ fs t r. turn-starts _ _ _ _ _ _ _ r)
+    (omega arith, start .pre .sized .from, λ fs t r. turn-starts _ _ _ _ _ _ _ r)
 
 array-read-wide : tie.Need-array-read-wide Inv-loop μ-loop
 array-read-wide c =
     let start : tie.Start Inv-loop μ-loop = search in
-    omega (arith, start .pre .pages-most)
+    omega (arith, start .pre .sized .pages-most)
 
 push-back-requires : tie.Need-push-back-requires Inv-loop μ-loop
 push-back-requires c κs =

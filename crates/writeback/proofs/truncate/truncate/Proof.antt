@@ -28,7 +28,7 @@ returns c = refused _ _ _ _ _ _ _ _ _ _ _ _ (c .before .before .ask-truncate .en
 charges-requires : tie.Need-charges-requires
 charges-requires c κs =
     let p : tie.Else1 = search in
-    (start p .pre .most, start p .pre .pages-most, told p .small, told p .from)
+    told p .sized
 
 uncharge-requires : tie.Need-uncharge-requires
 uncharge-requires c κs =
@@ -48,12 +48,12 @@ release-from-requires c κs =
 clear-from-requires : tie.Need-clear-from-requires
 clear-from-requires c κs =
     let p : tie.Else1 = search in
-    (start p .pre .pages-some, told p .from, told p .addresses-fit)
+    (start p .pre .pages-some, told p .sized .from, told p .addresses-fit)
 
 clear-frames-requires : tie.Need-clear-frames-requires
 clear-frames-requires c κs =
     let p : tie.Else1 = search in
-    (start p .pre .most, start p .pre .pages-most, told p .small, told p .from)
+    told p .sized
 
 returns-2 : tie.Need-returns-2
 returns-2 c =
