@@ -20,7 +20,7 @@ use Rattle.tables.specs.TimesLaws.{Within, Once, times-here, times-cons, times-
 use Rattle.model.specs.declared.frame.Frame.{Frame}
 use Rattle.model.specs.State.{frameAt}
 use Rattle.writeback.specs.ByPage.{ByPage}
-use Rattle.writeback.specs.Pages.{framed, frameOf}
+use Rattle.writeback.specs.Pages.{framed, frameIn}
 use Rattle.writeback.specs.Truncate.{cutFrames, cutFrame, FramesReady}
 use Rattle.writeback.proofs.Cut.{from-up}
 
@@ -45,7 +45,7 @@ module _ (n pages s k : ℕ) (fs : List Frame) (fq rl : List ℕ) (ready : Frame
   in-some p = framed n fs (s * pages + p)
 
   abbrev its : ℕ → ℕ
-  its p = frameOf n fs (s * pages + p)
+  its p = frameIn n fs (s * pages + p)
 
   abbrev passes : ℕ → Bool
   passes p = leb k p && test (in-some p)
@@ -190,7 +190,7 @@ module _ (n pages s k : ℕ) (fs : List Frame) (fq rl : List ℕ) (ready : Frame
     pub in-entry : Holds (some n λ f. same (frameAt fs f .page) (suc (s * pages + p)))
     in-entry = let x = t .in-one p (e - 1) b (omega (arith, q, d)) in (e - 1, x .0, x .1)
 
-    pub its-entry : e - 1 ≡ frameOf n fs (s * pages + p)
+    pub its-entry : e - 1 ≡ frameIn n fs (s * pages + p)
     unfolding in-entry
     its-entry = sym (its-only n pages s k fs fq rl ready p (e - 1) (in-entry .1) (in-entry .2))
 

@@ -17,19 +17,19 @@ use Rattle.model.specs.declared.sizes.Sizes.{Sizes}
 use Rattle.model.specs.declared.frame.Frame.{Frame}
 use Rattle.model.specs.Lines.{NULLED, LEAVING, allowed}
 use Rattle.model.specs.State.{frameAt}
-use Rattle.writeback.specs.Pages.{framed, frameOf}
+use Rattle.writeback.specs.Pages.{framed, frameIn}
 use Rattle.writeback.specs.Update.{leaving, leavingPage, PagesReady}
 use Rattle.writeback.proofs.Moves.{nulled-leaving}
 
 -- the page is in one of the first n frames, or in none
 module _ (n : ℕ) (fs : List Frame) (i : ℕ) where
-  pub in-frame : {f : ℕ} → f ≡ frameOf n fs i → f < n → Holds (framed n fs i)
+  pub in-frame : {f : ℕ} → f ≡ frameIn n fs i → f < n → Holds (framed n fs i)
   in-frame e h = elim (find-cases n (λ f. eqb (frameAt fs f .page) (suc i)) 0) [
-    | inl x ↦ (frameOf n fs i, omega (arith, e), eqb→eq _ _ (x .passes))
+    | inl x ↦ (frameIn n fs i, omega (arith, e), eqb→eq _ _ (x .passes))
     | inr x ↦ absurd (omega (arith, e, x .0))
   ]
 
-  pub in-none : {f : ℕ} → f ≡ frameOf n fs i → ¬ (f < n) → ¬ Holds (framed n fs i)
+  pub in-none : {f : ℕ} → f ≡ frameIn n fs i → ¬ (f < n) → ¬ Holds (framed n fs i)
   in-none e h k = elim (find-cases n (λ f. eqb (frameAt fs f .page) (suc i)) 0) [
     | inl x ↦ h (omega (arith, e, x .inside))
     | inr x ↦ x .1 (k .0) (omega arith) (omega (arith, k .1)) (eq→T (k .2))

@@ -32,7 +32,7 @@ use Rattle.model.specs.Own.{own, completed}
 use Rattle.leaves.specs.FrameLaws.{frame-take, frame-found}
 use Rattle.leaves.specs.Released.{Releasing}
 use Rattle.model.specs.OwnLaws.{own-yes, own-no}
-use Rattle.writeback.specs.Pages.{framed, frameOf, charged}
+use Rattle.writeback.specs.Pages.{framed, frameIn, charged}
 use Rattle.writeback.specs.Truncate.{truncate, quiet, allQuiet, chargesFrom, cutFrame, cutFrames, CutReady, FramesReady, seen, usedThen, TruncateReady, TruncateLeft}
 use Rattle.writeback.proofs.CutFrames.{without-alike}
 use Rattle.writeback.proofs.DoneWork.{answered}
@@ -175,7 +175,7 @@ module _ (z : Sizes) (fs : List Frame) (ns ac fq rl ds ss act us : List ℕ) (s 
 
       queue-is : cutFrames (z .frames) (z .pages) s k fs (z .pages) ≡ Writeback.cutFrames z st s k
       unfolding Writeback.cutFrames
-      queue-is = ap (map (λ p. frameOf (z .frames) fs (s * z .pages + p))) (those-same (z .pages) _ _ 0 (λ p a b. ap (λ (t : Bool). leb k p && t) (framed-alike (z .frames) fs (s * z .pages + p))))
+      queue-is = ap (map (λ p. frameIn (z .frames) fs (s * z .pages + p))) (those-same (z .pages) _ _ 0 (λ p a b. ap (λ (t : Bool). leb k p && t) (framed-alike (z .frames) fs (s * z .pages + p))))
           ∙ ap (λ (g : ℕ → ℕ). map g (those (z .pages) (λ p. leb k p && test (Model.framed z (frames st) (pageOf z s p))) 0)) (λ j p. frame-found z (frames st) fs (pageOf z s p) (λ f h. frame-take (z .frames) fs f h) j)
 
       list-is : without (λ f. test (cutFrame (z .pages) s k (z .pages) (frameAt fs f))) (members rl) ≡ without (λ f. test (Writeback.cutFrame z st s k f)) (members rl)

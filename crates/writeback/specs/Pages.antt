@@ -1,4 +1,4 @@
--- What is said of a page and of a frame, with the first n frames of a list and the lists of addresses and states: in the model's words.
+-- What is said of a page and of a frame, over the first n frames of a list and the lists of addresses and states: in the model's words.
 use mathlib.Core.List.{List}
 use Prim.Native.Nat.{ℕ, suc}
 use lib.Dec.{eqb}
@@ -12,9 +12,9 @@ use Rattle.model.specs.State.{NONE, frameAt}
 abbrev pub framed : ℕ → List Frame → ℕ → Rule
 framed n fs i = some n λ f. same (frameAt fs f .page) (suc i)
 
--- the frame that it is in, or n where it is in none
-abbrev pub frameOf : ℕ → List Frame → ℕ → ℕ
-frameOf n fs i = find n (λ f. eqb (frameAt fs f .page) (suc i)) 0
+-- the frame that it is in, or n where it is in none: `frameOf` over a list
+abbrev pub frameIn : ℕ → List Frame → ℕ → ℕ
+frameIn n fs i = find n (λ f. eqb (frameAt fs f .page) (suc i)) 0
 
 -- its address is live
 abbrev pub live : List ℕ → List ℕ → ℕ → Rule
@@ -25,9 +25,9 @@ abbrev pub charged : ℕ → List Frame → List ℕ → List ℕ → ℕ → Ru
 charged n fs addresses states i = live addresses states i or framed n fs i
 
 -- the frame is in no transfer
-abbrev pub still : Frame → Rule
-still g = same (g .transfer) NONE
+abbrev pub isStill : Frame → Rule
+isStill g = same (g .transfer) NONE
 
 -- the frame is not wired
-abbrev pub unwired : Frame → Rule
-unwired g = non (same (g .wired) 1)
+abbrev pub isUnwired : Frame → Rule
+isUnwired g = non (same (g .wired) 1)

@@ -26,7 +26,7 @@ use Rattle.model.specs.Own.{own}
 use Rattle.model.specs.Setters.{onDisk, onCore, onHeld, onSlots, setNumbers, setAccounts, setFrames, setFreeQueue, setRemovalList, setAddresses, setStates, setActive, setUsed}
 use Rattle.model.specs.Lent.{Ref, Table}
 use Rattle.writeback.specs.Nothing.{noState}
-use Rattle.writeback.specs.Pages.{framed, frameOf, still, unwired}
+use Rattle.writeback.specs.Pages.{framed, frameIn, isStill, isUnwired}
 use Rattle.writeback.specs.Pages
 
 abbrev pub truncate : ℕ → ℕ → Event
@@ -34,8 +34,8 @@ truncate s k = Event.Writeback (Truncate s k)
 
 -- what questions 14 and 16 ask of a frame, by number
 abbrev pub quiet : ℕ → Frame → Rule
-quiet zero g = still g
-quiet (suc n) g = unwired g
+quiet zero g = isStill g
+quiet (suc n) g = isUnwired g
 
 -- .. of every frame of the pages from k up
 abbrev pub allQuiet : ℕ → ℕ → ℕ → ℕ → ℕ → List Frame → Rule
@@ -51,7 +51,7 @@ cutFrame pages s k m g = below (s * pages + k) (g .page) and below (g .page) (su
 
 -- the frames of the slot's pages from k up to m, in page order
 abbrev pub cutFrames : ℕ → ℕ → ℕ → ℕ → List Frame → ℕ → List ℕ
-cutFrames n pages s k fs m = map (λ p. frameOf n fs (s * pages + p)) (those m (λ p. leb k p && test (framed n fs (s * pages + p))) 0)
+cutFrames n pages s k fs m = map (λ p. frameIn n fs (s * pages + p)) (those m (λ p. leb k p && test (framed n fs (s * pages + p))) 0)
 
 -- the sizes that a pass over the slot's pages from k up needs
 pub record CutReady (n pages s k : ℕ) : Type 0 where

@@ -1,7 +1,7 @@
 -- Update: the tables that it reads, what they keep when it is asked, and what it leaves.
 use mathlib.Core.Path.{_≡_}
 use mathlib.Core.List.{List}
-use Prim.Native.Nat.{ℕ, suc, _+_, _*_, _/_, _<_, _≤_}
+use Prim.Native.Nat.{ℕ, suc, _+_, _*_, _<_, _≤_}
 use lib.ListN.{length, take}
 use Rattle.tables.specs.Base.{at}
 use Rattle.tables.specs.Rule.{Rule, Holds, same, non, some, names, _and_}
@@ -14,6 +14,7 @@ use Rattle.model.specs.declared.event.Event.the-variants as Event
 use Rattle.model.specs.declared.event.Writeback.the-variants.{Update}
 use Rattle.model.specs.Lines.{NULLED, LEAVING}
 use Rattle.model.specs.State.{State, allPages}
+use Rattle.model.specs.Parts.{ofSlot}
 use Rattle.model.specs.Rules.{once}
 use Rattle.model.specs.Step.{Outcome}
 use Rattle.model.specs.Own.{own}
@@ -43,7 +44,7 @@ leaving n fs addresses states i = (names (at addresses i) λ r. same (at states 
 
 -- .. and it is of the slot
 abbrev pub leavingPage : Sizes → List Frame → List ℕ → List ℕ → ℕ → ℕ → Rule
-leavingPage z fs addresses states s i = same (i / z .pages) s and leaving (z .frames) fs addresses states i
+leavingPage z fs addresses states s i = ofSlot z s i and leaving (z .frames) fs addresses states i
 
 -- what the pages of a slot keep, for the pass over them
 pub record PagesReady (z : Sizes) (s : ℕ) (addresses states : List ℕ) : Type 0 where
