@@ -12,14 +12,14 @@ use Rattle.tables.specs.Rule.{Holds, same, each, test, alike}
 use Rattle.model.specs.declared.frame.Frame.{Frame}
 use Rattle.model.specs.State.{frameAt}
 use Rattle.writeback.specs.ByPage.{ByPage, chargedEntry}
-use Rattle.writeback.specs.Truncate.{chargedPage}
+use Rattle.writeback.specs.Pages.{charged}
 
 module _ (pages s : ℕ) (fs : List Frame) where
   pub begun : (table : List ℕ) → length table ≡ 256 → Holds (each 256 λ p. same (at table p) 0) → pages < 257 → ByPage 0 pages s fs table
   begun table l z most = record {
     long = l;
-    framed = λ p f b e. absurd (omega (arith, e, z p (omega arith)));
-    unframed = λ p b e h. omega (arith, h .1);
+    in-one = λ p f b e. absurd (omega (arith, e, z p (omega arith)));
+    in-none = λ p b e h. omega (arith, h .1);
   }
 
   module _ {table : List ℕ} (f : ℕ) (t : ByPage f pages s fs table) where
@@ -27,10 +27,10 @@ module _ (pages s : ℕ) (fs : List Frame) where
     pub passed : ((s * pages < frameAt fs f .page) → (frameAt fs f .page ≤ s * pages + pages) → ⊥) → {table' : List ℕ} → table' ≡ table → ByPage (f + 1) pages s fs table'
     passed d e = rw e (record {
       long = t .long;
-      framed = λ p g b q. let x = t .framed p g b q in (omega (arith, x .0), x .1);
-      unframed = λ p b q h. elim (ℕ-discrete (h .0) f) [
+      in-one = λ p g b q. let x = t .in-one p g b q in (omega (arith, x .0), x .1);
+      in-none = λ p b q h. elim (ℕ-discrete (h .0) f) [
         | yes w ↦ let y : frameAt fs f .page ≡ suc (s * pages + p) = rw w at (h .2) in d (omega arith) (omega arith)
-        | no w ↦ t .unframed p b q (h .0, omega (arith, h .1), h .2)
+        | no w ↦ t .in-none p b q (h .0, omega (arith, h .1), h .2)
       ];
     })
 
@@ -45,22 +45,22 @@ module _ (pages s : ℕ) (fs : List Frame) where
       pub stored : {table' : List ℕ} → table' ≡ set table j (f + 1) → ByPage (f + 1) pages s fs table'
       stored e = rw e (record {
         long = length-set table j (f + 1) ∙ t .long;
-        framed = λ p g b q. elim (ℕ-discrete p j) [
+        in-one = λ p g b q. elim (ℕ-discrete p j) [
           | yes w ↦ let y : g ≡ f = omega (arith, rw w at q, here) in (omega arith, rw y (omega arith))
-          | no w ↦ let x = t .framed p g b (sym (getD-set-other table j p (f + 1) 0 w) ∙ q) in (omega (arith, x .0), x .1)
+          | no w ↦ let x = t .in-one p g b (sym (getD-set-other table j p (f + 1) 0 w) ∙ q) in (omega (arith, x .0), x .1)
         ];
-        unframed = λ p b q h. elim (ℕ-discrete p j) [
+        in-none = λ p b q h. elim (ℕ-discrete p j) [
           | yes w ↦ omega (arith, rw w at q, here)
           | no w ↦ elim (ℕ-discrete (h .0) f) [
             | yes v ↦ let y : frameAt fs f .page ≡ suc (s * pages + p) = rw v at (h .2) in w (omega arith)
-            | no v ↦ t .unframed p b (sym (getD-set-other table j p (f + 1) 0 w) ∙ q) (h .0, omega (arith, h .1), h .2)
+            | no v ↦ t .in-none p b (sym (getD-set-other table j p (f + 1) 0 w) ∙ q) (h .0, omega (arith, h .1), h .2)
           ]
         ];
       })
 
   -- an entry says whether its page is charged
   pub charged-entry : {n : ℕ} {table : List ℕ} → ByPage n pages s fs table → (addresses states : List ℕ) (p : ℕ) → p < pages
-      → test (chargedEntry (at table p) addresses states (s * pages + p)) ≡ test (chargedPage n fs addresses states (s * pages + p))
-  charged-entry {n = n} {table = table} t addresses states p b = alike (chargedEntry (at table p) addresses states (s * pages + p)) (chargedPage n fs addresses states (s * pages + p))
-      (λ h. elim h [ inl l ↦ inl l | inr d ↦ let x = t .framed p (at table p - 1) b (omega (arith, d)) in inr (at table p - 1, x .0, x .1) ])
-      (λ h. elim h [ inl l ↦ inl l | inr x ↦ inr (λ e. t .unframed p b e x) ])
+      → test (chargedEntry (at table p) addresses states (s * pages + p)) ≡ test (charged n fs addresses states (s * pages + p))
+  charged-entry {n = n} {table = table} t addresses states p b = alike (chargedEntry (at table p) addresses states (s * pages + p)) (charged n fs addresses states (s * pages + p))
+      (λ h. elim h [ inl l ↦ inl l | inr d ↦ let x = t .in-one p (at table p - 1) b (omega (arith, d)) in inr (at table p - 1, x .0, x .1) ])
+      (λ h. elim h [ inl l ↦ inl l | inr x ↦ inr (λ e. t .in-none p b e x) ])

@@ -13,14 +13,14 @@ use borrow.Author.Tests.{eq-eqb, ne-eqb}
 use Rattle.tables.specs.Base.{at}
 use Rattle.tables.specs.CountLaws.{count-pos}
 use Rattle.tables.specs.Laws.{and-intro, eq→T}
-use Rattle.tables.specs.Queue.{members, times, size, packed}
+use Rattle.tables.specs.Queue.{members, times, size}
 use Rattle.tables.specs.QueueLaws.{size-members, members-within}
 use Rattle.tables.specs.Rule.{Holds, sound, complete}
 use Rattle.model.specs.declared.sizes.Sizes.{Sizes}
 use Rattle.model.specs.declared.frame.Frame.{Frame}
 use Rattle.model.specs.Lines.{FREE, NULLED, LIVE}
 use Rattle.model.specs.State.{State, Files, Frames, files, frames, frameAt, noFrame, WRITING, slotOf, allPages, payer, charged, usedOf, live, framed}
-use Rattle.model.specs.Setters.{onCore, onHeld, setFrames, setRemovalList, setStates, setTransfer, counted}
+use Rattle.model.specs.Setters.{onCore, onHeld, setStates, setTransfer, counted}
 use Rattle.model.specs.Pages.{onFrame}
 use Rattle.model.specs.Index.{split-entry, split-set, slot-below}
 use Rattle.model.specs.Writeback.{looking, beginsWrite, recordIn, freeFrame}
@@ -32,7 +32,7 @@ use Rattle.model.specs.Lent.{stateOf, same-state}
 use Rattle.leaves.specs.Counts.{counts, countsFor, usedCounts, counts-less}
 use Rattle.writeback.specs.Claim.{claim, payerOf, usedThen, Claimable, ClaimReady}
 use Rattle.writeback.proofs.Kept.{counts-alike, charged-alike, used-is, used-kept, map-kept, pool-kept}
-use Rattle.writeback.proofs.Looks.{look-page, look-long, taken-in}
+use Rattle.writeback.proofs.Looks.{looked, look-page, look-long, taken-in}
 use Rattle.writeback.proofs.Ready.{Paged, paged, queue-room}
 
 module _ (z : Sizes) (st : State) (fit : Fit z st) (ruled : Ruled z st) where
@@ -124,12 +124,9 @@ module _ (z : Sizes) (st : State) (fit : Fit z st) (ruled : Ruled z st) where
     one : (g : Frame) (k : ℕ) → ((k ≡ f) × (frameAt (set (looking z st .frames) f g) k ≡ g)) ⊎ ((¬ (k ≡ f)) × (frameAt (set (looking z st .frames) f g) k ≡ frameAt (looking z st .frames) k))
     one g k = split-entry noFrame (looking z st .frames) f g k (rw frames-long below)
 
-    abbrev looked : State
-    looked = onCore (λ x. setFrames (looking z st .frames) (setRemovalList (packed (length (x .removal-list)) (looking z st .list)) x)) st
-
     -- ── a write begins: every frame keeps its page ──
     abbrev writes : State
-    writes = onCore (λ x. onFrame f (setTransfer WRITING) x) looked
+    writes = onCore (λ x. onFrame f (setTransfer WRITING) x) (looked z st)
 
     writing-page : (k : ℕ) → frames writes .frame k .page ≡ c .frame k .page
     writing-page k = elim (one (setTransfer WRITING (frameAt (looking z st .frames) f)) k) [
@@ -197,7 +194,7 @@ module _ (z : Sizes) (st : State) (fit : Fit z st) (ruled : Ruled z st) where
 
     -- ── modified: the record becomes nulled ──
     abbrev nulls : State
-    nulls = freeFrame f (onHeld (λ x. setStates (set (x .states) (recordIn z st f) NULLED) x) looked)
+    nulls = freeFrame f (onHeld (λ x. setStates (set (x .states) (recordIn z st f) NULLED) x) (looked z st))
 
     abbrev nulled : ℕ → ℕ
     nulled = at (set (st .memory .held .states) (recordIn z st f) NULLED)
@@ -221,7 +218,7 @@ module _ (z : Sizes) (st : State) (fit : Fit z st) (ruled : Ruled z st) where
 
     -- ── unmodified: the record stays ──
     abbrev frees : State
-    frees = freeFrame f looked
+    frees = freeFrame f (looked z st)
 
     frees-less : v .state (p .item) ≡ NULLED → set (st .memory .used) (payerOf z st f) (at (st .memory .used) (payerOf z st f) - 1) ≡ counted z frees .memory .used
     unfolding freeFrame payer counted

@@ -21,7 +21,7 @@ use Rattle.model.specs.declared.frame.Frame.{Frame}
 use Rattle.model.specs.declared.applied.Framed.{Framed}
 use Rattle.model.specs.Lines.{NULLED, LIVE}
 use Rattle.model.specs.State.{State, WRITING, frameAt, noFrame, payer}
-use Rattle.model.specs.Setters.{onCore, onHeld, setFrames, setRemovalList, setStates, setTransfer, counted}
+use Rattle.model.specs.Setters.{onCore, onHeld, setStates, setTransfer, counted}
 use Rattle.model.specs.Pages.{onFrame}
 use Rattle.model.specs.Questions.{questions}
 use Rattle.model.specs.Writeback.{Looked, look, looking, beginsWrite, zeros, recordIn, freeFrame}
@@ -32,8 +32,15 @@ use Rattle.leaves.specs.FrameLaws.{frame-take, take-frame}
 use Rattle.model.specs.OwnLaws.{own-yes, own-no}
 use Rattle.writeback.specs.Claim.{claim, seen, payerOf, usedThen, LooksLeft, Claimable, ClaimReady, ClaimLeft}
 use Rattle.writeback.proofs.DoneWork.{answered}
-use Rattle.writeback.proofs.Looks.{cut, look-take, taken-in}
+use Rattle.writeback.proofs.Looks.{cut, looked, look-take, taken-in}
 use Rattle.tables.specs.StoreLoops.{part-fits}
+
+-- the frame that the looks end at, as the calls after them ask it
+pub record Taken (z : Sizes) (fs : List Frame) (ac ws fq ads ss us : List ℕ) (f : ℕ) : Type 0 where
+  pub words-fit : f * z .words + z .words ≤ length ws
+  pub room : (f < 65535) × Holds (queue (length fq) fq) × (size fq < length fq)
+  pub pays : 0 < at us (at ac (pred (frameAt fs f .page) / z .pages))
+  pub moves : (r : ℕ) → r ≡ pred (at ads (pred (frameAt fs f .page))) → (at ss r ≡ NULLED) ⊎ (at ss r ≡ LIVE)
 
 module _ (z : Sizes) (fs : List Frame) (ac ws fq rl ads ss us : List ℕ) where
   abbrev st : State
@@ -59,7 +66,7 @@ module _ (z : Sizes) (fs : List Frame) (ac ws fq rl ads ss us : List ℕ) where
       no = sym (own-no z st claim _ (sym says) (λ h. omega arith))
 
   module _ {e : ℕ} (a : e ≡ at rl 0) (d : ¬ (e ≡ 0)) where
-    pub some : 0 < size rl
+    some : 0 < size rl
     some = size-more rl 0 (omega arith) (λ h. d (a ∙ h))
 
     says : firstNo (questions z st claim) ≡ 0
@@ -85,7 +92,7 @@ module _ (z : Sizes) (fs : List Frame) (ac ws fq rl ads ss us : List ℕ) where
       in-list : 0 < times (members rl) f
       in-list = rw (here ∙ t .the-taken) (taken-in fs rl some)
 
-      pub below : f < z .frames
+      below : f < z .frames
       below = members-within rl (ready .list-long) (ready .listed) f in-list
 
       abbrev old : Frame
@@ -97,33 +104,26 @@ module _ (z : Sizes) (fs : List Frame) (ac ws fq rl ads ss us : List ℕ) where
       held : Claimable z (old .page) ac fq ads ss us
       held = subst (λ (g : Frame). Claimable z (g .page) ac fq ads ss us) same-frame (ready .held f below in-list)
 
-      pub words-fit : f * z .words + z .words ≤ length ws
-      words-fit = rw (ready .words-long) (part-fits (z .frames) (z .words) f below)
-
-      pub room : (f < 65535) × Holds (queue (length fq) fq) × (size fq < length fq)
-      room = (omega (arith, below, ready .most), rw (ready .queue-long) (ready .queued), omega (arith, held .room, ready .queue-long))
-
-      pub pays : 0 < at us (at ac (pred (old .page) / z .pages))
-      pays = held .pays
-
       module _ {r : ℕ} (found : r ≡ pred (at ads (pred (old .page)))) where
         item-is : r ≡ held .item
         item-is = found ∙ ap pred (held .holds)
 
-        pub moves : (at ss r ≡ NULLED) ⊎ (at ss r ≡ LIVE)
-        moves = rw item-is (held .moves)
-
         record-is : recordIn z st (looking z st .taken) ≡ r
         record-is = rw (taken-is, same-frame) (sym found)
+
+      pub taken : Taken z fs ac ws fq ads ss us f
+      taken = record {
+        words-fit = rw (ready .words-long) (part-fits (z .frames) (z .words) f below);
+        room = (omega (arith, below, ready .most), rw (ready .queue-long) (ready .queued), omega (arith, held .room, ready .queue-long));
+        pays = held .pays;
+        moves = λ r found. rw (item-is found) (held .moves);
+      }
 
       -- ── a write begins, or not ──
       module _ {b : Bool} (w : b ≡ if (eqb (old .modified) 1) (not (all (z .words) (λ k. eqb (at ws (f * z .words + k)) 0))) false) where
         begins : beginsWrite z st ≡ b
         unfolding beginsWrite zeros
         begins = rw (taken-is, same-frame) (sym w)
-
-        abbrev looked : State
-        looked = onCore (λ c. setFrames (looking z st .frames) (setRemovalList (packed (length (c .removal-list)) (looking z st .list)) c)) st
 
         by-way : (st' : State) → carried z st claim ≡ counted z st' → own z st claim ≡ completed (looking z st .looks) (counted z st')
         unfolding result
@@ -147,8 +147,8 @@ module _ (z : Sizes) (fs : List Frame) (ac ws fq rl ads ss us : List ℕ) where
           used = used-by (rw (begins ∙ v));
         }
           where
-            way : own z st claim ≡ completed (looking z st .looks) (counted z (onCore (λ c. onFrame (looking z st .taken) (setTransfer WRITING) c) looked))
-            way = by-way (onCore (λ c. onFrame (looking z st .taken) (setTransfer WRITING) c) looked) (rw (begins ∙ v))
+            way : own z st claim ≡ completed (looking z st .looks) (counted z (onCore (λ c. onFrame (looking z st .taken) (setTransfer WRITING) c) (looked z st)))
+            way = by-way (onCore (λ c. onFrame (looking z st .taken) (setTransfer WRITING) c) (looked z st)) (rw (begins ∙ v))
 
         module _ (v : b ≡ false) {r : ℕ} (found : r ≡ pred (at ads (pred (old .page)))) where
           mod-is : frameAt (take (z .frames) fs) (looking z st .taken) .modified ≡ old .modified
@@ -180,15 +180,15 @@ module _ (z : Sizes) (fs : List Frame) (ac ws fq rl ads ss us : List ℕ) where
           freed-frames y = ap (λ (k : Framed). take (z .frames) (k .frames)) y ∙ take-frame (z .frames) kept f noFrame ∙ rw (frames-are, taken-is)
 
           abbrev nulledSt : State
-          nulledSt = onHeld (λ h. setStates (set (h .states) (recordIn z st (looking z st .taken)) NULLED) h) looked
+          nulledSt = onHeld (λ h. setStates (set (h .states) (recordIn z st (looking z st .taken)) NULLED) h) (looked z st)
 
           way-nulled : old .modified ≡ 1 → own z st claim ≡ completed (looking z st .looks) (counted z (freeFrame (looking z st .taken) nulledSt))
           unfolding carried Writeback.claim
           way-nulled m = by-way (freeFrame (looking z st .taken) nulledSt) (rw (begins ∙ v, eq-eqb _ _ (mod-is ∙ m)))
 
-          way-kept : ¬ (old .modified ≡ 1) → own z st claim ≡ completed (looking z st .looks) (counted z (freeFrame (looking z st .taken) looked))
+          way-kept : ¬ (old .modified ≡ 1) → own z st claim ≡ completed (looking z st .looks) (counted z (freeFrame (looking z st .taken) (looked z st)))
           unfolding carried Writeback.claim
-          way-kept m = by-way (freeFrame (looking z st .taken) looked) (rw (begins ∙ v, ne-eqb _ _ (λ h. m (sym mod-is ∙ h))))
+          way-kept m = by-way (freeFrame (looking z st .taken) (looked z st)) (rw (begins ∙ v, ne-eqb _ _ (λ h. m (sym mod-is ∙ h))))
 
           module _ {fq' rl' ss' us' : List ℕ} {x : Framed} (p : rl' ≡ pop list) (q : fq' ≡ push-back fq f)
               (u : us' ≡ if (eqb (at ss' r) NULLED) less us) (y : x ≡ answered (set kept f noFrame) 0 looks) where

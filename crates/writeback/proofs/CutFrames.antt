@@ -20,7 +20,8 @@ use Rattle.tables.specs.TimesLaws.{Within, Once, times-here, times-cons, times-
 use Rattle.model.specs.declared.frame.Frame.{Frame}
 use Rattle.model.specs.State.{frameAt}
 use Rattle.writeback.specs.ByPage.{ByPage}
-use Rattle.writeback.specs.Truncate.{frameIn, cutList, cutUpTo, Cutting}
+use Rattle.writeback.specs.Pages.{framed, frameIn}
+use Rattle.writeback.specs.Truncate.{cutFrames, cutFrame, FramesReady}
 use Rattle.writeback.proofs.Cut.{from-up}
 
 -- lists without numbers that pass alike
@@ -35,13 +36,13 @@ without-alike p q (x ∷ xs) f = rw (f x (here x xs), without-alike p q xs (λ y
     there : (x : ℕ) (xs : List ℕ) (y : ℕ) → 0 < times xs y → 0 < times (x ∷ xs) y
     there x xs y h = omega (arith, times-cons x xs y)
 
-module _ (n pages s k : ℕ) (fs : List Frame) (fq rl : List ℕ) (ready : Cutting n pages s k fs fq rl) where
+module _ (n pages s k : ℕ) (fs : List Frame) (fq rl : List ℕ) (ready : FramesReady n pages s k fs fq rl) where
   abbrev page : ℕ → ℕ
   page f = frameAt fs f .page
 
   -- the page p of the slot is in a frame
   abbrev in-some : ℕ → Rule
-  in-some p = some n λ f. same (page f) (suc (s * pages + p))
+  in-some p = framed n fs (s * pages + p)
 
   abbrev its : ℕ → ℕ
   its p = frameIn n fs (s * pages + p)
@@ -57,7 +58,7 @@ module _ (n pages s k : ℕ) (fs : List Frame) (fq rl : List ℕ) (ready : Cutti
 
   -- the frame is one of those freed below m
   abbrev freed : ℕ → ℕ → Rule
-  freed m x = below x n and cutUpTo pages s k m (frameAt fs x)
+  freed m x = below x n and cutFrame pages s k m (frameAt fs x)
 
   abbrev passed : ℕ → List ℕ
   passed m = those m passes 0
@@ -65,28 +66,28 @@ module _ (n pages s k : ℕ) (fs : List Frame) (fq rl : List ℕ) (ready : Cutti
   passed-page : (m p : ℕ) → 0 < times (passed m) p → (p < m) × (k ≤ p) × Holds (in-some p)
   passed-page m p h = let x = those-elim m passes 0 p h in (omega (arith, x .1), leb→le k p (and-left (leb k p) (test (in-some p)) (x .2)), sound (in-some p) (and-right (leb k p) (test (in-some p)) (x .2)))
 
-  times-freed : (m x : ℕ) → Holds (freed m x) → times (cutList n pages s k fs m) x ≤ 1
+  times-freed : (m x : ℕ) → Holds (freed m x) → times (cutFrames n pages s k fs m) x ≤ 1
   times-freed m x h =
       let p = page x - 1 - s * pages in
       let e : page x ≡ suc (s * pages + p) = omega (arith, h .1 .0) in
       let o = its-only p x (h .0) e in
-      let t : times (cutList n pages s k fs m) (its p) ≡ times (passed m) p = times-map its (passed m) p (λ y a b. let f = passed-page m y a in omega (arith, sym (its-frame y (f .2) .1) ∙ ap page (b ∙ o) ∙ e)) in
-      omega (arith, sym (ap (times (cutList n pages s k fs m)) o) ∙ t, those-once m passes 0 p)
+      let t : times (cutFrames n pages s k fs m) (its p) ≡ times (passed m) p = times-map its (passed m) p (λ y a b. let f = passed-page m y a in omega (arith, sym (its-frame y (f .2) .1) ∙ ap page (b ∙ o) ∙ e)) in
+      omega (arith, sym (ap (times (cutFrames n pages s k fs m)) o) ∙ t, those-once m passes 0 p)
 
-  times-unfreed : (m x : ℕ) → ¬ Holds (freed m x) → times (cutList n pages s k fs m) x ≡ 0
+  times-unfreed : (m x : ℕ) → ¬ Holds (freed m x) → times (cutFrames n pages s k fs m) x ≡ 0
   times-unfreed m x d = times-map-none its (passed m) x (λ p a e. let f = passed-page m p a in let g = its-frame p (f .2) in
       let q : page x ≡ suc (s * pages + p) = sym (ap page e) ∙ g .1 in d (omega (arith, sym e, g .0), (omega (arith, q, f .1), omega (arith, q, f .0))))
 
-  cut-within : (m : ℕ) → Within n (cutList n pages s k fs m)
+  cut-within : (m : ℕ) → Within n (cutFrames n pages s k fs m)
   cut-within m x h = elim (decided (freed m x)) [ yes y ↦ y .0 | no y ↦ absurd (omega (arith, times-unfreed m x y)) ]
 
-  both-within : (m : ℕ) → Within n (members fq ++ cutList n pages s k fs m)
-  both-within m = within-append n (members fq) (cutList n pages s k fs m) (members-within fq (ready .queue-long) (ready .queued)) (cut-within m)
+  both-within : (m : ℕ) → Within n (members fq ++ cutFrames n pages s k fs m)
+  both-within m = within-append n (members fq) (cutFrames n pages s k fs m) (members-within fq (ready .queue-long) (ready .queued)) (cut-within m)
 
-  both-once : (m : ℕ) → Once n (members fq ++ cutList n pages s k fs m)
+  both-once : (m : ℕ) → Once n (members fq ++ cutFrames n pages s k fs m)
   both-once m x h = elim (decided (freed m x)) [
-    | yes y ↦ omega (arith, times-append (members fq) (cutList n pages s k fs m) x, times-freed m x y, ready .unqueued x h (omega (arith, y .1 .0)))
-    | no y ↦ omega (arith, times-append (members fq) (cutList n pages s k fs m) x, times-unfreed m x y, ready .queue-once x h)
+    | yes y ↦ omega (arith, times-append (members fq) (cutFrames n pages s k fs m) x, times-freed m x y, ready .unqueued x h (omega (arith, y .1 .0)))
+    | no y ↦ omega (arith, times-append (members fq) (cutFrames n pages s k fs m) x, times-unfreed m x y, ready .queue-once x h)
   ]
 
   module _ (m : ℕ) (up : k ≤ m) where
@@ -95,20 +96,20 @@ module _ (n pages s k : ℕ) (fs : List Frame) (fq rl : List ℕ) (ready : Cutti
       abbrev f : ℕ
       f = its m
 
-      absent : times (members fq ++ cutList n pages s k fs m) f ≡ 0
-      absent = let g = its-frame m h in omega (arith, times-append (members fq) (cutList n pages s k fs m) f, ready .unqueued f (g .0) (omega (arith, g .1)), times-unfreed m f (λ y. omega (arith, y .1 .1, g .1)))
+      absent : times (members fq ++ cutFrames n pages s k fs m) f ≡ 0
+      absent = let g = its-frame m h in omega (arith, times-append (members fq) (cutFrames n pages s k fs m) f, ready .unqueued f (g .0) (omega (arith, g .1)), times-unfreed m f (λ y. omega (arith, y .1 .1, g .1)))
 
-      pub room : length (members fq ++ cutList n pages s k fs m) < n
-      room = length-lt n (members fq ++ cutList n pages s k fs m) (both-within m) (both-once m) f (its-frame m h .0) absent
+      pub room : length (members fq ++ cutFrames n pages s k fs m) < n
+      room = length-lt n (members fq ++ cutFrames n pages s k fs m) (both-within m) (both-once m) f (its-frame m h .0) absent
 
-      pub cut-more : cutList n pages s k fs (m + 1) ≡ cutList n pages s k fs m ++ f ∷ []
+      pub cut-more : cutFrames n pages s k fs (m + 1) ≡ cutFrames n pages s k fs m ++ f ∷ []
       cut-more = rw (add-one m, those-snoc m passes 0) (map-append its (passed m) (if (passes (0 + m)) ((0 + m) ∷ []) []) ∙ ap (λ (l : List ℕ). map its (passed m) ++ map its l) (one (0 + m) (omega arith)))
         where
           one : (p : ℕ) → p ≡ m → if (passes p) (p ∷ []) [] ≡ m ∷ []
           one p e = rw (e, from-up k m up, told (in-some m) h)
 
     -- .. or in none
-    pub cut-same : ¬ Holds (in-some m) → cutList n pages s k fs (m + 1) ≡ cutList n pages s k fs m
+    pub cut-same : ¬ Holds (in-some m) → cutFrames n pages s k fs (m + 1) ≡ cutFrames n pages s k fs m
     cut-same d = rw (add-one m, those-snoc m passes 0) (map-append its (passed m) (if (passes (0 + m)) ((0 + m) ∷ []) []) ∙ ap (λ (l : List ℕ). map its (passed m) ++ map its l) (none (0 + m) (omega arith)) ∙ append-nil _)
       where
         none : (p : ℕ) → p ≡ m → if (passes p) (p ∷ []) [] ≡ []
@@ -116,28 +117,28 @@ module _ (n pages s k : ℕ) (fs : List Frame) (fq rl : List ℕ) (ready : Cutti
 
   -- ── the removal list ──
   abbrev gone : ℕ → ℕ → Bool
-  gone m x = test (cutUpTo pages s k m (frameAt fs x))
+  gone m x = test (cutFrame pages s k m (frameAt fs x))
 
   in-list : (x : ℕ) → 0 < times (members rl) x → x < n
   in-list = members-within rl (ready .list-long) (ready .listed)
 
   gone-more : (m : ℕ) → k ≤ m → Holds (in-some m) → (x : ℕ) → 0 < times (members rl) x → (gone m x || eqb (its m) x) ≡ gone (m + 1) x
   unfolding test
-  gone-more m up h x t = alike (cutUpTo pages s k m (frameAt fs x) or same (its m) x) (cutUpTo pages s k (m + 1) (frameAt fs x))
+  gone-more m up h x t = alike (cutFrame pages s k m (frameAt fs x) or same (its m) x) (cutFrame pages s k (m + 1) (frameAt fs x))
       (λ y. elim y [ inl a ↦ (a .0, omega (arith, a .1)) | inr e ↦ let q : page x ≡ suc (s * pages + m) = sym (ap page e) ∙ its-frame m h .1 in (omega arith, omega arith) ])
       (λ y. elim (decLt (page x) (suc (s * pages + m))) [ yes a ↦ inl (y .0, a) | no a ↦ inr (its-only m x (in-list x t) (omega (arith, y .1))) ])
 
   gone-same : (m : ℕ) → ¬ Holds (in-some m) → (x : ℕ) → 0 < times (members rl) x → gone m x ≡ gone (m + 1) x
-  gone-same m d x t = alike (cutUpTo pages s k m (frameAt fs x)) (cutUpTo pages s k (m + 1) (frameAt fs x))
+  gone-same m d x t = alike (cutFrame pages s k m (frameAt fs x)) (cutFrame pages s k (m + 1) (frameAt fs x))
       (λ a. (a .0, omega (arith, a .1)))
       (λ y. (y .0, elim (decLt (page x) (suc (s * pages + m))) [ yes a ↦ a | no a ↦ absurd (d (x, in-list x t, omega (arith, y .1))) ]))
 
   gone-none : (x : ℕ) → 0 < times (members rl) x → ¬ (T (gone k x))
-  gone-none x t h = let y = sound (cutUpTo pages s k k (frameAt fs x)) h in omega (arith, y .0, y .1)
+  gone-none x t h = let y = sound (cutFrame pages s k k (frameAt fs x)) h in omega (arith, y .0, y .1)
 
   -- ── the turns below m ──
   pub record CutTurn (m : ℕ) (q r : List ℕ) : Type 0 where
-    pub so-queue : q ≡ packed (length fq) (members fq ++ cutList n pages s k fs m)
+    pub so-queue : q ≡ packed (length fq) (members fq ++ cutFrames n pages s k fs m)
     pub so-list : r ≡ packed (length rl) (without (gone m) (members rl))
 
   pub turn-starts : CutTurn k fq rl
@@ -150,8 +151,8 @@ module _ (n pages s k : ℕ) (fs : List Frame) (fq rl : List ℕ) (ready : Cutti
       none = those-none k passes 0 (λ x a b h. omega (arith, leb→le k x (and-left (leb k x) (test (in-some x)) h)))
 
   module _ {m : ℕ} (up : k ≤ m) {q r : List ℕ} (t : CutTurn m q r) where
-    queue-fits : length (members fq ++ cutList n pages s k fs m) ≤ length fq
-    queue-fits = fits-once fq (ready .queue-long) (members fq ++ cutList n pages s k fs m) (both-within m) (both-once m)
+    queue-fits : length (members fq ++ cutFrames n pages s k fs m) ≤ length fq
+    queue-fits = fits-once fq (ready .queue-long) (members fq ++ cutFrames n pages s k fs m) (both-within m) (both-once m)
 
     list-fits : length (without (gone m) (members rl)) ≤ length rl
     list-fits = omega (arith, length-without (gone m) (members rl), size-members rl, size-le rl)
@@ -159,21 +160,21 @@ module _ (n pages s k : ℕ) (fs : List Frame) (fq rl : List ℕ) (ready : Cutti
     module _ {f' : ℕ} (e : f' ≡ its m) (h : Holds (in-some m)) where
       pub push-asks : (f' < 65535) × Holds (queue (length q) q) × (size q < length q)
       push-asks = (
-        omega (arith, e, its-frame m h .0, ready .most),
-        rw (t .so-queue, length-packed (length fq) (members fq ++ cutList n pages s k fs m), ready .queue-long) (rw (ready .queue-long) at (queue-repacked fq (ready .queue-long) (members fq ++ cutList n pages s k fs m) (both-within m) queue-fits)),
-        rw (t .so-queue, length-packed (length fq) (members fq ++ cutList n pages s k fs m), size-packed (length fq) (members fq ++ cutList n pages s k fs m) queue-fits, ready .queue-long) (room m up h),
+        omega (arith, e, its-frame m h .0, ready .sized .most),
+        rw (t .so-queue, length-packed (length fq) (members fq ++ cutFrames n pages s k fs m), ready .queue-long) (rw (ready .queue-long) at (queue-repacked fq (ready .queue-long) (members fq ++ cutFrames n pages s k fs m) (both-within m) queue-fits)),
+        rw (t .so-queue, length-packed (length fq) (members fq ++ cutFrames n pages s k fs m), size-packed (length fq) (members fq ++ cutFrames n pages s k fs m) queue-fits, ready .queue-long) (room m up h),
       )
 
       pub remove-asks : (f' < 65535) × Holds (queue (length r) r) × (times (members r) f' ≤ 1)
       remove-asks = (
-        omega (arith, e, its-frame m h .0, ready .most),
+        omega (arith, e, its-frame m h .0, ready .sized .most),
         rw (t .so-list, length-packed (length rl) (without (gone m) (members rl)), ready .list-long) (rw (ready .list-long) at (queue-without rl (ready .list-long) (ready .listed) (gone m))),
         rw (t .so-list, members-packed (length rl) (without (gone m) (members rl)) list-fits) (omega (arith, times-without-le (gone m) (members rl) f', ready .list-once f' (omega (arith, e, its-frame m h .0)))),
       )
 
       pub turn-frees : {q' r' : List ℕ} → q' ≡ push-back q f' → r' ≡ remove r f' → CutTurn (m + 1) q' r'
       turn-frees a b = record {
-        so-queue = a ∙ rw (t .so-queue, e) (push-back-more fq (cutList n pages s k fs m) (its m) queue-fits ∙ ap (λ (l : List ℕ). packed (length fq) (members fq ++ l)) (sym (cut-more m up h)));
+        so-queue = a ∙ rw (t .so-queue, e) (push-back-more fq (cutFrames n pages s k fs m) (its m) queue-fits ∙ ap (λ (l : List ℕ). packed (length fq) (members fq ++ l)) (sym (cut-more m up h)));
         so-list = b ∙ rw (t .so-list, e) (remove-packed (length rl) (without (gone m) (members rl)) list-fits (its m) ∙ ap (packed (length rl)) (without-more (gone m) (eqb (its m)) (members rl) ∙ without-alike _ (gone (m + 1)) (members rl) (gone-more m up h)));
       }
 
@@ -184,14 +185,14 @@ module _ (n pages s k : ℕ) (fs : List Frame) (fq rl : List ℕ) (ready : Cutti
     }
 
 -- a page's frame by the table of the slot's frames
-module _ (n pages s k : ℕ) (fs : List Frame) (fq rl : List ℕ) (ready : Cutting n pages s k fs fq rl) {table : List ℕ} (t : ByPage n pages s fs table) (p : ℕ) (b : p < pages) {e : ℕ} (q : e ≡ at table p) where
+module _ (n pages s k : ℕ) (fs : List Frame) (fq rl : List ℕ) (ready : FramesReady n pages s k fs fq rl) {table : List ℕ} (t : ByPage n pages s fs table) (p : ℕ) (b : p < pages) {e : ℕ} (q : e ≡ at table p) where
   module _ (d : ¬ (e ≡ 0)) where
     pub in-entry : Holds (some n λ f. same (frameAt fs f .page) (suc (s * pages + p)))
-    in-entry = let x = t .framed p (e - 1) b (omega (arith, q, d)) in (e - 1, x .0, x .1)
+    in-entry = let x = t .in-one p (e - 1) b (omega (arith, q, d)) in (e - 1, x .0, x .1)
 
     pub its-entry : e - 1 ≡ frameIn n fs (s * pages + p)
     unfolding in-entry
     its-entry = sym (its-only n pages s k fs fq rl ready p (e - 1) (in-entry .1) (in-entry .2))
 
   pub no-entry : e ≡ 0 → ¬ Holds (some n λ f. same (frameAt fs f .page) (suc (s * pages + p)))
-  no-entry z = t .unframed p b (sym q ∙ z)
+  no-entry z = t .in-none p b (sym q ∙ z)

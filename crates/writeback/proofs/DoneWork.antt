@@ -38,6 +38,15 @@ unwritten g = setTransfer NONE (setModified 1 (Writeback.cooled g))
 left-by : {o p : Outcome State} {n : ℕ} {x : Framed} {rs ws fq rl ss : List ℕ} → o ≡ p → DoneLeft p n (x .frames) (x .answer) rs ws fq rl ss → DoneLeft o n (x .frames) (x .answer) rs ws fq rl ss
 left-by {n = n} {x = x} {rs = rs} {ws = ws} {fq = fq} {rl = rl} {ss = ss} e h = subst (λ (o : Outcome State). DoneLeft o n (x .frames) (x .answer) rs ws fq rl ss) (sym e) h
 
+-- what the answers tell of the frame, as the calls after them ask it
+pub record Passed (z : Sizes) (fs : List Frame) (rs ws fq rl ads ss : List ℕ) (f : ℕ) : Type 0 where
+  pub paged : 0 < frameAt fs f .page
+  pub room-queue : (f < 65535) × Holds (queue (length fq) fq) × (size fq < length fq)
+  pub room-list : (f < 65535) × Holds (queue (length rl) rl) × (size rl < length rl)
+  pub part-frame : f * z .words + z .words ≤ length ws
+  pub part-record : (r : ℕ) → r ≡ pred (at ads (pred (frameAt fs f .page))) → r * z .words + z .words ≤ length rs
+  pub moves : (r : ℕ) → r ≡ pred (at ads (pred (frameAt fs f .page))) → (at ss r ≡ NULLED) ⊎ (at ss r ≡ LIVE)
+
 module _ (z : Sizes) (fs : List Frame) (rs ws fq rl ads ss : List ℕ) (f good : ℕ) where
   abbrev st : State
   st = seen z fs rs ws fq rl ads ss
@@ -60,13 +69,13 @@ module _ (z : Sizes) (fs : List Frame) (rs ws fq rl ads ss : List ℕ) (f good :
       asked : Asked (questions z st (pageDone f good))
       asked = all-yes 2 (questions z st (pageDone f good)) tt (sym e ∙ yes)
 
-      pub inside : f < z .frames
+      inside : f < z .frames
       inside = asked .0 .0
 
       same-frame : frameAt (take (z .frames) fs) f ≡ old
       same-frame = frame-take (z .frames) fs f inside
 
-      pub moving : ¬ (frameAt (take (z .frames) fs) f .transfer ≡ NONE)
+      moving : ¬ (frameAt (take (z .frames) fs) f .transfer ≡ NONE)
       moving = asked .1 .0
 
       -- ── what the leaves ask for ──
@@ -77,27 +86,18 @@ module _ (z : Sizes) (fs : List Frame) (rs ws fq rl ads ss : List ℕ) (f good :
         page-is : old .page ≡ suc (held .index)
         page-is = ap (λ (g : Frame). g .page) (sym same-frame) ∙ held .named
 
-        pub paged : 0 < old .page
-        paged = omega (arith, page-is)
-
         item-is : pred (at ads (pred (old .page))) ≡ held .item
         item-is = ap (λ (n : ℕ). pred (at ads (pred n))) page-is ∙ ap pred (held .holds)
 
-        pub room-queue : (f < 65535) × Holds (queue (length fq) fq) × (size fq < length fq)
-        room-queue = (omega (arith, inside, ready .most), rw (ready .queue-long) (ready .queued), omega (arith, held .free-room, ready .queue-long))
-
-        pub room-list : (f < 65535) × Holds (queue (length rl) rl) × (size rl < length rl)
-        room-list = (omega (arith, inside, ready .most), rw (ready .list-long) (ready .listed), omega (arith, held .list-room, ready .list-long))
-
-        pub part-frame : f * z .words + z .words ≤ length ws
-        part-frame = rw (ready .words-long) (part-fits (z .frames) (z .words) f inside)
-
-        module _ {r : ℕ} (found : r ≡ pred (at ads (pred (old .page)))) where
-          pub part-record : r * z .words + z .words ≤ length rs
-          part-record = rw (found ∙ item-is, ready .records-long) (part-fits (z .records) (z .words) (held .item) (held .inside))
-
-          pub moves : (at ss r ≡ NULLED) ⊎ (at ss r ≡ LIVE)
-          moves = rw (found ∙ item-is) (held .moves)
+        pub passed : Passed z fs rs ws fq rl ads ss f
+        passed = record {
+          paged = omega (arith, page-is);
+          room-queue = (omega (arith, inside, ready .most), rw (ready .queue-long) (ready .queued), omega (arith, held .free-room, ready .queue-long));
+          room-list = (omega (arith, inside, ready .most), rw (ready .list-long) (ready .listed), omega (arith, held .list-room, ready .list-long));
+          part-frame = rw (ready .words-long) (part-fits (z .frames) (z .words) f inside);
+          part-record = λ r found. rw (found ∙ item-is, ready .records-long) (part-fits (z .records) (z .words) (held .item) (held .inside));
+          moves = λ r found. rw (found ∙ item-is) (held .moves);
+        }
 
       -- the frames with one stored anew, as the model has them
       stored : (g h : Frame) → g ≡ h → {x : Framed} → x ≡ answered (set fs f g) 0 0 → take (z .frames) (x .frames) ≡ set (take (z .frames) fs) f h

@@ -8,7 +8,7 @@ use native.Mathlib.Omega.{arith}
 use lib.Dec.{leb}
 use lib.ListN.{length, take, set, length-take}
 use lib.Seq.{ext-getD}
-use Rattle.tables.specs.Base.{at, if, count, those, tab}
+use Rattle.tables.specs.Base.{at, if, those, tab}
 use Rattle.tables.specs.Laws.{at-tab0, length-tab, count-same, if-true, if-false}
 use Rattle.tables.specs.Queue.{members, packed, without}
 use Rattle.tables.specs.QueueLaws.{members-within}
@@ -21,7 +21,8 @@ use Rattle.model.specs.declared.sizes.Sizes.{Sizes}
 use Rattle.model.specs.declared.frame.Frame.{Frame}
 use Rattle.model.specs.declared.applied.Framed.{Framed}
 use Rattle.model.specs.Lines.{RELEASED}
-use Rattle.model.specs.State.{State, frames, frameAt, noFrame, pageOf, allPages, framed, charged, payer}
+use Rattle.model.specs.State.{State, frames, frameAt, noFrame, pageOf, allPages, payer}
+use Rattle.model.specs.State as Model
 use Rattle.model.specs.Setters.{counted}
 use Rattle.model.specs.Parts.{fromPage}
 use Rattle.model.specs.Questions.{questions}
@@ -31,7 +32,8 @@ use Rattle.model.specs.Own.{own, completed}
 use Rattle.leaves.specs.FrameLaws.{frame-take, frame-found}
 use Rattle.leaves.specs.Released.{Releasing}
 use Rattle.model.specs.OwnLaws.{own-yes, own-no}
-use Rattle.writeback.specs.Truncate.{truncate, quiet, allQuiet, chargedPage, number, cutUpTo, frameIn, cutList, Cutting, seen, usedThen, TruncateReady, TruncateLeft}
+use Rattle.writeback.specs.Pages.{framed, frameIn, charged}
+use Rattle.writeback.specs.Truncate.{truncate, quiet, allQuiet, chargesFrom, cutFrame, cutFrames, CutReady, FramesReady, seen, usedThen, TruncateReady, TruncateLeft}
 use Rattle.writeback.proofs.CutFrames.{without-alike}
 use Rattle.writeback.proofs.DoneWork.{answered}
 use Rattle.tables.specs.StoreLoops.{part-fits}
@@ -50,13 +52,21 @@ module _ (n : ℕ) (fs : List Frame) where
   pub model-quiet : (w pages s k : ℕ) → Holds (allQuiet w n pages s k (take n fs)) → Holds (allQuiet w n pages s k fs)
   model-quiet w pages s k h p b d f c e = subst (λ (g : Frame). Holds (quiet w g)) (frame-take n fs f c) (h p b d f c (sym (same-page f c) ∙ e))
 
-  framed-alike : (i : ℕ) → test (some n λ f. same (frameAt fs f .page) (suc i)) ≡ test (some n λ f. same (frameAt (take n fs) f .page) (suc i))
-  framed-alike i = alike (some n λ f. same (frameAt fs f .page) (suc i)) (some n λ f. same (frameAt (take n fs) f .page) (suc i)) (λ h. (h .0, h .1, sym (same-page (h .0) (h .1)) ∙ h .2)) (λ h. (h .0, h .1, same-page (h .0) (h .1) ∙ h .2))
+  framed-alike : (i : ℕ) → test (framed n fs i) ≡ test (framed n (take n fs) i)
+  framed-alike i = alike (framed n fs i) (framed n (take n fs) i) (λ h. (h .0, h .1, sym (same-page (h .0) (h .1)) ∙ h .2)) (λ h. (h .0, h .1, same-page (h .0) (h .1) ∙ h .2))
 
-  charged-alike : (ds ss : List ℕ) (i : ℕ) → test (chargedPage n fs ds ss i) ≡ test (chargedPage n (take n fs) ds ss i)
-  charged-alike ds ss i = alike (chargedPage n fs ds ss i) (chargedPage n (take n fs) ds ss i)
+  charged-alike : (ds ss : List ℕ) (i : ℕ) → test (charged n fs ds ss i) ≡ test (charged n (take n fs) ds ss i)
+  charged-alike ds ss i = alike (charged n fs ds ss i) (charged n (take n fs) ds ss i)
       (λ h. elim h [ inl l ↦ inl l | inr q ↦ inr (q .0, q .1, sym (same-page (q .0) (q .1)) ∙ q .2) ])
       (λ h. elim h [ inl l ↦ inl l | inr q ↦ inr (q .0, q .1, same-page (q .0) (q .1) ∙ q .2) ])
+
+-- what the answers tell, as the passes ask it
+pub record Passed (z : Sizes) (fs : List Frame) (ac fq rl ds ss us : List ℕ) (s k : ℕ) : Type 0 where
+  pub sized : CutReady (z .frames) (z .pages) s k
+  pub addresses-fit : s * z .pages + z .pages ≤ length ds
+  pub frames-ready : FramesReady (z .frames) (z .pages) s k fs fq rl
+  pub releasing : Releasing z s k ss ds
+  pub pays : (m : ℕ) → m ≡ chargesFrom (z .frames) (z .pages) s k fs ds ss → m ≤ at us (at ac s)
 
 module _ (z : Sizes) (fs : List Frame) (ns ac fq rl ds ss act us : List ℕ) (s k : ℕ) where
   abbrev st : State
@@ -91,24 +101,21 @@ module _ (z : Sizes) (fs : List Frame) (ns ac fq rl ds ss act us : List ℕ) (s 
       asked : Asked (questions z st (truncate s k))
       asked = all-yes 2 (questions z st (truncate s k)) tt (sym e ∙ yes)
 
-      pub inside : s < z .slots
+      inside : s < z .slots
       inside = asked .0 .0
 
-      pub from : k ≤ z .pages
+      from : k ≤ z .pages
       from = omega (arith, asked .0 .1)
 
-      pub small : s < 65
-      small = omega (arith, inside, ready .slots-most)
+      sized : CutReady (z .frames) (z .pages) s k
+      sized = record { most = ready .most; pages-most = ready .pages-most; slots-most = omega (arith, inside, ready .slots-most); from = from }
 
-      pub addresses-fit : s * z .pages + z .pages ≤ length ds
+      addresses-fit : s * z .pages + z .pages ≤ length ds
       addresses-fit = rw (ready .addresses-long) (part-fits (z .slots) (z .pages) s inside)
 
-      pub cutting : Cutting (z .frames) (z .pages) s k fs fq rl
-      cutting = record {
-        most = ready .most;
-        pages-most = ready .pages-most;
-        slots-most = small;
-        from = from;
+      frames-ready : FramesReady (z .frames) (z .pages) s k fs fq rl
+      frames-ready = record {
+        sized = sized;
         queue-long = ready .queue-long;
         list-long = ready .list-long;
         queued = ready .queued;
@@ -119,7 +126,7 @@ module _ (z : Sizes) (fs : List Frame) (ns ac fq rl ds ss act us : List ℕ) (s 
         framed-once = λ f g h i b q. ready .framed-once f g h i (rw (same-page (z .frames) fs f h) at b) (sym (same-page (z .frames) fs g i) ∙ q ∙ same-page (z .frames) fs f h);
       }
 
-      pub releasing : Releasing z s k ss ds
+      releasing : Releasing z s k ss ds
       releasing = record {
         pages-some = ready .pages-some;
         from = from;
@@ -130,23 +137,29 @@ module _ (z : Sizes) (fs : List Frame) (ns ac fq rl ds ss act us : List ℕ) (s 
       }
 
       -- the charges counted
-      charges-are : count (z .pages) (λ p. leb k p && test (chargedPage (z .frames) fs ds ss (s * z .pages + p))) ≡ count (z .pages) (λ p. leb k p && test (chargedPage (z .frames) (take (z .frames) fs) ds ss (s * z .pages + p)))
+      charges-are : chargesFrom (z .frames) (z .pages) s k fs ds ss ≡ chargesFrom (z .frames) (z .pages) s k (take (z .frames) fs) ds ss
       charges-are = count-same (z .pages) _ _ (λ p h. ap (λ (b : Bool). leb k p && b) (charged-alike (z .frames) fs ds ss (s * z .pages + p)))
 
-      pub pays : {m : ℕ} → m ≡ number (z .pages) (λ p. leb k p && test (chargedPage (z .frames) fs ds ss (s * z .pages + p))) → m ≤ at us (at ac s)
-      pays q = rw (q ∙ charges-are) (ready .pays s k inside)
+      pub passed : Passed z fs ac fq rl ds ss us s k
+      passed = record {
+        sized = sized;
+        addresses-fit = addresses-fit;
+        frames-ready = frames-ready;
+        releasing = releasing;
+        pays = λ m q. rw (q ∙ charges-are) (ready .pays s k inside);
+      }
 
       -- a frame is cut off
-      to-cut : (f : ℕ) → f < z .frames → Holds (cutUpTo (z .pages) s k (z .pages) (frameAt fs f)) → Holds (Writeback.cutFrame z st s k f)
+      to-cut : (f : ℕ) → f < z .frames → Holds (cutFrame (z .pages) s k (z .pages) (frameAt fs f)) → Holds (Writeback.cutFrame z st s k f)
       to-cut f h y = let p = frameAt fs f .page - 1 in (p, sym (same-page (z .frames) fs f h) ∙ omega (arith, y .0), inside-from (z .pages) s (ready .pages-some) k p (λ l. omega (arith, y .0), omega (arith, y .0, y .1)))
 
-      from-cut : (f : ℕ) → f < z .frames → Holds (Writeback.cutFrame z st s k f) → Holds (cutUpTo (z .pages) s k (z .pages) (frameAt fs f))
+      from-cut : (f : ℕ) → f < z .frames → Holds (Writeback.cutFrame z st s k f) → Holds (cutFrame (z .pages) s k (z .pages) (frameAt fs f))
       from-cut f h y = let b = from-inside (z .pages) s (ready .pages-some) k (y .0) (y .2) in let q : frameAt fs f .page ≡ suc (y .0) = same-page (z .frames) fs f h ∙ y .1 in (omega (arith, b .0), omega (arith, b .1))
 
-      cut-alike : (f : ℕ) → f < z .frames → test (cutUpTo (z .pages) s k (z .pages) (frameAt fs f)) ≡ test (Writeback.cutFrame z st s k f)
-      cut-alike f h = alike (cutUpTo (z .pages) s k (z .pages) (frameAt fs f)) (Writeback.cutFrame z st s k f) (to-cut f h) (from-cut f h)
+      cut-alike : (f : ℕ) → f < z .frames → test (cutFrame (z .pages) s k (z .pages) (frameAt fs f)) ≡ test (Writeback.cutFrame z st s k f)
+      cut-alike f h = alike (cutFrame (z .pages) s k (z .pages) (frameAt fs f)) (Writeback.cutFrame z st s k f) (to-cut f h) (from-cut f h)
 
-      frames-are : (gs : List Frame) → length fs ≡ 64 → length gs ≡ length fs → ((f : ℕ) → f < z .frames → Split (Holds (cutUpTo (z .pages) s k (z .pages) (frameAt fs f))) (frameAt gs f) noFrame (frameAt fs f))
+      frames-are : (gs : List Frame) → length fs ≡ 64 → length gs ≡ length fs → ((f : ℕ) → f < z .frames → Split (Holds (cutFrame (z .pages) s k (z .pages) (frameAt fs f))) (frameAt gs f) noFrame (frameAt fs f))
           → take (z .frames) gs ≡ tab (length (take (z .frames) fs)) (λ f. if (test (Writeback.cutFrame z st s k f)) noFrame (frameAt (take (z .frames) fs) f)) 0
       frames-are gs l m t = ext-getD noFrame (take (z .frames) gs) (tab (length (take (z .frames) fs)) then 0) (long gs m ∙ sym (length-tab (length (take (z .frames) fs)) then 0 ∙ long fs refl))
           (λ f h. let b : f < z .frames = omega (arith, long gs m) in frame-take (z .frames) gs f b ∙ elim (t f b) [
@@ -160,23 +173,23 @@ module _ (z : Sizes) (fs : List Frame) (ns ac fq rl ds ss act us : List ℕ) (s 
           long : (xs : List Frame) → length xs ≡ length fs → length (take (z .frames) xs) ≡ z .frames
           long xs q = simp length-take (omega (arith, q, l, ready .most))
 
-      queue-is : cutList (z .frames) (z .pages) s k fs (z .pages) ≡ Writeback.cutFrames z st s k
+      queue-is : cutFrames (z .frames) (z .pages) s k fs (z .pages) ≡ Writeback.cutFrames z st s k
       unfolding Writeback.cutFrames
       queue-is = ap (map (λ p. frameIn (z .frames) fs (s * z .pages + p))) (those-same (z .pages) _ _ 0 (λ p a b. ap (λ (t : Bool). leb k p && t) (framed-alike (z .frames) fs (s * z .pages + p))))
-          ∙ ap (λ (g : ℕ → ℕ). map g (those (z .pages) (λ p. leb k p && test (framed z (frames st) (pageOf z s p))) 0)) (λ j p. frame-found z (frames st) fs (pageOf z s p) (λ f h. frame-take (z .frames) fs f h) j)
+          ∙ ap (λ (g : ℕ → ℕ). map g (those (z .pages) (λ p. leb k p && test (Model.framed z (frames st) (pageOf z s p))) 0)) (λ j p. frame-found z (frames st) fs (pageOf z s p) (λ f h. frame-take (z .frames) fs f h) j)
 
-      list-is : without (λ f. test (cutUpTo (z .pages) s k (z .pages) (frameAt fs f))) (members rl) ≡ without (λ f. test (Writeback.cutFrame z st s k f)) (members rl)
+      list-is : without (λ f. test (cutFrame (z .pages) s k (z .pages) (frameAt fs f))) (members rl) ≡ without (λ f. test (Writeback.cutFrame z st s k f)) (members rl)
       list-is = without-alike _ _ (members rl) (λ f h. cut-alike f (members-within rl (ready .list-long) (ready .listed) f h))
 
-      used-is : {m : ℕ} → m ≡ number (z .pages) (λ p. leb k p && test (chargedPage (z .frames) fs ds ss (s * z .pages + p))) → set us (at ac s) (at us (at ac s) - m) ≡ usedThen z st s k
-      unfolding usedThen payer charged
+      used-is : {m : ℕ} → m ≡ chargesFrom (z .frames) (z .pages) s k fs ds ss → set us (at ac s) (at us (at ac s) - m) ≡ usedThen z st s k
+      unfolding usedThen payer Model.charged
       used-is q = ap (λ (m : ℕ). set us (at ac s) (at us (at ac s) - m)) (q ∙ charges-are)
 
-      pub cut-off : {m : ℕ} {gs : List Frame} {fq' rl' ds' ss' us' : List ℕ} {x : Framed} → length fs ≡ 64 → m ≡ number (z .pages) (λ p. leb k p && test (chargedPage (z .frames) fs ds ss (s * z .pages + p)))
-          → us' ≡ set us (at ac s) (at us (at ac s) - m) → fq' ≡ packed (length fq) (members fq ++ cutList (z .frames) (z .pages) s k fs (z .pages))
-          → rl' ≡ packed (length rl) (without (λ f. test (cutUpTo (z .pages) s k (z .pages) (frameAt fs f))) (members rl))
+      pub cut-off : {m : ℕ} {gs : List Frame} {fq' rl' ds' ss' us' : List ℕ} {x : Framed} → length fs ≡ 64 → m ≡ chargesFrom (z .frames) (z .pages) s k fs ds ss
+          → us' ≡ set us (at ac s) (at us (at ac s) - m) → fq' ≡ packed (length fq) (members fq ++ cutFrames (z .frames) (z .pages) s k fs (z .pages))
+          → rl' ≡ packed (length rl) (without (λ f. test (cutFrame (z .pages) s k (z .pages) (frameAt fs f))) (members rl))
           → ss' ≡ store ss (λ r. some (allPages z) λ i. fromPage z s k i and same (at ds i) (suc r)) (λ r. RELEASED) → ds' ≡ store ds (fromPage z s k) (λ i. 0)
-          → (length gs ≡ length fs) × ((f : ℕ) → f < z .frames → Split (Holds (cutUpTo (z .pages) s k (z .pages) (frameAt fs f))) (frameAt gs f) noFrame (frameAt fs f))
+          → (length gs ≡ length fs) × ((f : ℕ) → f < z .frames → Split (Holds (cutFrame (z .pages) s k (z .pages) (frameAt fs f))) (frameAt gs f) noFrame (frameAt fs f))
           → x ≡ answered gs 0 0 → Left x fq' rl' ds' ss' us'
       unfolding carried result Writeback.truncate counted
       cut-off {gs = gs} l q u a b c d g y = record {

@@ -24,7 +24,7 @@ use Rattle.model.specs.Own.{own}
 use Rattle.leaves.specs.FrameLaws.{frame-take}
 use Rattle.model.specs.OwnLaws.{own-yes, own-no}
 use Rattle.leaves.specs.Addresses.{liveAddress}
-use Rattle.writeback.specs.Update.{update, seen, leavesSlot, Leaving, UpdateReady, UpdateLeft}
+use Rattle.writeback.specs.Update.{update, seen, leavingPage, PagesReady, UpdateReady, UpdateLeft}
 use Rattle.tables.specs.StoreLoops.{part-fits}
 use Rattle.writeback.proofs.Named.{fits}
 
@@ -42,15 +42,15 @@ module _ (z : Sizes) (fs : List Frame) (ns ds ss os ac us is : List ℕ) (s : �
   left-by {n = n} {ds' = ds'} {ss' = ss'} {us' = us'} {is' = is'} e h = subst (λ (o : Outcome State). UpdateLeft o (answer n) ds' ss' us' is') (sym e) h
 
   -- the code's frames and the model's
-  to-model : (i : ℕ) → Holds (leavesSlot z fs ds ss s i) → Holds (Writeback.leavingPage z st s i)
+  to-model : (i : ℕ) → Holds (leavingPage z fs ds ss s i) → Holds (Writeback.leavingPage z st s i)
   to-model i h = (h .0, (h .1 .0, λ k. h .1 .1 (k .0, k .1, ap (λ (g : Frame). g .page) (sym (frame-take (z .frames) fs (k .0) (k .1))) ∙ k .2)))
 
-  from-model : (i : ℕ) → Holds (Writeback.leavingPage z st s i) → Holds (leavesSlot z fs ds ss s i)
+  from-model : (i : ℕ) → Holds (Writeback.leavingPage z st s i) → Holds (leavingPage z fs ds ss s i)
   from-model i h = (h .0, (h .1 .0, λ k. h .1 .1 (k .0, k .1, ap (λ (g : Frame). g .page) (frame-take (z .frames) fs (k .0) (k .1)) ∙ k .2)))
 
   -- the records of those pages
   abbrev paged : ℕ → Rule
-  paged r = some (length ds) λ i. leavesSlot z fs ds ss s i and same (at ds i) (suc r)
+  paged r = some (length ds) λ i. leavingPage z fs ds ss s i and same (at ds i) (suc r)
 
   abbrev marked : List ℕ
   marked = store ss paged (λ r. LEAVING)
@@ -69,8 +69,8 @@ module _ (z : Sizes) (fs : List Frame) (ns ds ss os ac us is : List ℕ) (s : �
       pub images-fit : s * z .pages + z .pages ≤ length is
       images-fit = rw (ready .images-long) (part-fits (z .slots) (z .pages) s inside)
 
-      pub leaving : Leaving z s ds ss
-      leaving = record {
+      pub pages-ready : PagesReady z s ds ss
+      pages-ready = record {
         frames-most = ready .frames-most;
         pages-some = ready .pages-some;
         long = rw (ready .addresses-long) (part-fits (z .slots) (z .pages) s inside);
@@ -87,12 +87,12 @@ module _ (z : Sizes) (fs : List Frame) (ns ds ss os ac us is : List ℕ) (s : �
       from r h (inl x) = inl (x .0, rw (ready .addresses-long) at (x .1), (to-model (x .0) (x .2 .0), x .2 .1))
       from r h (inr x) = elim (at-store ss paged (λ k. LEAVING) r h) [ inl y ↦ absurd (omega (arith, x .0, y .1)) | inr y ↦ inr (x .1, sym (y .1) ∙ x .0) ]
 
-      pub updated : {ds' ss₁ ss' us' is' : List ℕ} → us' ≡ set us s 1 → is' ≡ store is (λ i. same (i / z .pages) s) (liveAddress ds ss) → ds' ≡ store ds (leavesSlot z fs ds ss s) (λ i. 0)
+      pub updated : {ds' ss₁ ss' us' is' : List ℕ} → us' ≡ set us s 1 → is' ≡ store is (λ i. same (i / z .pages) s) (liveAddress ds ss) → ds' ≡ store ds (leavingPage z fs ds ss s) (λ i. 0)
           → ss₁ ≡ marked → ss' ≡ store ss₁ (λ r. same (at ss₁ r) RELEASED and same (at os r) s) (λ r. LEAVING) → Left 0 ds' ss' us' is'
       unfolding carried result Writeback.update wouldStore counted
       updated a b c d f = left-by (sym (own-yes z st (update s) _ e yes)) (record {
         answer = refl;
-        addresses = c ∙ store-same ds (leavesSlot z fs ds ss s) (Writeback.leavingPage z st s) (λ i. 0) (λ i. 0) (λ i h k. to-model i k) (λ i h k. from-model i k) (λ i h k. refl);
+        addresses = c ∙ store-same ds (leavingPage z fs ds ss s) (Writeback.leavingPage z st s) (λ i. 0) (λ i. 0) (λ i h k. to-model i k) (λ i h k. from-model i k) (λ i h k. refl);
         states = f ∙ ap (λ (l : List ℕ). store l (λ r. same (at l r) RELEASED and same (at os r) s) (λ r. LEAVING)) d ∙ store-or ss paged released (Writeback.leavingRecord z st s) (λ r. LEAVING) to from;
         updating = a;
         images = b;

@@ -1,7 +1,7 @@
 -- Claim: the tables that it reads, what they keep when it is asked, and what it leaves.
 use mathlib.Core.Path.{_≡_}
 use mathlib.Core.Bool.{_||_}
-use mathlib.Core.List.{List, []}
+use mathlib.Core.List.{List}
 use mathlib.Core.Logic.{_⊎_}
 use Prim.Native.Nat.{ℕ, suc, _-_, _*_, _<_, pred}
 use lib.Dec.{eqb}
@@ -12,6 +12,7 @@ use Rattle.tables.specs.Questions.{firstNo}
 use Rattle.tables.specs.Rule.{Holds}
 use Rattle.model.specs.declared.sizes.Sizes.{Sizes}
 use Rattle.model.specs.declared.frame.Frame.{Frame}
+use Rattle.model.specs.declared.applied.Framed.{Framed}
 use Rattle.model.specs.declared.event.Answer.{Answer}
 use Rattle.model.specs.declared.event.Event.{Event}
 use Rattle.model.specs.declared.event.Event.the-variants as Event
@@ -22,7 +23,9 @@ use Rattle.model.specs.Questions.{questions}
 use Rattle.model.specs.Writeback.{look, looking, beginsWrite, recordIn}
 use Rattle.model.specs.Step.{outcome}
 use Rattle.model.specs.Own.{own}
-use Rattle.model.specs.Lent.{stateOf, noPool}
+use Rattle.model.specs.Setters.{onDisk, onCore, onHeld, setAccounts, setFrames, setWords, setFreeQueue, setRemovalList, setAddresses, setStates, setUsed}
+use Rattle.model.specs.Lent.{Ref, Table}
+use Rattle.writeback.specs.Nothing.{noState}
 
 abbrev pub claim : Event
 claim = Event.Writeback Claim
@@ -30,7 +33,9 @@ claim = Event.Writeback Claim
 -- the tables that claim reads; no definition of it looks at the others
 abbrev pub seen : Sizes → List Frame → List ℕ → List ℕ → List ℕ → List ℕ → List ℕ → List ℕ → List ℕ → State
 seen z fs accounts words free-queue removal-list addresses states used =
-    stateOf (take (z .frames) fs) noPool [] [] accounts [] [] words free-queue removal-list addresses states [] [] [] [] [] used
+    onDisk (setAccounts accounts)
+    (onCore (λ c. setFrames (take (z .frames) fs) (setWords words (setFreeQueue free-queue (setRemovalList removal-list c))))
+    (onHeld (λ h. setAddresses addresses (setStates states h)) (setUsed used noState)))
 
 -- who pays for the page in a frame
 abbrev pub payerOf : Sizes → State → ℕ → ℕ
@@ -80,3 +85,14 @@ pub record ClaimLeft (z : Sizes) (st : State) (fs : List Frame) (a : Answer) (fq
   pub removal-list : rl ≡ own z st claim .left .memory .core .removal-list
   pub states : ss ≡ own z st claim .left .memory .held .states
   pub used : us ≡ outcome (firstNo (questions z st claim)) 0 (st .memory .used) (usedThen z st) .left
+
+-- ── by bare names: what the contract says ──
+abbrev pub Given : Sizes → List Frame → Ref → Ref → Ref → Ref → Ref → Ref → Ref → Type 0
+Given z fs accounts words free-queue removal-list addresses states used =
+    ClaimReady z (take (z .frames) fs) (accounts .now) (words .now) (free-queue .now) (removal-list .now) (addresses .now) (states .now) (used .now)
+
+abbrev pub Left : Sizes → List Frame → Table → Table → Table → Table → Table → Table → Table → Framed → Type 0
+Left z fs accounts words free-queue removal-list addresses states used r =
+    ClaimLeft z
+    (seen z fs (accounts .entry .now) (words .entry .now) (free-queue .entry .now) (removal-list .entry .now) (addresses .entry .now) (states .entry .now) (used .entry .now))
+    (r .frames) (r .answer) (free-queue .exit .now) (removal-list .exit .now) (states .exit .now) (used .exit .now)

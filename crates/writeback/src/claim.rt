@@ -4,20 +4,20 @@ ghost use mathlib.Core.Bool.{false, not};
 ghost use mathlib.Core.Logic.{_⊎_};
 ghost use Prim.Native.Nat.{_+_, _-_, _*_, _/_, _<_, _≤_};
 ghost use lib.Dec.{eqb};
-ghost use lib.ListN.{length, take, set};
+ghost use lib.ListN.{length, set};
 ghost use Rattle.tables.specs.Base.{at, all, if};
 ghost use Rattle.tables.specs.Queue.{queue, size};
 ghost use Rattle.tables.specs.Rule.{Holds};
 ghost use Rattle.model.specs.Lines.{NULLED, LIVE};
 ghost use Rattle.model.specs.Writeback.{warm};
-ghost use Rattle.writeback.specs.Claim.{seen, LooksLeft, ClaimReady, ClaimLeft};
+ghost use Rattle.writeback.specs.Claim.{LooksLeft, Given, Left};
+use crate::charges::uncharge;
 use crate::names::named;
 use crate::names::record_of;
 use crate::switches::cool;
 use crate::switches::writing;
 use leaves::cells::at8;
 use leaves::cells::at16;
-use leaves::cells::put16;
 use leaves::frames::frame_at;
 use leaves::frames::with_frame;
 use leaves::queue::first;
@@ -96,13 +96,12 @@ fn make_nulled(states: &mut [u8], r: usize, modified: u8)
 }
 
 // One charge less for the slot's account where the record is nulled.
-fn uncharge(used: &mut [u16], states: &[u8], r: usize, accounts: &[u16], slot: usize)
+fn uncharge_nulled(used: &mut [u16], states: &[u8], r: usize, accounts: &[u16], slot: usize)
     requires { ⌜ 0 < at (now used) (at (now accounts) slot) ⌝ }
     ensures { λ _. ⌜ now (used .exit) ≡ if (eqb (at (now (states .entry)) r) NULLED) (set (now (used .entry)) (at (now (accounts .entry)) slot) (at (now (used .entry)) (at (now (accounts .entry)) slot) - 1)) (now (used .entry)) ⌝ }
 {
     if at8(states, r) == NULLED {
-        let q = at16(accounts, slot) as usize;
-        put16(used, q, at16(used, q) - 1);
+        uncharge(used, accounts, slot, 1);
     }
 }
 
@@ -117,8 +116,8 @@ pub fn claim(
     states: &mut [u8],
     used: &mut [u16],
 ) -> Framed
-    requires { ⌜ ClaimReady sizes (take (sizes .frames) frames) (now accounts) (now words) (now «free_queue») (now «removal_list») (now addresses) (now states) (now used) ⌝ }
-    ensures { λ r. ⌜ ClaimLeft sizes (seen sizes frames (now (accounts .entry)) (now (words .entry)) (now («free_queue» .entry)) (now («removal_list» .entry)) (now (addresses .entry)) (now (states .entry)) (now (used .entry))) (r .frames) (r .answer) (now («free_queue» .exit)) (now («removal_list» .exit)) (now (states .exit)) (now (used .exit)) ⌝ }
+    requires { ⌜ Given sizes frames accounts words «free_queue» «removal_list» addresses states used ⌝ }
+    ensures { λ r. ⌜ Left sizes frames accounts words «free_queue» «removal_list» addresses states used r ⌝ }
 {
     if at16(removal_list, 0) == 0 {
         return answered(frames, 21, 0);
@@ -137,7 +136,7 @@ pub fn claim(
     }
     let r = record_of(addresses, old.page);
     make_nulled(states, r, old.modified);
-    uncharge(used, states, r, accounts, named(old.page) / sizes.pages);
+    uncharge_nulled(used, states, r, accounts, named(old.page) / sizes.pages);
     push_back(free_queue, f);
     answered(with_frame(kept, f, no_frame()), 0, looked.looks)
 }

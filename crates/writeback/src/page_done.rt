@@ -1,13 +1,12 @@
 // Page done: a frame's read or write has ended, good or failed.
 ghost use mathlib.Core.Path.{_≡_};
-ghost use lib.ListN.{set, take};
+ghost use lib.ListN.{set};
 ghost use mathlib.Core.Logic.{_⊎_};
 ghost use Rattle.tables.specs.Base.{at};
 ghost use Rattle.tables.specs.Questions.{firstNo};
 ghost use Rattle.model.specs.Lines.{NULLED, LIVE};
 ghost use Rattle.model.specs.Questions.{questions};
-ghost use Rattle.model.specs.Own.{own};
-ghost use Rattle.writeback.specs.Done.{pageDone, asked, seen, DoneReady, DoneLeft};
+ghost use Rattle.writeback.specs.Done.{pageDone, asked, Given, Left};
 use crate::names::record_of;
 use crate::switches::served;
 use crate::switches::unwritten;
@@ -67,8 +66,8 @@ pub fn page_done(
     addresses: &[u16],
     states: &mut [u8],
 ) -> Framed
-    requires { ⌜ DoneReady sizes (take (sizes .frames) frames) (now records) (now words) (now «free_queue») (now «removal_list») (now addresses) (now states) ⌝ }
-    ensures { λ r. ⌜ DoneLeft (own sizes (seen sizes frames (now (records .entry)) (now (words .entry)) (now («free_queue» .entry)) (now («removal_list» .entry)) (now (addresses .entry)) (now (states .entry))) (pageDone frame good)) (sizes .frames) (r .frames) (r .answer) (now (records .exit)) (now (words .exit)) (now («free_queue» .exit)) (now («removal_list» .exit)) (now (states .exit)) ⌝ }
+    requires { ⌜ Given sizes frames records words «free_queue» «removal_list» addresses states ⌝ }
+    ensures { λ r. ⌜ Left sizes frame good frames records words «free_queue» «removal_list» addresses states r ⌝ }
 {
     let refusal = ask_done(sizes, frame, good, frames);
     if refusal != 0 {

@@ -1,26 +1,20 @@
 // Truncate: the pages of a slot from page k up become zeros.
 ghost use mathlib.Core.Path.{_≡_};
-ghost use mathlib.Core.Bool.{_&&_};
-ghost use mathlib.Core.List.{_++_};
-ghost use lib.ListN.{length, take, set};
-ghost use Rattle.tables.specs.Queue.{members, packed, without};
-ghost use Prim.Native.Nat.{ℕ, _+_, _-_, _*_, _<_, _≤_};
+ghost use Prim.Native.Nat.{ℕ, _<_};
+ghost use lib.ListN.{length};
 ghost use Rattle.tables.specs.Questions.{firstNo};
-ghost use Rattle.model.specs.Questions.{questions};
-ghost use lib.Dec.{leb};
-ghost use Rattle.tables.specs.Base.{at};
-ghost use Rattle.writeback.specs.ByPage.{chargedEntry};
-ghost use Rattle.writeback.specs.Truncate.{number};
 ghost use Rattle.tables.specs.Rule.{Holds, test};
 ghost use Rattle.tables.specs.Store.{Split};
 ghost use Rattle.model.specs.State.{frameAt, noFrame};
-ghost use Rattle.writeback.specs.Truncate.{quiet, allQuiet, chargedPage, cutUpTo, cutList, Cutting, truncate, asked, seen, TruncateReady, TruncateLeft};
+ghost use Rattle.model.specs.Questions.{questions};
+ghost use Rattle.writeback.specs.ByPage.{chargedEntry};
+ghost use Rattle.writeback.specs.Truncate.{quiet, allQuiet, chargesFrom, cutFrame, CutReady, FramesReady, FramesLeft, truncate, asked, Given, Left};
 use crate::by_page::by_page;
 use crate::by_page::wide;
+use crate::charges::uncharge;
 use leaves::cells::at8;
 use leaves::cells::at16;
 use leaves::cells::at32;
-use leaves::cells::put16;
 use leaves::queue::push_back;
 use leaves::queue::remove;
 use leaves::slots::clear_from;
@@ -52,7 +46,7 @@ fn all_quiet(
     k: usize,
     frames: [Frame; 64],
 ) -> bool
-    requires { ⌜ (count < 65) × (pages < 257) × (slot < 65) × (k ≤ pages) ⌝ }
+    requires { ⌜ CutReady count pages slot k ⌝ }
     ensures { λ r. ⌜ r ≡ test (allQuiet which count pages slot k frames) ⌝ }
 {
     let start = slot * pages;
@@ -96,8 +90,8 @@ fn charges(
     addresses: &[u16],
     states: &[u8],
 ) -> usize
-    requires { ⌜ (count < 65) × (pages < 257) × (slot < 65) × (k ≤ pages) ⌝ }
-    ensures { λ r. ⌜ r ≡ number pages (λ p. leb k p && test (chargedPage count frames (now (addresses .entry)) (now (states .entry)) (slot * pages + p))) ⌝ }
+    requires { ⌜ CutReady count pages slot k ⌝ }
+    ensures { λ r. ⌜ r ≡ chargesFrom count pages slot k frames (now (addresses .entry)) (now (states .entry)) ⌝ }
 {
     let start = slot * pages;
     let entries = by_page(count, pages, slot, frames, [0; 256]);
@@ -120,8 +114,8 @@ fn clear_frames(
     k: usize,
     frames: [Frame; 64],
 ) -> [Frame; 64]
-    requires { ⌜ (count < 65) × (pages < 257) × (slot < 65) × (k ≤ pages) ⌝ }
-    ensures { λ r. ⌜ (length r ≡ length frames) × ((f : ℕ) → f < count → Split (Holds (cutUpTo pages slot k pages (frameAt frames f))) (frameAt r f) noFrame (frameAt frames f)) ⌝ }
+    requires { ⌜ CutReady count pages slot k ⌝ }
+    ensures { λ r. ⌜ (length r ≡ length frames) × ((f : ℕ) → f < count → Split (Holds (cutFrame pages slot k pages (frameAt frames f))) (frameAt r f) noFrame (frameAt frames f)) ⌝ }
 {
     let start = slot * pages;
     let mut kept = frames;
@@ -149,8 +143,8 @@ fn free_frames(
     free_queue: &mut [u16],
     removal_list: &mut [u16],
 )
-    requires { ⌜ Cutting count pages slot k frames (now «free_queue») (now «removal_list») ⌝ }
-    ensures { λ _. ⌜ (now («free_queue» .exit) ≡ packed (length (now («free_queue» .entry))) (members (now («free_queue» .entry)) ++ cutList count pages slot k frames pages)) × (now («removal_list» .exit) ≡ packed (length (now («removal_list» .entry))) (without (λ f. test (cutUpTo pages slot k pages (frameAt frames f))) (members (now («removal_list» .entry))))) ⌝ }
+    requires { ⌜ FramesReady count pages slot k frames (now «free_queue») (now «removal_list») ⌝ }
+    ensures { λ _. ⌜ FramesLeft count pages slot k frames «free_queue» «removal_list» ⌝ }
 {
     let entries = by_page(count, pages, slot, frames, [0; 256]);
     let mut p = k;
@@ -174,7 +168,7 @@ fn ask_truncate(
     active: &[u8],
 ) -> u32
     requires { ⌜ (sizes .frames < 65) × (sizes .pages < 257) × (sizes .slots < 65) ⌝ }
-    ensures { λ r. ⌜ r ≡ firstNo (questions sizes (asked sizes frames (now (numbers .entry)) (now (active .entry))) (truncate slot k)) ⌝ }
+    ensures { λ r. ⌜ r ≡ firstNo (questions sizes (asked sizes frames numbers active) (truncate slot k)) ⌝ }
 {
     if slot >= sizes.slots {
         return 3;
@@ -197,16 +191,6 @@ fn ask_truncate(
     0
 }
 
-// So many charges less for the slot's account.
-fn uncharge(used: &mut [u16], accounts: &[u16], slot: usize, n: usize)
-    requires { ⌜ n ≤ at (now used) (at (now accounts) slot) ⌝ }
-    ensures { λ _. ⌜ now (used .exit) ≡ set (now (used .entry)) (at (now (accounts .entry)) slot) (at (now (used .entry)) (at (now (accounts .entry)) slot) - n) ⌝ }
-{
-    let q = at16(accounts, slot) as usize;
-    let less = at16(used, q) as usize - n;
-    put16(used, q, less as u16);
-}
-
 pub fn truncate(
     sizes: Sizes,
     slot: usize,
@@ -221,8 +205,8 @@ pub fn truncate(
     active: &[u8],
     used: &mut [u16],
 ) -> Framed
-    requires { ⌜ TruncateReady sizes (take (sizes .frames) frames) (now accounts) (now «free_queue») (now «removal_list») (now addresses) (now states) (now used) ⌝ }
-    ensures { λ r. ⌜ TruncateLeft sizes (seen sizes frames (now (numbers .entry)) (now (accounts .entry)) (now («free_queue» .entry)) (now («removal_list» .entry)) (now (addresses .entry)) (now (states .entry)) (now (active .entry)) (now (used .entry))) slot k (r .frames) (r .answer) (now («free_queue» .exit)) (now («removal_list» .exit)) (now (addresses .exit)) (now (states .exit)) (now (used .exit)) ⌝ }
+    requires { ⌜ Given sizes frames accounts «free_queue» «removal_list» addresses states used ⌝ }
+    ensures { λ r. ⌜ Left sizes slot k frames numbers accounts «free_queue» «removal_list» addresses states active used r ⌝ }
 {
     let refusal = ask_truncate(sizes, slot, k, frames, numbers, active);
     if refusal != 0 {

@@ -1,16 +1,14 @@
 // Update: a slot's map image is made, and the records that its design gives up leave.
 ghost use mathlib.Core.Path.{_≡_};
-ghost use Prim.Native.Nat.{suc, _+_, _*_, _/_, _<_, _≤_};
+ghost use Prim.Native.Nat.{_+_, _*_, _/_, _<_, _≤_};
 ghost use lib.ListN.{length};
 ghost use Rattle.tables.specs.Base.{at};
 ghost use Rattle.tables.specs.Questions.{firstNo};
-ghost use Rattle.tables.specs.Rule.{Holds, same, some, _and_};
+ghost use Rattle.tables.specs.Rule.{Holds, same};
 ghost use Rattle.tables.specs.Store.{store, Split};
-ghost use Rattle.model.specs.Lines.{LEAVING};
 ghost use Rattle.model.specs.Questions.{questions};
-ghost use Rattle.model.specs.Own.{own};
 ghost use Rattle.leaves.specs.Addresses.{liveAddress};
-ghost use Rattle.writeback.specs.Update.{update, asked, seen, leaves, leavesSlot, Leaving, UpdateReady, UpdateLeft};
+ghost use Rattle.writeback.specs.Update.{update, asked, leaving, PagesReady, PagesLeft, Given, Left};
 use leaves::addresses::live_address;
 use leaves::cells::at8;
 use leaves::cells::at16;
@@ -28,7 +26,7 @@ use model::sizes::Sizes;
 
 // Questions 3, 4, 8 and 10.
 fn ask_update(sizes: Sizes, slot: usize, numbers: &[u32], active: &[u8], updating: &[u8]) -> u32
-    ensures { λ r. ⌜ r ≡ firstNo (questions sizes (asked (now (numbers .entry)) (now (active .entry)) (now (updating .entry))) (update slot)) ⌝ }
+    ensures { λ r. ⌜ r ≡ firstNo (questions sizes (asked numbers active updating) (update slot)) ⌝ }
 {
     if slot >= sizes.slots {
         return 3;
@@ -61,7 +59,7 @@ fn fill_image(pages: usize, slot: usize, addresses: &[u16], states: &[u8], image
 // A page's address where its record is nulled and it is in no frame, else 0.
 fn leaving_of(count: usize, frames: [Frame; 64], addresses: &[u16], states: &[u8], i: usize) -> u16
     requires { ⌜ (count < 65) × (i < 65535) ⌝ }
-    ensures { λ r. ⌜ Split (Holds (leaves count frames (now (addresses .entry)) (now (states .entry)) i)) r (at (now (addresses .entry)) i) 0 ⌝ }
+    ensures { λ r. ⌜ Split (Holds (leaving count frames (now (addresses .entry)) (now (states .entry)) i)) r (at (now (addresses .entry)) i) 0 ⌝ }
 {
     let address = at16(addresses, i);
     if address == 0 {
@@ -84,8 +82,8 @@ fn leave_pages(
     addresses: &mut [u16],
     states: &mut [u8],
 )
-    requires { ⌜ Leaving sizes slot (now addresses) (now states) ⌝ }
-    ensures { λ _. ⌜ (now (addresses .exit) ≡ store (now (addresses .entry)) (leavesSlot sizes frames (now (addresses .entry)) (now (states .entry)) slot) (λ i. 0)) × (now (states .exit) ≡ store (now (states .entry)) (λ r. some (length (now (addresses .entry))) λ i. leavesSlot sizes frames (now (addresses .entry)) (now (states .entry)) slot i and same (at (now (addresses .entry)) i) (suc r)) (λ r. LEAVING)) ⌝ }
+    requires { ⌜ PagesReady sizes slot (now addresses) (now states) ⌝ }
+    ensures { λ _. ⌜ PagesLeft sizes slot frames addresses states ⌝ }
 {
     let pages = sizes.pages;
     let end = slot * pages + pages;
@@ -112,8 +110,8 @@ pub fn update(
     updating: &mut [u8],
     images: &mut [u16],
 ) -> Answer
-    requires { ⌜ UpdateReady sizes (now addresses) (now states) (now owners) (now images) ⌝ }
-    ensures { λ r. ⌜ UpdateLeft (own sizes (seen sizes frames (now (numbers .entry)) (now (addresses .entry)) (now (states .entry)) (now (owners .entry)) (now (active .entry)) (now (updating .entry)) (now (images .entry))) (update slot)) r (now (addresses .exit)) (now (states .exit)) (now (updating .exit)) (now (images .exit)) ⌝ }
+    requires { ⌜ Given sizes addresses states owners images ⌝ }
+    ensures { λ r. ⌜ Left sizes slot frames numbers addresses states owners active updating images r ⌝ }
 {
     let refusal = ask_update(sizes, slot, numbers, active, updating);
     if refusal != 0 {

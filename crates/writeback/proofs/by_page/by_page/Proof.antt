@@ -23,11 +23,11 @@ loop-holds : tie.Need-loop-holds Inv-loop μ-loop
 loop-holds c = (omega arith, begun _ _ _ _ (c .pre .3) (c .pre .4) (c .pre .1))
 
 add-if2 : tie.Need-add-if2 Inv-loop μ-loop
-add-if2 c = let s = c .before .before .before .before .before in omega (arith, fits (s .args .slot) (s .args .pages) (s .pre .2) (s .pre .1), s .pre .1)
+add-if2 c = let s : tie.Start Inv-loop μ-loop = search in omega (arith, fits (s .args .slot) (s .args .pages) (s .pre .2) (s .pre .1), s .pre .1)
 
 loop-again : tie.Need-loop-again Inv-loop μ-loop
 loop-again c =
-    let l = c .before .before .before .before in (
+    let l : tie.At-loop Inv-loop μ-loop = search in (
       omega arith,
       ⊎-elim
           (λ w. stored _ _ _ (l .loop .f) (l .loop .inv .1) (l .before .pre .1) (omega (arith, w .0 .taken)) (omega (arith, w .1 .taken)) (w .2))
@@ -36,7 +36,9 @@ loop-again c =
     )
 
 returns : tie.Need-returns Inv-loop μ-loop
-returns c = let e : c .before .loop .f ≡ c .before .before .args .count = omega (arith, c .loop-test .left) in rw e at (c .before .loop .inv .1)
+returns c =
+    let start : tie.Start Inv-loop μ-loop = search in
+    let e : c .before .loop .f ≡ start .args .count = omega (arith, c .loop-test .left) in rw e at (c .before .loop .inv .1)
 
 pub by-page-spec : {M : Type 1} → statement M
 by-page-spec = tie.close (tie.spec Inv-loop μ-loop mul-start loop-holds (λ c. search needs) (λ c. search needs) (λ c. search needs) add-if2 (λ c. search needs) (λ c. search needs) (λ c. search needs) (λ c. search needs) (λ c. search needs) (λ c. search needs) (λ c. search needs) loop-again returns)

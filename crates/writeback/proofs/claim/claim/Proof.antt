@@ -1,63 +1,148 @@
 -- `claim` meets its contract: each way out by its law.
 use borrow.Author.Needs.{needs}
-use mathlib.Core.Path.{ap, _∙_}
+use mathlib.Core.Path.{_≡_, ap, _∙_}
 use mathlib.Core.List.{List}
-use Prim.Native.Nat.{pred}
+use Prim.Native.Nat.{ℕ, pred}
 use native.Mathlib.Omega.{arith}
 use lib.ListN.{set}
 use Rattle.tables.specs.Base.{at}
 use Rattle.tables.specs.QueueEntries.{size-more}
 use Rattle.model.specs.declared.frame.Frame.{Frame}
+use Rattle.model.specs.State.{frameAt}
 use Rattle.writeback.proofs.DoneWork.{answered}
-use Rattle.writeback.proofs.ClaimWork.{refused, words-fit, room, pays, moves, write-begins, freed}
+use Rattle.writeback.proofs.ClaimWork.{Taken, refused, taken, write-begins, freed}
 use Rattle.writeback.proofs.claim.claim.Statement.{statement}
 use Rattle.writeback.proofs.claim.claim.Tie as tie
+
+-- ── once the looks are over and the first entry is read ──
+abbrev turned : tie.After-first → tie.After-turn
+turned p = search
+
+abbrev listed : tie.After-turn → tie.Else1
+listed t = search
+
+abbrev entered : tie.Else1 → tie.Start
+entered l = search
+
+abbrev some : tie.After-first → tie.Else1
+some p = listed (turned p)
+
+abbrev start : tie.After-first → tie.Start
+start p = entered (some p)
+
+told : (p : tie.After-first) → (let a = start p .args in Taken (a .sizes) (a .frames) (a .accounts .now) (a .words .now) (a .free-queue .now) (a .addresses .now) (a .states .now) (a .used .now) (p .first .result))
+told p = taken _ _ _ _ _ (start p .args .removal-list .now) _ _ _ (some p .before .at16 .ensures) (some p .if1 .left) (start p .pre) (turned p .turn .ensures) (p .first .ensures)
+
+-- the number of the frame's page, and its record
+abbrev popped : tie.After-frame-at → tie.After-pop
+popped g = search
+
+abbrev shown : tie.After-pop → tie.After-first
+shown q = search
+
+abbrev first : tie.After-frame-at → tie.After-first
+first g = shown (popped g)
+
+paged : (g : tie.After-frame-at) → (let a = start (first g) .args in pred (g .frame-at .result .page) ≡ pred (frameAt (a .frames) (first g .first .result) .page))
+paged g = ap (λ (x : Frame). pred (x .page)) (g .frame-at .ensures)
+
+recorded : (g : tie.After-frame-at) → (let a = start (first g) .args in pred (at (a .addresses .now) (pred (g .frame-at .result .page))) ≡ pred (at (a .addresses .now) (pred (frameAt (a .frames) (first g .first .result) .page))))
+recorded g = ap (λ (i : ℕ). pred (at (start (first g) .args .addresses .now) i)) (paged g)
 
 returns : tie.Need-returns
 returns c = refused _ _ _ _ _ _ _ _ _ (c .before .before .at16 .ensures) (c .before .if1 .taken) (c .answered .ensures)
 
 turn-requires : tie.Need-turn-requires
-turn-requires c κs = (
-  rw (c .before .before .before .before .before .before .before .before .before .before .before .pre .list-long) (c .before .before .before .before .before .before .before .before .before .before .before .pre .listed),
-  size-more (c .before .before .before .before .before .before .before .before .before .before .before .args .removal-list .now) 0 (omega arith) (λ h. c .before .if1 .left (c .before .before .at16 .ensures ∙ h)),
-  omega (arith, c .before .before .before .before .before .before .before .before .before .before .before .pre .list-long, c .before .before .before .before .before .before .before .before .before .before .before .pre .most),
-)
+turn-requires c κs =
+    let l : tie.Else1 = search in
+    let s = entered l in (
+      rw (s .pre .list-long) (s .pre .listed),
+      size-more (s .args .removal-list .now) 0 (omega arith) (λ h. l .if1 .left (l .before .at16 .ensures ∙ h)),
+      omega (arith, s .pre .list-long, s .pre .most),
+    )
 
 pop-requires : tie.Need-pop-requires
-pop-requires c κs = c .before .before .before .before .before .before .turn .ensures .ruled
+pop-requires c κs =
+    let t : tie.After-turn = search in
+    t .turn .ensures .ruled
 
 begins-requires : tie.Need-begins-requires
-begins-requires c κs = words-fit _ _ _ _ _ _ _ _ _ (c .before .before .before .before .before .before .before .before .before .before .before .before .before .at16 .ensures) (c .before .before .before .before .before .before .before .before .before .before .before .before .if1 .left) (c .before .before .before .before .before .before .before .before .before .before .before .before .before .before .before .before .before .before .before .before .before .before .pre) (c .before .before .before .before .before .before .before .before .before .before .turn .ensures) (c .before .before .before .before .before .first .ensures)
+begins-requires c κs =
+    let p : tie.After-first = search in
+    told p .words-fit
 
 returns-2 : tie.Need-returns-2
-returns-2 c = write-begins _ _ _ _ _ _ _ _ _ (c .before .before .before .before .before .before .before .before .before .before .before .before .before .before .before .before .before .before .before .at16 .ensures) (c .before .before .before .before .before .before .before .before .before .before .before .before .before .before .before .before .before .before .if1 .left) (c .before .before .before .before .before .before .before .before .before .before .before .before .before .before .before .before .before .before .before .before .before .before .before .before .before .before .before .before .pre) (c .before .before .before .before .before .before .before .before .before .before .before .before .before .before .before .before .turn .ensures) (c .before .before .before .before .before .before .before .before .before .before .before .first .ensures)
-    (c .before .before .before .before .before .begins .ensures ∙ rw (c .before .before .before .before .before .before .frame-at .ensures)) (c .before .before .before .before .if2 .taken) (c .before .before .before .before .before .before .before .before .before .pop .ensures) (c .before .before .before .frame-at2 .ensures)
-    (c .answered2 .ensures ∙ ap (λ (l : List Frame). answered l 0 (c .before .before .before .before .before .before .before .before .before .before .before .before .before .before .before .before .turn .result .looks)) (c .before .with-frame .ensures ∙ ap (set (c .before .before .before .before .before .before .before .before .before .before .before .before .before .before .before .before .turn .result .frames) (c .before .before .before .before .before .before .before .before .before .before .before .first .result)) (c .before .before .writing .ensures)))
+returns-2 c =
+    let v : tie.After-frame-at2 = search in
+    let w = v .before in
+    let b = w .before in
+    let g = b .before in
+    let q : tie.After-pop = search in
+    let p = shown q in
+    let t = turned p in
+    write-begins _ _ _ _ _ _ _ _ _ (some p .before .at16 .ensures) (some p .if1 .left) (start p .pre) (t .turn .ensures) (p .first .ensures)
+    (b .begins .ensures ∙ rw (g .frame-at .ensures)) (w .if2 .taken) (q .pop .ensures) (v .frame-at2 .ensures)
+    (c .answered2 .ensures ∙ ap (λ (l : List Frame). answered l 0 (t .turn .result .looks)) (c .before .with-frame .ensures ∙ ap (set (t .turn .result .frames) (p .first .result)) (c .before .before .writing .ensures)))
 
 make-nulled-requires : tie.Need-make-nulled-requires
-make-nulled-requires c κs = moves _ _ _ _ _ _ _ _ _ (c .before .before .before .before .before .before .before .before .before .before .before .before .before .before .before .before .before .at16 .ensures) (c .before .before .before .before .before .before .before .before .before .before .before .before .before .before .before .before .if1 .left) (c .before .before .before .before .before .before .before .before .before .before .before .before .before .before .before .before .before .before .before .before .before .before .before .before .before .before .pre) (c .before .before .before .before .before .before .before .before .before .before .before .before .before .before .turn .ensures) (c .before .before .before .before .before .before .before .before .before .first .ensures) (c .before .record-of .ensures ∙ ap (λ (g : Frame). pred (at (c .before .before .before .before .before .before .before .before .before .before .before .before .before .before .before .before .before .before .before .before .before .before .before .before .before .before .args .addresses .now) (pred (g .page)))) (c .before .before .before .before .frame-at .ensures))
+make-nulled-requires c κs =
+    let g : tie.After-frame-at = search in
+    told (first g) .moves _ (c .before .record-of .ensures ∙ recorded g)
 
-div-uncharge : tie.Need-div-uncharge
-div-uncharge c = c .before .before .before .before .before .before .before .before .before .before .before .before .before .before .before .before .before .before .before .before .before .before .before .before .before .before .before .before .before .before .before .before .before .pre .pages-some
+div-uncharge-nulled : tie.Need-div-uncharge-nulled
+div-uncharge-nulled c =
+    let r : tie.After-record-of = search in
+    let g : tie.After-frame-at = search in
+    start (first g) .pre .pages-some
 
-uncharge-requires : tie.Need-uncharge-requires
-uncharge-requires c κs = rw (c .before .named .ensures ∙ ap (λ (g : Frame). pred (g .page)) (c .before .before .before .before .before .before .before .before .before .before .before .frame-at .ensures)) (pays _ _ _ _ _ _ _ _ _ (c .before .before .before .before .before .before .before .before .before .before .before .before .before .before .before .before .before .before .before .before .before .before .before .before .at16 .ensures) (c .before .before .before .before .before .before .before .before .before .before .before .before .before .before .before .before .before .before .before .before .before .before .before .if1 .left) (c .before .before .before .before .before .before .before .before .before .before .before .before .before .before .before .before .before .before .before .before .before .before .before .before .before .before .before .before .before .before .before .before .before .pre) (c .before .before .before .before .before .before .before .before .before .before .before .before .before .before .before .before .before .before .before .before .before .turn .ensures) (c .before .before .before .before .before .before .before .before .before .before .before .before .before .before .before .before .first .ensures))
+uncharge-nulled-requires : tie.Need-uncharge-nulled-requires
+uncharge-nulled-requires c κs =
+    let r : tie.After-record-of = search in
+    let g : tie.After-frame-at = search in
+    rw (c .before .named .ensures ∙ paged g) (told (first g) .pays)
 
 push-back-requires : tie.Need-push-back-requires
-push-back-requires c κs = room _ _ _ _ _ _ _ _ _ (c .before .before .before .before .before .before .before .before .before .before .before .before .before .before .before .before .before .before .before .before .before .before .before .before .before .before .before .before .at16 .ensures) (c .before .before .before .before .before .before .before .before .before .before .before .before .before .before .before .before .before .before .before .before .before .before .before .before .before .before .before .if1 .left) (c .before .before .before .before .before .before .before .before .before .before .before .before .before .before .before .before .before .before .before .before .before .before .before .before .before .before .before .before .before .before .before .before .before .before .before .before .before .pre) (c .before .before .before .before .before .before .before .before .before .before .before .before .before .before .before .before .before .before .before .before .before .before .before .before .before .turn .ensures) (c .before .before .before .before .before .before .before .before .before .before .before .before .before .before .before .before .before .before .before .before .first .ensures)
+push-back-requires c κs =
+    let r : tie.After-record-of = search in
+    let g : tie.After-frame-at = search in
+    told (first g) .room
 
 returns-3 : tie.Need-returns-3
-returns-3 c = freed _ _ _ _ _ _ _ _ _ (c .before .before .before .before .before .before .before .before .before .before .before .before .before .before .before .before .before .before .before .before .before .before .before .before .before .before .before .before .before .before .before .before .before .before .at16 .ensures) (c .before .before .before .before .before .before .before .before .before .before .before .before .before .before .before .before .before .before .before .before .before .before .before .before .before .before .before .before .before .before .before .before .before .if1 .left) (c .before .before .before .before .before .before .before .before .before .before .before .before .before .before .before .before .before .before .before .before .before .before .before .before .before .before .before .before .before .before .before .before .before .before .before .before .before .before .before .before .before .before .before .pre) (c .before .before .before .before .before .before .before .before .before .before .before .before .before .before .before .before .before .before .before .before .before .before .before .before .before .before .before .before .before .before .before .turn .ensures) (c .before .before .before .before .before .before .before .before .before .before .before .before .before .before .before .before .before .before .before .before .before .before .before .before .before .before .first .ensures)
-    (c .before .before .before .before .before .before .before .before .before .before .before .before .before .before .before .before .before .before .before .before .begins .ensures ∙ rw (c .before .before .before .before .before .before .before .before .before .before .before .before .before .before .before .before .before .before .before .before .before .frame-at .ensures)) (c .before .before .before .before .before .before .before .before .before .before .before .before .before .before .before .before .before .before .before .if2 .left) (c .before .before .before .before .before .before .before .before .before .before .before .before .before .before .before .before .before .before .record-of .ensures ∙ ap (λ (g : Frame). pred (at (c .before .before .before .before .before .before .before .before .before .before .before .before .before .before .before .before .before .before .before .before .before .before .before .before .before .before .before .before .before .before .before .before .before .before .before .before .before .before .before .before .before .before .before .args .addresses .now) (pred (g .page)))) (c .before .before .before .before .before .before .before .before .before .before .before .before .before .before .before .before .before .before .before .before .before .frame-at .ensures)) (c .before .before .before .before .before .before .before .before .before .before .before .before .before .before .before .before .before .before .before .before .before .before .before .before .pop .ensures) (c .before .before .before .before .before .push-back .ensures)
-    (c .before .before .before .before .before .before .before .before .before .uncharge .ensures ∙ rw (c .before .before .before .before .before .before .before .before .before .before .before .named .ensures ∙ ap (λ (g : Frame). pred (g .page)) (c .before .before .before .before .before .before .before .before .before .before .before .before .before .before .before .before .before .before .before .before .before .frame-at .ensures)))
-    (c .answered3 .ensures ∙ ap (λ (l : List Frame). answered l 0 (c .before .before .before .before .before .before .before .before .before .before .before .before .before .before .before .before .before .before .before .before .before .before .before .before .before .before .before .before .before .before .before .turn .result .looks)) (c .before .with-frame2 .ensures ∙ ap (set (c .before .before .before .before .before .before .before .before .before .before .before .before .before .before .before .before .before .before .before .before .before .before .before .before .before .before .before .before .before .before .before .turn .result .frames) (c .before .before .before .before .before .before .before .before .before .before .before .before .before .before .before .before .before .before .before .before .before .before .before .before .before .before .first .result)) (c .before .before .no-frame .ensures)))
-    (c .before .before .before .before .before .before .before .before .before .before .before .before .before .before .before .before .make-nulled .ensures ∙ rw (c .before .before .before .before .before .before .before .before .before .before .before .before .before .before .before .before .before .before .before .before .before .frame-at .ensures))
+returns-3 c =
+    let k : tie.After-push-back = search in
+    let u : tie.After-uncharge-nulled = search in
+    let n : tie.After-named = search in
+    let m : tie.After-make-nulled = search in
+    let r : tie.After-record-of = search in
+    let b = r .before .before in
+    let g = b .before in
+    let q : tie.After-pop = search in
+    let p = shown q in
+    let t = turned p in
+    freed _ _ _ _ _ _ _ _ _ (some p .before .at16 .ensures) (some p .if1 .left) (start p .pre) (t .turn .ensures) (p .first .ensures)
+    (b .begins .ensures ∙ rw (g .frame-at .ensures)) (r .before .if2 .left) (r .record-of .ensures ∙ recorded g) (q .pop .ensures) (k .push-back .ensures)
+    (u .uncharge-nulled .ensures ∙ rw (n .named .ensures ∙ paged g))
+    (c .answered3 .ensures ∙ ap (λ (l : List Frame). answered l 0 (t .turn .result .looks)) (c .before .with-frame2 .ensures ∙ ap (set (t .turn .result .frames) (p .first .result)) (c .before .before .no-frame .ensures)))
+    (m .make-nulled .ensures ∙ rw (g .frame-at .ensures))
 
 same-length-2 : tie.Need-same-length-2
-same-length-2 c = c .before .before .before .before .before .before .before .before .before .pop .kept .0 ∙ c .before .before .before .before .before .before .before .before .before .before .before .before .before .before .before .before .turn .kept .1 .0
+same-length-2 c =
+    let q : tie.After-pop = search in
+    let t : tie.After-turn = search in
+    q .pop .kept .0 ∙ t .turn .kept .1 .0
 
 same-length-4 : tie.Need-same-length-4
-same-length-4 c = c .before .before .before .before .before .before .before .before .before .before .before .before .before .before .before .before .before .before .before .before .before .before .before .before .pop .kept .0 ∙ c .before .before .before .before .before .before .before .before .before .before .before .before .before .before .before .before .before .before .before .before .before .before .before .before .before .before .before .before .before .before .before .turn .kept .1 .0
+same-length-4 c =
+    let r : tie.After-record-of = search in
+    let q : tie.After-pop = search in
+    let t : tie.After-turn = search in
+    q .pop .kept .0 ∙ t .turn .kept .1 .0
 
 pub claim-spec : {M : Type 1} → statement M
-claim-spec = tie.close (tie.spec (λ c κs. search needs) (λ c κs. search needs) (λ c. search needs) returns turn-requires (λ c κs. search needs) pop-requires (λ c κs. search needs) begins-requires (λ c κs. search needs) (λ c κs. search needs) (λ c κs. search needs) (λ c κs. search needs) same-length-2 returns-2 (λ c κs. search needs) make-nulled-requires (λ c κs. search needs) div-uncharge uncharge-requires push-back-requires (λ c κs. search needs) (λ c κs. search needs) (λ c κs. search needs) (λ c. search needs) same-length-4 (λ c. search needs) (λ c. search needs) returns-3)
+claim-spec =
+    tie.close
+    (tie.spec (λ c κs. search needs) (λ c κs. search needs) (λ c. search needs) returns
+    turn-requires (λ c κs. search needs) pop-requires (λ c κs. search needs) begins-requires
+    (λ c κs. search needs) (λ c κs. search needs) (λ c κs. search needs) (λ c κs. search needs) same-length-2 returns-2
+    (λ c κs. search needs) make-nulled-requires (λ c κs. search needs) div-uncharge-nulled uncharge-nulled-requires push-back-requires
+    (λ c κs. search needs) (λ c κs. search needs) (λ c κs. search needs) (λ c. search needs) same-length-4 (λ c. search needs) (λ c. search needs) returns-3)

@@ -13,13 +13,19 @@ move-record-requires : tie.Need-move-record-requires
 move-record-requires c κs = rw (sym (c .before .before .at8 .ensures) ∙ c .before .if2 .taken) live-nulled
 
 returns : tie.Need-returns
-returns c = c .before .before .move-record .ensures ∙ rw (eq-eqb _ _ (c .before .before .before .before .before .before .before .if1 .taken))
+returns c =
+    let then1 : tie.Then1 = search in
+    c .before .before .move-record .ensures ∙ rw (eq-eqb _ _ (then1 .if1 .taken))
 
 returns-2 : tie.Need-returns-2
-returns-2 c = ⊎-elim
-    (λ e. rw (eq-eqb _ _ (c .before .before .before .if1 .taken)) (sym (set-at (c .before .before .before .before .before .args .states .now) (c .before .before .before .before .before .args .r) NULLED 0 e)))
+returns-2 c =
+    let then1 : tie.Then1 = search in
+    let start : tie.Start = search in
+    let a = start .args in
+    ⊎-elim
+    (λ e. rw (eq-eqb _ _ (then1 .if1 .taken)) (sym (set-at (a .states .now) (a .r) NULLED 0 e)))
     (λ e. absurd (c .if2 .left (c .before .at8 .ensures ∙ e)))
-    (c .before .before .before .before .before .pre)
+    (start .pre)
 
 returns-3 : tie.Need-returns-3
 returns-3 c = rw (ne-eqb _ _ (c .if1 .left))

@@ -16,25 +16,49 @@ abbrev μ-loop : tie.MeasureT-loop
 μ-loop list₀ kept₀ looks₀ f₀ g₀ list kept looks f g = suc (size list₀) - looks
 
 loop-holds : tie.Need-loop-holds Inv-loop μ-loop
-loop-holds c = round-starts (c .before .before .before .before .args .frames) (c .before .before .before .before .args .list .now) (c .before .before .before .before .pre .0) (c .before .before .before .before .pre .1) (c .before .first .ensures) (c .frame-at .ensures)
+loop-holds c =
+    let start : tie.Start Inv-loop μ-loop = search in
+    let a = start .args in
+    round-starts (a .frames) (a .list .now) (start .pre .0) (start .pre .1) (c .before .first .ensures) (c .frame-at .ensures)
 
 mul-kept : tie.Need-mul-kept Inv-loop μ-loop
-mul-kept c = omega (arith, entry-below (c .before .before .before .loop .inv), c .before .before .before .before .before .before .before .before .pre .2)
+mul-kept c =
+    let at-loop : tie.At-loop Inv-loop μ-loop = search in
+    let start : tie.Start Inv-loop μ-loop = search in
+    omega (arith, entry-below (at-loop .loop .inv), start .pre .2)
 
 array-set-from-kept : tie.Need-array-set-from-kept Inv-loop μ-loop
-array-set-from-kept c = omega (arith, entry-below (c .before .before .before .loop .inv), c .before .before .before .before .before .before .before .before .pre .2)
+array-set-from-kept c =
+    let at-loop : tie.At-loop Inv-loop μ-loop = search in
+    let start : tie.Start Inv-loop μ-loop = search in
+    omega (arith, entry-below (at-loop .loop .inv), start .pre .2)
 
 rotate-requires : tie.Need-rotate-requires Inv-loop μ-loop
-rotate-requires c κs = (rw (c .before .before .before .before .loop .inv .long) (c .before .before .before .before .loop .inv .ruled), c .before .before .before .before .loop .inv .entries)
+rotate-requires c κs =
+    let at-loop : tie.At-loop Inv-loop μ-loop = search in
+    (rw (at-loop .loop .inv .long) (at-loop .loop .inv .ruled), at-loop .loop .inv .entries)
 
 add-looks : tie.Need-add-looks Inv-loop μ-loop
-add-looks c = omega (arith, looks-most (c .before .before .before .before .before .before .before .before .before .before .loop .inv), size-le (c .before .before .before .before .before .before .before .before .before .before .before .before .before .before .before .args .list .now), c .before .before .before .before .before .before .before .before .before .before .before .before .before .before .before .pre .2)
+add-looks c =
+    let at-loop : tie.At-loop Inv-loop μ-loop = search in
+    let start : tie.Start Inv-loop μ-loop = search in
+    omega (arith, looks-most (at-loop .loop .inv), size-le (start .args .list .now), start .pre .2)
 
 loop-less : tie.Need-loop-less Inv-loop μ-loop
-loop-less c = omega (arith, more (c .before .before .before .before .before .before .before .before .before .before .loop .inv) (sym (c .before .before .before .before .before .before .before .before .before .is-warm .ensures) ∙ c .before .before .before .before .before .before .before .before .if1 .taken))
+loop-less c =
+    let then1 : tie.Then1 Inv-loop μ-loop = search in
+    let after-is-warm : tie.After-is-warm Inv-loop μ-loop = search in
+    let at-loop : tie.At-loop Inv-loop μ-loop = search in
+    omega (arith, more (at-loop .loop .inv) (sym (after-is-warm .is-warm .ensures) ∙ then1 .if1 .taken))
 
 loop-again : tie.Need-loop-again Inv-loop μ-loop
-loop-again c = round-again (c .before .before .before .before .before .before .before .before .before .before .loop .inv) (sym (c .before .before .before .before .before .before .before .before .before .is-warm .ensures) ∙ c .before .before .before .before .before .before .before .before .if1 .taken) (c .before .before .before .before .before .before .before .cool .ensures) (c .before .before .before .before .before .rotate .ensures) (c .before .first2 .ensures) (c .frame-at2 .ensures)
+loop-again c =
+    let after-rotate : tie.After-rotate Inv-loop μ-loop = search in
+    let after-cool : tie.After-cool Inv-loop μ-loop = search in
+    let then1 : tie.Then1 Inv-loop μ-loop = search in
+    let after-is-warm : tie.After-is-warm Inv-loop μ-loop = search in
+    let at-loop : tie.At-loop Inv-loop μ-loop = search in
+    round-again (at-loop .loop .inv) (sym (after-is-warm .is-warm .ensures) ∙ then1 .if1 .taken) (after-cool .cool .ensures) (after-rotate .rotate .ensures) (c .before .first2 .ensures) (c .frame-at2 .ensures)
 
 returns : tie.Need-returns Inv-loop μ-loop
 returns c = round-ends (c .before .before .loop .inv) (sym (c .before .is-warm .ensures) ∙ c .if1 .left)

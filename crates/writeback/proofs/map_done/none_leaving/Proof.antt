@@ -28,10 +28,10 @@ names : {e e' r : ℕ} → e ≡ e' → ¬ (e ≡ 0) → e' ≡ suc r → e - 1 
 names a b c = omega arith
 
 mul-start : tie.Need-mul-start Inv-loop μ-loop
-mul-start c = let s = c .before .before in omega (arith, fits (s .args .slot) (s .args .pages) (s .pre .1) (s .pre .0))
+mul-start c = let s : tie.Start Inv-loop μ-loop = search in omega (arith, fits (s .args .slot) (s .args .pages) (s .pre .1) (s .pre .0))
 
 add-at16 : tie.Need-add-at16 Inv-loop μ-loop
-add-at16 c = let s = c .before .before .before .before in omega (arith, fits (s .args .slot) (s .args .pages) (s .pre .1) (s .pre .0))
+add-at16 c = let s : tie.Start Inv-loop μ-loop = search in omega (arith, fits (s .args .slot) (s .args .pages) (s .pre .1) (s .pre .0))
 
 loop-holds : tie.Need-loop-holds Inv-loop μ-loop
 loop-holds c = (omega arith, λ i h. omega arith)
@@ -39,25 +39,26 @@ loop-holds c = (omega arith, λ i h. omega arith)
 returns : tie.Need-returns Inv-loop μ-loop
 returns c =
     let r = c .before in
-    let e = r .before .before in
-    let l = e .before .before in
-    let s = l .before .before .before in
+    let e : tie.After-at16 Inv-loop μ-loop = search in
+    let l : tie.At-loop Inv-loop μ-loop = search in
+    let s : tie.Start Inv-loop μ-loop = search in
     sym (untold (each (s .args .pages) (passes (s .args .pages) (s .args .slot) (s .args .states .now) (s .args .images .now)))
     (λ h. h (l .loop .p) (omega arith) (e .at16 .result - 1) (sym (e .at16 .ensures) ∙ omega (arith, r .before .if1 .taken)) (sym (r .at8 .ensures) ∙ c .if2 .taken)))
 
 loop-again : tie.Need-loop-again Inv-loop μ-loop
 loop-again c =
     let e = c .before in
-    let l = e .before .before in (
+    let l : tie.At-loop Inv-loop μ-loop = search in
+    let s : tie.Start Inv-loop μ-loop = search in (
       omega arith,
       below-more _ _ (l .loop .inv .1) (λ r n. ⊎-elim
-          (λ w. (λ h. w .2 .left (w .1 .ensures ∙ ap (at (l .before .before .before .args .states .now)) (names (e .at16 .ensures) (w .0 .taken) n) ∙ h)))
+          (λ w. (λ h. w .2 .left (w .1 .ensures ∙ ap (at (s .args .states .now)) (names (e .at16 .ensures) (w .0 .taken) n) ∙ h)))
           (λ w h. omega (arith, w .left, e .at16 .ensures, n))
           (c .if1 .came)),
     )
 
 returns-2 : tie.Need-returns-2 Inv-loop μ-loop
-returns-2 c = let l = c .before in let s = l .before .before .before in
+returns-2 c = let l = c .before in let s : tie.Start Inv-loop μ-loop = search in
     sym (told (each (s .args .pages) (passes (s .args .pages) (s .args .slot) (s .args .states .now) (s .args .images .now))) (λ i h. l .loop .inv .1 i (omega arith)))
 
 pub none-leaving-spec : {M : Type 1} → statement M

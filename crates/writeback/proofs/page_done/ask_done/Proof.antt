@@ -17,15 +17,15 @@ returns-2 c = sym (first-no 3 _ _ (λ h. omega (arith, h .1)))
 
 returns-3 : tie.Need-returns-3
 returns-3 c =
-    let f = c .before .before in
-    let s = f .before .before .before .before in
+    let f : tie.After-frame-at = search in
+    let s : tie.Start = search in
     sym (first-yes 3 _ _ (omega arith, omega arith)
     ∙ first-no 22 _ _ (λ h. h (ap (λ (g : Frame). g .transfer) (frame-take (s .args .sizes .frames) (s .args .frames) (s .args .frame) (omega arith) ∙ sym (f .frame-at .ensures)) ∙ c .if3 .taken)))
 
 returns-4 : tie.Need-returns-4
 returns-4 c =
-    let f = c .before .before in
-    let s = f .before .before .before .before in
+    let f : tie.After-frame-at = search in
+    let s : tie.Start = search in
     sym (yes-all _ ((omega arith, omega arith), (λ e. c .if3 .left (ap (λ (g : Frame). g .transfer) (f .frame-at .ensures ∙ sym (frame-take (s .args .sizes .frames) (s .args .frames) (s .args .frame) (omega arith))) ∙ e), tt)))
 
 pub ask-done-spec : {M : Type 1} → statement M

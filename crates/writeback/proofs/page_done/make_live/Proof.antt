@@ -9,12 +9,12 @@ use Rattle.writeback.proofs.page_done.make_live.Statement.{statement}
 use Rattle.writeback.proofs.page_done.make_live.Tie as tie
 
 move-record-requires : tie.Need-move-record-requires
-move-record-requires c κs = let a = c .before .before in rw (sym (a .at8 .ensures) ∙ c .before .if1 .taken) nulled-live
+move-record-requires c κs = let a : tie.After-at8 = search in rw (sym (a .at8 .ensures) ∙ c .before .if1 .taken) nulled-live
 
 returns-2 : tie.Need-returns-2
 returns-2 c =
     let a = c .before in
-    let s = a .before .before .before in
+    let s : tie.Start = search in
     ⊎-elim (λ e. absurd (c .if1 .left (a .at8 .ensures ∙ e))) (λ e. sym (set-at (s .args .states .now) (s .args .r) LIVE 0 e)) (s .pre)
 
 pub make-live-spec : {M : Type 1} → statement M

@@ -26,33 +26,50 @@ abbrev μ-loop : tie.MeasureT-loop
 μ-loop which count pages slot k t6 start f₀ f = count - f
 
 mul-start : tie.Need-mul-start Inv-loop μ-loop
-mul-start c = omega (arith, fits (c .args .slot) (c .args .pages) (c .pre .2) (c .pre .1))
+mul-start c = omega (arith, fits (c .args .slot) (c .args .pages) (c .pre .slots-most) (c .pre .pages-most))
 
 loop-holds : tie.Need-loop-holds Inv-loop μ-loop
 loop-holds c = (omega arith, λ i h. absurd (omega arith))
 
 add-if1 : tie.Need-add-if1 Inv-loop μ-loop
-add-if1 c = omega (arith, fits (c .before .before .before .before .args .slot) (c .before .before .before .before .args .pages) (c .before .before .before .before .pre .2) (c .before .before .before .before .pre .1), c .before .before .before .before .pre .3, c .before .before .before .before .pre .1)
+add-if1 c =
+    let start : tie.Start Inv-loop μ-loop = search in
+    let a = start .args in
+    omega (arith, fits (a .slot) (a .pages) (start .pre .slots-most) (start .pre .pages-most), start .pre .from, start .pre .pages-most)
 
 add-if2 : tie.Need-add-if2 Inv-loop μ-loop
-add-if2 c = omega (arith, fits (c .before .before .before .before .before .args .slot) (c .before .before .before .before .before .args .pages) (c .before .before .before .before .before .pre .2) (c .before .before .before .before .before .pre .1), c .before .before .before .before .before .pre .1)
+add-if2 c =
+    let start : tie.Start Inv-loop μ-loop = search in
+    let a = start .args in
+    omega (arith, fits (a .slot) (a .pages) (start .pre .slots-most) (start .pre .pages-most), start .pre .pages-most)
 
 returns : tie.Need-returns Inv-loop μ-loop
-returns c = sym (untold (allQuiet (c .before .before .before .before .before .before .before .before .args .which) (c .before .before .before .before .before .before .before .before .args .count) (c .before .before .before .before .before .before .before .before .args .pages) (c .before .before .before .before .before .before .before .before .args .slot) (c .before .before .before .before .before .before .before .before .args .k) (c .before .before .before .before .before .before .before .before .args .t6))
-    (λ h. said-no (quiet (c .before .before .before .before .before .before .before .before .args .which) (frameAt (c .before .before .before .before .before .before .before .before .args .t6) (c .before .before .before .before .before .before .before .loop .f))) (c .before .is-quiet .ensures) (c .if3 .left)
-    (h (frameAt (c .before .before .before .before .before .before .before .before .args .t6) (c .before .before .before .before .before .before .before .loop .f) .page - 1 - c .before .before .before .before .before .before .before .before .args .slot * c .before .before .before .before .before .before .before .before .args .pages) (omega (arith, c .before .before .before .if1 .taken, c .before .before .if2 .taken)) (λ l. omega (arith, l, c .before .before .before .if1 .taken)) (c .before .before .before .before .before .before .before .loop .f) (omega arith) (omega (arith, c .before .before .before .if1 .taken)))))
+returns c =
+    let then1 : tie.Then1 Inv-loop μ-loop = search in
+    let at-loop : tie.At-loop Inv-loop μ-loop = search in
+    let start : tie.Start Inv-loop μ-loop = search in
+    let a = start .args in
+    sym (untold (allQuiet (a .which) (a .count) (a .pages) (a .slot) (a .k) (a .t6))
+    (λ h. said-no (quiet (a .which) (frameAt (a .t6) (at-loop .loop .f))) (c .before .is-quiet .ensures) (c .if3 .left)
+    (h (frameAt (a .t6) (at-loop .loop .f) .page - 1 - a .slot * a .pages) (omega (arith, then1 .if1 .taken, c .before .before .if2 .taken)) (λ l. omega (arith, l, then1 .if1 .taken)) (at-loop .loop .f) (omega arith) (omega (arith, then1 .if1 .taken)))))
 
 loop-again : tie.Need-loop-again Inv-loop μ-loop
-loop-again c = (
-  omega arith,
-  below-more _ _ (c .before .before .before .before .loop .inv .1) (λ lo hi. ⊎-elim
-      (λ w. said-yes (quiet (c .before .before .before .before .before .args .which) (frameAt (c .before .before .before .before .before .args .t6) (c .before .before .before .before .loop .f))) (w .2 .ensures) (w .3 .taken))
-      (λ v. ⊎-elim (λ w. absurd (omega (arith, hi, w .1 .left))) (λ w. absurd (omega (arith, lo, w .left))) v)
-      (c .if1 .came)),
-)
+loop-again c =
+    let at-loop : tie.At-loop Inv-loop μ-loop = search in
+    let start : tie.Start Inv-loop μ-loop = search in
+    let a = start .args in (
+      omega arith,
+      below-more _ _ (at-loop .loop .inv .1) (λ lo hi. ⊎-elim
+          (λ w. said-yes (quiet (a .which) (frameAt (a .t6) (at-loop .loop .f))) (w .2 .ensures) (w .3 .taken))
+          (λ v. ⊎-elim (λ w. absurd (omega (arith, hi, w .1 .left))) (λ w. absurd (omega (arith, lo, w .left))) v)
+          (c .if1 .came)),
+    )
 
 returns-2 : tie.Need-returns-2 Inv-loop μ-loop
-returns-2 c = sym (told (allQuiet (c .before .before .args .which) (c .before .before .args .count) (c .before .before .args .pages) (c .before .before .args .slot) (c .before .before .args .k) (c .before .before .args .t6))
+returns-2 c =
+    let start : tie.Start Inv-loop μ-loop = search in
+    let a = start .args in
+    sym (told (allQuiet (a .which) (a .count) (a .pages) (a .slot) (a .k) (a .t6))
     (λ p h n f b e. c .before .loop .inv .1 f (omega arith) (omega (arith, e, n)) (omega (arith, e, h))))
 
 pub all-quiet-spec : {M : Type 1} → statement M

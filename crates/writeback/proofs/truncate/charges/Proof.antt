@@ -11,7 +11,7 @@ use Rattle.tables.specs.Base.{at, count}
 use Rattle.tables.specs.Laws.{count-same}
 use Rattle.tables.specs.Rule.{test}
 use Rattle.writeback.specs.ByPage.{chargedEntry}
-use Rattle.writeback.specs.Truncate.{chargedPage}
+use Rattle.writeback.specs.Pages.{charged}
 use Rattle.writeback.proofs.ByPage.{charged-entry}
 use Rattle.writeback.proofs.Named.{fits}
 use Rattle.writeback.proofs.Cut.{none-below, one-more, one-not}
@@ -26,31 +26,36 @@ abbrev μ-loop : tie.MeasureT-loop
 μ-loop frames-used pages slot k addresses states start framed n₀ p₀ n p = pages - p
 
 mul-start : tie.Need-mul-start Inv-loop μ-loop
-mul-start c = let s = c .before .before in omega (arith, fits (s .args .slot) (s .args .pages) (s .pre .2) (s .pre .1))
+mul-start c = let s : tie.Start Inv-loop μ-loop = search in omega (arith, fits (s .args .slot) (s .args .pages) (s .pre .slots-most) (s .pre .pages-most))
 
 by-page-requires : tie.Need-by-page-requires Inv-loop μ-loop
-by-page-requires c κs = let s = c .before .before in (s .pre .0, s .pre .1, s .pre .2, length-replicate {A = ℕ} 256 0, λ p h. getD-replicate {A = ℕ} 256 p 0 0 h)
+by-page-requires c κs = let s : tie.Start Inv-loop μ-loop = search in (s .pre .most, s .pre .pages-most, s .pre .slots-most, length-replicate {A = ℕ} 256 0, λ p h. getD-replicate {A = ℕ} 256 p 0 0 h)
 
 loop-holds : tie.Need-loop-holds Inv-loop μ-loop
 loop-holds c =
-    let s = c .before .before .before in
+    let s : tie.Start Inv-loop μ-loop = search in
     let a = s .args in
-    (omega arith, s .pre .3, omega arith, sym (none-below (a .k) (λ q. test (chargedEntry (at (c .by-page .result) q) (a .addresses .now) (a .states .now) (a .slot * a .pages + q)))))
+    (omega arith, s .pre .from, omega arith, sym (none-below (a .k) (λ q. test (chargedEntry (at (c .by-page .result) q) (a .addresses .now) (a .states .now) (a .slot * a .pages + q)))))
 
 array-read-is-charged : tie.Need-array-read-is-charged Inv-loop μ-loop
-array-read-is-charged c = omega (arith, c .before .before .before .before .before .pre .1)
+array-read-is-charged c =
+    let start : tie.Start Inv-loop μ-loop = search in
+    omega (arith, start .pre .pages-most)
 
 add-is-charged : tie.Need-add-is-charged Inv-loop μ-loop
-add-is-charged c = let s = c .before .before .before .before .before in omega (arith, fits (s .args .slot) (s .args .pages) (s .pre .2) (s .pre .1), s .pre .1)
+add-is-charged c = let s : tie.Start Inv-loop μ-loop = search in omega (arith, fits (s .args .slot) (s .args .pages) (s .pre .slots-most) (s .pre .pages-most), s .pre .pages-most)
 
 add-n : tie.Need-add-n Inv-loop μ-loop
-add-n c = omega (arith, c .before .before .before .before .before .before .before .pre .1)
+add-n c =
+    let start : tie.Start Inv-loop μ-loop = search in
+    omega (arith, start .pre .pages-most)
 
 loop-again : tie.Need-loop-again Inv-loop μ-loop
 loop-again c =
-    let l = c .before .before .before in
+    let l : tie.At-loop Inv-loop μ-loop = search in
     let b = l .before in
-    let a = b .before .before .before .args in (
+    let s : tie.Start Inv-loop μ-loop = search in
+    let a = s .args in (
       omega arith,
       omega arith,
       ⊎-elim (λ w. omega (arith, w .1)) (λ w. omega (arith, w .1)) (c .if1 .came),
@@ -64,10 +69,11 @@ returns : tie.Need-returns Inv-loop μ-loop
 returns c =
     let l = c .before in
     let b = l .before in
-    let a = b .before .before .before .args in
+    let s : tie.Start Inv-loop μ-loop = search in
+    let a = s .args in
     let e : l .loop .p ≡ a .pages = omega arith in
     l .loop .inv .3 ∙ ap (λ (m : ℕ). count m (λ q. leb (a .k) q && test (chargedEntry (at (b .by-page .result) q) (a .addresses .now) (a .states .now) (a .slot * a .pages + q)))) e
-    ∙ count-same (a .pages) (λ q. leb (a .k) q && test (chargedEntry (at (b .by-page .result) q) (a .addresses .now) (a .states .now) (a .slot * a .pages + q))) (λ q. leb (a .k) q && test (chargedPage (a .count) (a .frames) (a .addresses .now) (a .states .now) (a .slot * a .pages + q)))
+    ∙ count-same (a .pages) (λ q. leb (a .k) q && test (chargedEntry (at (b .by-page .result) q) (a .addresses .now) (a .states .now) (a .slot * a .pages + q))) (λ q. leb (a .k) q && test (charged (a .count) (a .frames) (a .addresses .now) (a .states .now) (a .slot * a .pages + q)))
     (λ q h. ap (λ (t : Bool). leb (a .k) q && t) (charged-entry (a .pages) (a .slot) (a .frames) (b .by-page .ensures) (a .addresses .now) (a .states .now) q h))
 
 pub charges-spec : {M : Type 1} → statement M

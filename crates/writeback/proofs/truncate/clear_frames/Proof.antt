@@ -12,26 +12,26 @@ use Rattle.tables.specs.Rule.{Holds}
 use Rattle.tables.specs.Store.{Split}
 use Rattle.model.specs.declared.frame.Frame.{Frame}
 use Rattle.model.specs.State.{frameAt, noFrame}
-use Rattle.writeback.specs.Truncate.{cutUpTo}
+use Rattle.writeback.specs.Truncate.{cutFrame}
 use Rattle.writeback.proofs.Named.{fits}
 use Rattle.writeback.proofs.truncate.clear_frames.Statement.{statement}
 use Rattle.writeback.proofs.truncate.clear_frames.Tie as tie
 
 -- the frames below f are done, the others are as they were
 pub record Cleared (pages slot k : ℕ) (fs : List Frame) (f : ℕ) (kept : List Frame) : Type 0 where
-  pub so-far : (i : ℕ) → i < f → Split (Holds (cutUpTo pages slot k pages (frameAt fs i))) (frameAt kept i) noFrame (frameAt fs i)
+  pub so-far : (i : ℕ) → i < f → Split (Holds (cutFrame pages slot k pages (frameAt fs i))) (frameAt kept i) noFrame (frameAt fs i)
   pub ahead : (i : ℕ) → f ≤ i → frameAt kept i ≡ frameAt fs i
   pub long : length kept ≡ length fs
 
 module _ {pages slot k : ℕ} {fs kept : List Frame} (f : ℕ) (c : Cleared pages slot k fs f kept) where
-  turn-off : ¬ Holds (cutUpTo pages slot k pages (frameAt fs f)) → {kept' : List Frame} → kept' ≡ kept → Cleared pages slot k fs (f + 1) kept'
+  turn-off : ¬ Holds (cutFrame pages slot k pages (frameAt fs f)) → {kept' : List Frame} → kept' ≡ kept → Cleared pages slot k fs (f + 1) kept'
   turn-off d e = rw e (record {
     so-far = λ i h. elim (ℕ-discrete i f) [ yes q ↦ inr (rw q d, c .ahead i (omega arith)) | no q ↦ c .so-far i (omega arith) ];
     ahead = λ i h. c .ahead i (omega arith);
     long = c .long;
   })
 
-  turn-on : f < length fs → Holds (cutUpTo pages slot k pages (frameAt fs f)) → {g : Frame} → g ≡ noFrame → {kept' : List Frame} → kept' ≡ set kept f g → Cleared pages slot k fs (f + 1) kept'
+  turn-on : f < length fs → Holds (cutFrame pages slot k pages (frameAt fs f)) → {g : Frame} → g ≡ noFrame → {kept' : List Frame} → kept' ≡ set kept f g → Cleared pages slot k fs (f + 1) kept'
   turn-on b d {g} w e = rw (e, w) (record {
     so-far = λ i h. elim (ℕ-discrete i f) [
       | yes q ↦ inl (rw q d, rw q (getD-set-same kept f noFrame noFrame (rw (c .long) b)))
@@ -48,26 +48,34 @@ abbrev μ-loop : tie.MeasureT-loop
 μ-loop count pages slot k start kept₀ f₀ kept f = count - f
 
 mul-start : tie.Need-mul-start Inv-loop μ-loop
-mul-start c = omega (arith, fits (c .args .slot) (c .args .pages) (c .pre .2) (c .pre .1))
+mul-start c = omega (arith, fits (c .args .slot) (c .args .pages) (c .pre .slots-most) (c .pre .pages-most))
 
 loop-holds : tie.Need-loop-holds Inv-loop μ-loop
 loop-holds c = (omega arith, record { so-far = λ i h. absurd (omega arith); ahead = λ i h. refl; long = refl })
 
 add-if1 : tie.Need-add-if1 Inv-loop μ-loop
-add-if1 c = omega (arith, fits (c .before .before .before .before .args .slot) (c .before .before .before .before .args .pages) (c .before .before .before .before .pre .2) (c .before .before .before .before .pre .1), c .before .before .before .before .pre .3, c .before .before .before .before .pre .1)
+add-if1 c =
+    let start : tie.Start Inv-loop μ-loop = search in
+    let a = start .args in
+    omega (arith, fits (a .slot) (a .pages) (start .pre .slots-most) (start .pre .pages-most), start .pre .from, start .pre .pages-most)
 
 add-if2 : tie.Need-add-if2 Inv-loop μ-loop
-add-if2 c = omega (arith, fits (c .before .before .before .before .before .args .slot) (c .before .before .before .before .before .args .pages) (c .before .before .before .before .before .pre .2) (c .before .before .before .before .before .pre .1), c .before .before .before .before .before .pre .1)
+add-if2 c =
+    let start : tie.Start Inv-loop μ-loop = search in
+    let a = start .args in
+    omega (arith, fits (a .slot) (a .pages) (start .pre .slots-most) (start .pre .pages-most), start .pre .pages-most)
 
 loop-again : tie.Need-loop-again Inv-loop μ-loop
 loop-again c =
-    let old = ap (λ (g : Frame). g .page) (c .before .before .before .before .loop .inv .1 .ahead (c .before .before .before .before .loop .f) (omega arith)) in (
+    let at-loop : tie.At-loop Inv-loop μ-loop = search in
+    let start : tie.Start Inv-loop μ-loop = search in
+    let old = ap (λ (g : Frame). g .page) (at-loop .loop .inv .1 .ahead (at-loop .loop .f) (omega arith)) in (
       omega arith,
       ⊎-elim
-          (λ w. turn-on (c .before .before .before .before .loop .f) (c .before .before .before .before .loop .inv .1) (omega (arith, c .before .before .before .before .before .good .1 .1 .1 .1 .0, c .before .before .before .before .before .pre .0)) (omega (arith, old, w .0 .taken), omega (arith, old, w .1 .taken)) (w .2 .ensures) (w .3))
+          (λ w. turn-on (at-loop .loop .f) (at-loop .loop .inv .1) (omega (arith, start .good .1 .1 .1 .1 .0, start .pre .most)) (omega (arith, old, w .0 .taken), omega (arith, old, w .1 .taken)) (w .2 .ensures) (w .3))
           (λ v. ⊎-elim
-          (λ w. turn-off (c .before .before .before .before .loop .f) (c .before .before .before .before .loop .inv .1) (λ h. omega (arith, old, h .1, w .1 .left)) (w .2))
-          (λ w. turn-off (c .before .before .before .before .loop .f) (c .before .before .before .before .loop .inv .1) (λ h. omega (arith, old, h .0, w .0 .left)) (w .1))
+          (λ w. turn-off (at-loop .loop .f) (at-loop .loop .inv .1) (λ h. omega (arith, old, h .1, w .1 .left)) (w .2))
+          (λ w. turn-off (at-loop .loop .f) (at-loop .loop .inv .1) (λ h. omega (arith, old, h .0, w .0 .left)) (w .1))
           v)
           (c .if1 .came),
     )

@@ -30,13 +30,20 @@ module _ (entry : ℕ) (addresses states : List ℕ) (i : ℕ) where
     ]
 
 returns : tie.Need-returns
-returns c = let a = c .before .before .before .args in framed (a .entry) (a .addresses .now) (a .states .now) (a .i) (c .if1 .taken)
+returns c =
+    let start : tie.Start = search in
+    let a = start .args in framed (a .entry) (a .addresses .now) (a .states .now) (a .i) (c .if1 .taken)
 
 returns-2 : tie.Need-returns-2
-returns-2 c = let a = c .before .before .before .before .before .args in nothing (a .entry) (a .addresses .now) (a .states .now) (a .i) (c .before .before .if1 .left) (c .before .at16 .ensures) (c .if2 .taken)
+returns-2 c =
+    let start : tie.Start = search in
+    let a = start .args in nothing (a .entry) (a .addresses .now) (a .states .now) (a .i) (c .before .before .if1 .left) (c .before .at16 .ensures) (c .if2 .taken)
 
 returns-3 : tie.Need-returns-3
-returns-3 c = let a = c .before .before .before .before .before .before .args in by-state (a .entry) (a .addresses .now) (a .states .now) (a .i) (c .before .before .before .if1 .left) (c .before .before .at16 .ensures) (c .before .if2 .left) (c .at8 .ensures)
+returns-3 c =
+    let else1 : tie.Else1 = search in
+    let start : tie.Start = search in
+    let a = start .args in by-state (a .entry) (a .addresses .now) (a .states .now) (a .i) (else1 .if1 .left) (c .before .before .at16 .ensures) (c .before .if2 .left) (c .at8 .ensures)
 
 pub is-charged-spec : {M : Type 1} → statement M
 is-charged-spec = tie.close (tie.spec returns (λ c κs. search needs) returns-2 (λ c. search needs) (λ c. search needs) (λ c κs. search needs) returns-3)

@@ -19,10 +19,16 @@ unwired zero g d = absurd (d refl)
 unwired (suc w) g d = refl
 
 returns : tie.Need-returns
-returns c = still (c .before .before .args .which) (c .before .before .args .frame) (c .before .if1 .taken)
+returns c =
+    let start : tie.Start = search in
+    let a = start .args in
+    still (a .which) (a .frame) (c .before .if1 .taken)
 
 returns-2 : tie.Need-returns-2
-returns-2 c = unwired (c .before .before .args .which) (c .before .before .args .frame) (c .before .if1 .left)
+returns-2 c =
+    let start : tie.Start = search in
+    let a = start .args in
+    unwired (a .which) (a .frame) (c .before .if1 .left)
 
 pub is-quiet-spec : {M : Type 1} → statement M
 is-quiet-spec = tie.close (tie.spec returns returns-2)

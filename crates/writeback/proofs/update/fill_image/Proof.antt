@@ -16,18 +16,26 @@ abbrev μ-loop : tie.MeasureT-loop
 μ-loop pages slot addresses states images₀ end i₀ images i = slot * pages + pages - i
 
 loop-holds : tie.Need-loop-holds Inv-loop μ-loop
-loop-holds c = (omega arith, omega arith, turned-none _ _ _ _ (λ i h. omega (arith, part-inside (c .before .before .before .args .pages) (c .before .before .before .args .slot) (c .before .before .before .pre .0) i h)))
+loop-holds c =
+    let start : tie.Start Inv-loop μ-loop = search in
+    let a = start .args in
+    (omega arith, omega arith, turned-none _ _ _ _ (λ i h. omega (arith, part-inside (a .pages) (a .slot) (start .pre .0) i h)))
 
 loop-again : tie.Need-loop-again Inv-loop μ-loop
-loop-again c = (
-  omega arith,
-  omega arith,
-  turn-on (c .before .before .loop .i) (c .before .before .loop .inv .2) (omega arith)
-      (inside-part (c .before .before .before .before .before .before .args .pages) (c .before .before .before .before .before .before .args .slot) (c .before .before .before .before .before .before .pre .0) (c .before .before .loop .i) (λ h. omega arith, omega arith)) _ (c .live-address .ensures),
-)
+loop-again c =
+    let start : tie.Start Inv-loop μ-loop = search in
+    let a = start .args in (
+      omega arith,
+      omega arith,
+      turn-on (c .before .before .loop .i) (c .before .before .loop .inv .2) (omega arith)
+          (inside-part (a .pages) (a .slot) (start .pre .0) (c .before .before .loop .i) (λ h. omega arith, omega arith)) _ (c .live-address .ensures),
+    )
 
 returns : tie.Need-returns Inv-loop μ-loop
-returns c = turned-all _ (c .before .loop .inv .2) (λ i h k. omega (arith, part-inside (c .before .before .before .before .before .args .pages) (c .before .before .before .before .before .args .slot) (c .before .before .before .before .before .pre .0) i k))
+returns c =
+    let start : tie.Start Inv-loop μ-loop = search in
+    let a = start .args in
+    turned-all _ (c .before .loop .inv .2) (λ i h k. omega (arith, part-inside (a .pages) (a .slot) (start .pre .0) i k))
 
 pub fill-image-spec : {M : Type 1} → statement M
 fill-image-spec = tie.close (tie.spec Inv-loop μ-loop (λ c. search needs) (λ c. search needs) (λ c. search needs) loop-holds (λ c κs. search needs) (λ c. search needs) (λ c. search needs) (λ c. search needs) (λ c. search needs) loop-again (λ c. search needs) returns)

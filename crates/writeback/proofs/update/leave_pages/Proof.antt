@@ -8,7 +8,7 @@ use lib.ListN.{length}
 use Rattle.tables.specs.StoreLoops.{Turned, turned-none, turned-all, part-inside}
 use Rattle.tables.specs.StoreNamed.{Named, named-none, named-all}
 use Rattle.model.specs.Lines.{LEAVING}
-use Rattle.writeback.specs.Update.{leavesSlot}
+use Rattle.writeback.specs.Update.{leavingPage}
 use Rattle.writeback.proofs.Leaves.{may, turn-leaves, turn-stays}
 use Rattle.writeback.proofs.update.leave_pages.Statement.{statement}
 use Rattle.writeback.proofs.update.leave_pages.Tie as tie
@@ -16,45 +16,61 @@ use Rattle.writeback.proofs.update.leave_pages.Tie as tie
 abbrev Inv-loop : tie.InvT-loop
 Inv-loop sizes slot frames ads₀ ss₀ pages end i₀ ads ss i =
     (slot * sizes .pages ≤ i) × (i ≤ slot * sizes .pages + sizes .pages)
-    × (Turned ads₀ (leavesSlot sizes frames ads₀ ss₀ slot) (λ k. 0) i ads × Named ss₀ (length ads₀) (leavesSlot sizes frames ads₀ ss₀ slot) ads₀ (λ r. LEAVING) i ss)
+    × (Turned ads₀ (leavingPage sizes frames ads₀ ss₀ slot) (λ k. 0) i ads × Named ss₀ (length ads₀) (leavingPage sizes frames ads₀ ss₀ slot) ads₀ (λ r. LEAVING) i ss)
 
 abbrev μ-loop : tie.MeasureT-loop
 μ-loop sizes slot frames ads₀ ss₀ pages end i₀ ads ss i = slot * sizes .pages + sizes .pages - i
 
 loop-holds : tie.Need-loop-holds Inv-loop μ-loop
-loop-holds c = (
-  omega arith,
-  omega arith,
-  (
-    turned-none _ _ _ _ (λ i h. omega (arith, part-inside (c .before .before .args .sizes .pages) (c .before .before .args .slot) (c .before .before .pre .pages-some) i (h .0))),
-    named-none _ _ _ _ _ _ (λ i h. omega (arith, part-inside (c .before .before .args .sizes .pages) (c .before .before .args .slot) (c .before .before .pre .pages-some) i (h .0))),
-  ),
-)
+loop-holds c =
+    let start : tie.Start Inv-loop μ-loop = search in
+    let a = start .args in (
+      omega arith,
+      omega arith,
+      (
+        turned-none _ _ _ _ (λ i h. omega (arith, part-inside (a .sizes .pages) (a .slot) (start .pre .pages-some) i (h .0))),
+        named-none _ _ _ _ _ _ (λ i h. omega (arith, part-inside (a .sizes .pages) (a .slot) (start .pre .pages-some) i (h .0))),
+      ),
+    )
 
 mul-end : tie.Need-mul-end Inv-loop μ-loop
-mul-end c = omega (arith, c .before .before .pre .long, c .before .before .pre .short)
+mul-end c =
+    let start : tie.Start Inv-loop μ-loop = search in
+    omega (arith, start .pre .long, start .pre .short)
 
 leaving-of-requires : tie.Need-leaving-of-requires Inv-loop μ-loop
-leaving-of-requires c κs = (c .before .before .before .before .before .before .pre .frames-most, omega (arith, c .before .before .before .before .before .before .pre .long, c .before .before .before .before .before .before .pre .short))
+leaving-of-requires c κs =
+    let start : tie.Start Inv-loop μ-loop = search in
+    (start .pre .frames-most, omega (arith, start .pre .long, start .pre .short))
 
 move-record-requires : tie.Need-move-record-requires Inv-loop μ-loop
-move-record-requires c κs = may (c .before .before .before .before .before .before .before .before .before .args .frames) (c .before .before .before .before .before .before .before .before .before .pre) (c .before .before .before .before .before .before .loop .i) (c .before .before .before .before .before .before .loop .inv .2 .0) (c .before .before .before .before .before .before .loop .inv .2 .1) (c .before .before .before .before .before .before .loop .inv .0) (omega (arith, c .before .before .before .before .before .loop-test .taken)) (c .before .before .leaving-of .ensures) (c .before .if1 .taken)
+move-record-requires c κs =
+    let in-loop : tie.In-loop Inv-loop μ-loop = search in
+    let at-loop : tie.At-loop Inv-loop μ-loop = search in
+    let start : tie.Start Inv-loop μ-loop = search in
+    may (start .args .frames) (start .pre) (at-loop .loop .i) (at-loop .loop .inv .2 .0) (at-loop .loop .inv .2 .1) (at-loop .loop .inv .0) (omega (arith, in-loop .loop-test .taken)) (c .before .before .leaving-of .ensures) (c .before .if1 .taken)
 
 loop-again : tie.Need-loop-again Inv-loop μ-loop
-loop-again c = (
-  omega arith,
-  omega arith,
-  ⊎-elim
-      (λ w. turn-leaves (c .before .before .before .before .before .before .before .before .args .frames) (c .before .before .before .before .before .before .before .before .pre) (c .before .before .before .before .before .loop .i) (c .before .before .before .before .before .loop .inv .2 .0) (c .before .before .before .before .before .loop .inv .2 .1) (c .before .before .before .before .before .loop .inv .0) (omega (arith, c .before .before .before .before .loop-test .taken)) (c .before .leaving-of .ensures) (w .0 .taken) (w .5) (w .6 ∙ w .2 .ensures))
-      (λ w. turn-stays (c .before .before .before .before .before .before .before .before .args .frames) (c .before .before .before .before .before .before .before .before .pre) (c .before .before .before .before .before .loop .i) (c .before .before .before .before .before .loop .inv .2 .0) (c .before .before .before .before .before .loop .inv .2 .1) (c .before .before .before .before .before .loop .inv .0) (omega (arith, c .before .before .before .before .loop-test .taken)) (c .before .leaving-of .ensures) (w .0 .left) (w .1) (w .2))
-      (c .if1 .came),
-)
+loop-again c =
+    let in-loop : tie.In-loop Inv-loop μ-loop = search in
+    let at-loop : tie.At-loop Inv-loop μ-loop = search in
+    let start : tie.Start Inv-loop μ-loop = search in
+    let a = start .args in (
+      omega arith,
+      omega arith,
+      ⊎-elim
+          (λ w. turn-leaves (a .frames) (start .pre) (at-loop .loop .i) (at-loop .loop .inv .2 .0) (at-loop .loop .inv .2 .1) (at-loop .loop .inv .0) (omega (arith, in-loop .loop-test .taken)) (c .before .leaving-of .ensures) (w .0 .taken) (w .5) (w .6 ∙ w .2 .ensures))
+          (λ w. turn-stays (a .frames) (start .pre) (at-loop .loop .i) (at-loop .loop .inv .2 .0) (at-loop .loop .inv .2 .1) (at-loop .loop .inv .0) (omega (arith, in-loop .loop-test .taken)) (c .before .leaving-of .ensures) (w .0 .left) (w .1) (w .2))
+          (c .if1 .came),
+    )
 
 returns : tie.Need-returns Inv-loop μ-loop
-returns c = (
-  turned-all _ (c .before .loop .inv .2 .0) (λ i h k. omega (arith, part-inside (c .before .before .before .before .args .sizes .pages) (c .before .before .before .before .args .slot) (c .before .before .before .before .pre .pages-some) i (k .0))),
-  named-all (c .before .loop .i) (c .before .loop .inv .2 .1) (λ i h k. omega (arith, part-inside (c .before .before .before .before .args .sizes .pages) (c .before .before .before .before .args .slot) (c .before .before .before .before .pre .pages-some) i (k .0))),
-)
+returns c =
+    let start : tie.Start Inv-loop μ-loop = search in
+    let a = start .args in (
+      turned-all _ (c .before .loop .inv .2 .0) (λ i h k. omega (arith, part-inside (a .sizes .pages) (a .slot) (start .pre .pages-some) i (k .0))),
+      named-all (c .before .loop .i) (c .before .loop .inv .2 .1) (λ i h k. omega (arith, part-inside (a .sizes .pages) (a .slot) (start .pre .pages-some) i (k .0))),
+    )
 
 pub leave-pages-spec : {M : Type 1} → statement M
 leave-pages-spec = tie.close (tie.spec Inv-loop μ-loop mul-end (λ c. search needs) (λ c. search needs) loop-holds leaving-of-requires (λ c. search needs) (λ c. search needs) move-record-requires (λ c. search needs) (λ c. search needs) (λ c. search needs) (λ c. search needs) loop-again (λ c. search needs) (λ c. search needs) returns)
