@@ -20,7 +20,8 @@ use Rattle.tables.specs.TimesLaws.{Within, Once, times-here, times-cons, times-
 use Rattle.model.specs.declared.frame.Frame.{Frame}
 use Rattle.model.specs.State.{frameAt}
 use Rattle.writeback.specs.ByPage.{ByPage}
-use Rattle.writeback.specs.Pages.{framed, frameIn}
+use Rattle.leaves.specs.FrameLaws.{frameIn}
+use Rattle.writeback.specs.Pages.{framed}
 use Rattle.writeback.specs.Truncate.{cutFrames, cutFrame, FramesReady}
 use Rattle.writeback.proofs.Cut.{from-up}
 

@@ -17,7 +17,8 @@ use Rattle.model.specs.declared.sizes.Sizes.{Sizes}
 use Rattle.model.specs.declared.frame.Frame.{Frame}
 use Rattle.model.specs.Lines.{NULLED, LEAVING, allowed}
 use Rattle.model.specs.State.{frameAt}
-use Rattle.writeback.specs.Pages.{framed, frameIn}
+use Rattle.leaves.specs.FrameLaws.{frameIn}
+use Rattle.writeback.specs.Pages.{framed}
 use Rattle.writeback.specs.Update.{leaving, leavingPage, PagesReady}
 use Rattle.writeback.proofs.Moves.{nulled-leaving}
 

@@ -29,10 +29,10 @@ use Rattle.model.specs.Questions.{questions}
 use Rattle.model.specs.Writeback
 use Rattle.model.specs.Step.{Outcome, outcome, carried, result}
 use Rattle.model.specs.Own.{own, completed}
-use Rattle.leaves.specs.FrameLaws.{frame-take, frame-found}
+use Rattle.leaves.specs.FrameLaws.{frameIn, frame-take, frame-found}
 use Rattle.leaves.specs.Released.{Releasing}
 use Rattle.model.specs.OwnLaws.{own-yes, own-no}
-use Rattle.writeback.specs.Pages.{framed, frameIn, charged}
+use Rattle.writeback.specs.Pages.{framed, charged}
 use Rattle.writeback.specs.Truncate.{truncate, quiet, allQuiet, chargesFrom, cutFrame, cutFrames, CutReady, FramesReady, seen, usedThen, TruncateReady, TruncateLeft}
 use Rattle.writeback.proofs.CutFrames.{without-alike}
 use Rattle.writeback.proofs.DoneWork.{answered}

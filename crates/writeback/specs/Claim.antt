@@ -24,8 +24,7 @@ use Rattle.model.specs.Writeback.{look, looking, beginsWrite, recordIn}
 use Rattle.model.specs.Step.{outcome}
 use Rattle.model.specs.Own.{own}
 use Rattle.model.specs.Setters.{onDisk, onCore, onHeld, setAccounts, setFrames, setWords, setFreeQueue, setRemovalList, setAddresses, setStates, setUsed}
-use Rattle.model.specs.Lent.{Ref, Table}
-use Rattle.writeback.specs.Nothing.{noState}
+use Rattle.model.specs.Lent.{Ref, Table, noState}
 
 abbrev pub claim : Event
 claim = Event.Writeback Claim

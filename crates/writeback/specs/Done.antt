@@ -19,8 +19,7 @@ use Rattle.model.specs.State.{State, NONE, frameAt}
 use Rattle.model.specs.Step.{Outcome}
 use Rattle.model.specs.Own.{own}
 use Rattle.model.specs.Setters.{onDisk, onCore, onHeld, setRecords, setFrames, setWords, setFreeQueue, setRemovalList, setAddresses, setStates}
-use Rattle.model.specs.Lent.{Ref, Table}
-use Rattle.writeback.specs.Nothing.{noState}
+use Rattle.model.specs.Lent.{Ref, Table, noState}
 
 abbrev pub pageDone : ℕ → ℕ → Event
 pageDone f good = Event.Writeback (PageDone f good)

@@ -4,7 +4,6 @@ pub mod ByPage
 pub mod Claim
 pub mod Done
 pub mod MapDone
-pub mod Nothing
 pub mod Pages
 pub mod Truncate
 pub mod Update

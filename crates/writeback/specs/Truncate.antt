@@ -24,9 +24,9 @@ use Rattle.model.specs.Questions.{questions}
 use Rattle.model.specs.Step.{outcome}
 use Rattle.model.specs.Own.{own}
 use Rattle.model.specs.Setters.{onDisk, onCore, onHeld, onSlots, setNumbers, setAccounts, setFrames, setFreeQueue, setRemovalList, setAddresses, setStates, setActive, setUsed}
-use Rattle.model.specs.Lent.{Ref, Table}
-use Rattle.writeback.specs.Nothing.{noState}
-use Rattle.writeback.specs.Pages.{framed, frameIn, isStill, isUnwired}
+use Rattle.model.specs.Lent.{Ref, Table, noState}
+use Rattle.leaves.specs.FrameLaws.{frameIn, isStill, isUnwired}
+use Rattle.writeback.specs.Pages.{framed}
 use Rattle.writeback.specs.Pages
 
 abbrev pub truncate : ℕ → ℕ → Event

@@ -19,8 +19,7 @@ use Rattle.model.specs.Rules.{once}
 use Rattle.model.specs.Step.{Outcome}
 use Rattle.model.specs.Own.{own}
 use Rattle.model.specs.Setters.{onDisk, onCore, onHeld, onSlots, setNumbers, setFrames, setAddresses, setStates, setOwners, setActive, setUpdating, setImages}
-use Rattle.model.specs.Lent.{Ref, Table}
-use Rattle.writeback.specs.Nothing.{noState}
+use Rattle.model.specs.Lent.{Ref, Table, noState}
 use Rattle.writeback.specs.Pages.{framed}
 
 abbrev pub update : ℕ → Event

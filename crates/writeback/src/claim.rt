@@ -32,6 +32,7 @@ use model::frame::Frame;
 use model::frame::no_frame;
 use model::lines::LIVE;
 use model::lines::NULLED;
+use model::refusals::NOTHING_TO_CLAIM;
 use model::sizes::Sizes;
 
 // What the looks hand back by value: the frames then, and how many looks there were.
@@ -120,7 +121,7 @@ pub fn claim(
     ensures { λ r. ⌜ Left sizes frames accounts words «free_queue» «removal_list» addresses states used r ⌝ }
 {
     if at16(removal_list, 0) == 0 {
-        return answered(frames, 21, 0);
+        return answered(frames, NOTHING_TO_CLAIM, 0);
     }
     let looked = turn(frames, removal_list);
     let kept = looked.frames;

@@ -25,6 +25,8 @@ use model::frame::READING;
 use model::frame::no_frame;
 use model::lines::LIVE;
 use model::lines::NULLED;
+use model::refusals::NO_RANGE;
+use model::refusals::NO_TRANSFER;
 use model::sizes::Sizes;
 
 // Questions 3 and 22.
@@ -32,14 +34,14 @@ fn ask_done(sizes: Sizes, frame: usize, good: usize, frames: [Frame; 64]) -> u32
     ensures { λ r. ⌜ r ≡ firstNo (questions sizes (asked sizes frames) (pageDone frame good)) ⌝ }
 {
     if frame >= sizes.frames {
-        return 3;
+        return NO_RANGE;
     }
     if good > 1 {
-        return 3;
+        return NO_RANGE;
     }
     let asked = frame_at(frames, frame);
     if asked.transfer == NONE {
-        return 22;
+        return NO_TRANSFER;
     }
     0
 }

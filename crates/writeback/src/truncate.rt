@@ -12,9 +12,9 @@ ghost use Rattle.writeback.specs.Truncate.{quiet, allQuiet, chargesFrom,
 use crate::by_page::by_page;
 use crate::by_page::wide;
 use crate::charges::uncharge;
+use leaves::asks::ask_slot;
 use leaves::cells::at8;
 use leaves::cells::at16;
-use leaves::cells::at32;
 use leaves::queue::push_back;
 use leaves::queue::remove;
 use leaves::slots::clear_from;
@@ -25,6 +25,8 @@ use model::frame::Frame;
 use model::frame::NONE;
 use model::frame::no_frame;
 use model::lines::LIVE;
+use model::refusals::IN_TRANSFER;
+use model::refusals::WIRED;
 use model::sizes::Sizes;
 
 // Whether the frame is in no transfer (which 0, question 14), or not wired (which 1, question 16).
@@ -170,23 +172,16 @@ fn ask_truncate(
     requires { ⌜ (sizes .frames < 65) × (sizes .pages < 257) × (sizes .slots < 65) ⌝ }
     ensures { λ r. ⌜ r ≡ firstNo (questions sizes (asked sizes frames numbers active) (truncate slot k)) ⌝ }
 {
-    if slot >= sizes.slots {
-        return 3;
-    }
-    if k > sizes.pages {
-        return 3;
-    }
-    if at32(numbers, slot) == 0 {
-        return 4;
-    }
-    if at8(active, slot) != 1 {
-        return 8;
+    let in_range = (slot < sizes.slots) & (k <= sizes.pages);
+    let no = ask_slot(in_range, slot, numbers, active);
+    if no != 0 {
+        return no;
     }
     if all_quiet(0, sizes.frames, sizes.pages, slot, k, frames) {} else {
-        return 14;
+        return IN_TRANSFER;
     }
     if all_quiet(1, sizes.frames, sizes.pages, slot, k, frames) {} else {
-        return 16;
+        return WIRED;
     }
     0
 }

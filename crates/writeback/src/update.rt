@@ -10,9 +10,9 @@ ghost use Rattle.model.specs.Questions.{questions};
 ghost use Rattle.leaves.specs.Addresses.{liveAddress};
 ghost use Rattle.writeback.specs.Update.{update, asked, leaving, PagesReady, PagesLeft, Given, Left};
 use leaves::addresses::live_address;
+use leaves::asks::ask_idle;
 use leaves::cells::at8;
 use leaves::cells::at16;
-use leaves::cells::at32;
 use leaves::cells::put8;
 use leaves::frames::frame_of;
 use leaves::states::move_all;
@@ -28,19 +28,7 @@ use model::sizes::Sizes;
 fn ask_update(sizes: Sizes, slot: usize, numbers: &[u32], active: &[u8], updating: &[u8]) -> u32
     ensures { λ r. ⌜ r ≡ firstNo (questions sizes (asked numbers active updating) (update slot)) ⌝ }
 {
-    if slot >= sizes.slots {
-        return 3;
-    }
-    if at32(numbers, slot) == 0 {
-        return 4;
-    }
-    if at8(active, slot) != 1 {
-        return 8;
-    }
-    if at8(updating, slot) != 0 {
-        return 10;
-    }
-    0
+    ask_idle(slot < sizes.slots, slot, numbers, active, updating)
 }
 
 // The image lists the slot's live addresses, others 0.
