@@ -121,7 +121,15 @@ cut fs ss = Acts.cutting (among fs) (among ss) (junk small)
 -- ── what a list answers and leaves ──
 -- the answer and the result of one act (a cut has none)
 unfoldable pub said : Sizes → World → Act → List ℕ
-unfolding all any count find those tab bits members packed times without tail head push-back push-front pop remove size first firstNo test choose store State.charged State.payer State.usedOf State.freeCount State.freeWord Rules.diskRules Rules.rangeRules Rules.recordRules Rules.queueRules Rules.frameRules Rules.countRules Rules.memoryRules Rules.allRules Setters.counted Questions.wouldStore Parts.frameOf Parts.pick Designs.limit Designs.create Designs.delete Designs.activate Designs.deactivate Pages.beginRead Pages.serveZeros Pages.takeRecord Pages.read Pages.wordRead Pages.write Pages.wire Pages.unwire Pages.lookStart Pages.faultFrame Pages.fault Writeback.look Writeback.looking Writeback.zeros Writeback.freeFrame Writeback.beginsWrite Writeback.claim Writeback.cutFrames Writeback.truncate Writeback.update Writeback.readGood Writeback.readFailed Writeback.storeFrame Writeback.writeGood Writeback.writeFailed Writeback.pageDone Writeback.storeImage Writeback.updateOver Writeback.mapDone Restart.formatted Restart.isListed Restart.listedAt Restart.restarted Step.allFit Step.answer Step.carried Step.result Step.step Step.format Step.restart Step.look Ledger.noWrite Ledger.noUpdate Ledger.put Ledger.over Ledger.finishWrite Ledger.finishUpdate Ledger.strikeWrite Ledger.strikeUpdate Ledger.finishWrites Ledger.finishUpdates Ledger.lose Ledger.found Ledger.recount Ledger.note Ledger.unwritten Acts.fed Acts.landWrites Acts.landUpdates Acts.landed Acts.noted Acts.act Acts.allowed Acts.legal Acts.run Acts.start junk among
+unfolding all any count find those tab bits members packed times without tail head push-back push-front pop remove size first firstNo test choose store State.charged State.payer
+    State.usedOf State.freeCount State.freeWord Rules.diskRules Rules.rangeRules Rules.recordRules Rules.queueRules Rules.frameRules Rules.countRules Rules.memoryRules
+    Rules.allRules Setters.counted Questions.wouldStore Parts.frameOf Parts.pick Designs.limit Designs.create Designs.delete Designs.activate Designs.deactivate Pages.beginRead
+    Pages.serveZeros Pages.takeRecord Pages.read Pages.wordRead Pages.write Pages.wire Pages.unwire Pages.lookStart Pages.faultFrame Pages.fault Writeback.look Writeback.looking
+    Writeback.zeros Writeback.freeFrame Writeback.beginsWrite Writeback.claim Writeback.cutFrames Writeback.truncate Writeback.update Writeback.readGood Writeback.readFailed
+    Writeback.storeFrame Writeback.writeGood Writeback.writeFailed Writeback.pageDone Writeback.storeImage Writeback.updateOver Writeback.mapDone Restart.formatted Restart.isListed
+    Restart.listedAt Restart.restarted Step.allFit Step.answer Step.carried Step.result Step.step Step.format Step.restart Step.look Ledger.noWrite Ledger.noUpdate Ledger.put
+    Ledger.over Ledger.finishWrite Ledger.finishUpdate Ledger.strikeWrite Ledger.strikeUpdate Ledger.finishWrites Ledger.finishUpdates Ledger.lose Ledger.found Ledger.recount
+    Ledger.note Ledger.unwritten Acts.fed Acts.landWrites Acts.landUpdates Acts.landed Acts.noted Acts.act Acts.allowed Acts.legal Acts.run Acts.start junk among
 said z w (Acts.event e) = let a = Step.step z (w .state) e .answer in a .refusal ∷ a .result ∷ []
 said z w (Acts.looking s p) = let a = Step.look z (w .state) s p .answer in a .refusal ∷ a .result ∷ []
 said z w Acts.restarting = let a = Step.restart z (w .state) .answer in a .refusal ∷ a .result ∷ []
