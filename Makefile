@@ -1,8 +1,10 @@
 # make test: the gate. make replay: the event program on a readable example. make mutants: every wrong definition that a theorem must refuse.
 # make docs: what the documents take from the code, and whatever repeats the lent tables. make bench: the keeper's speed beside the C port's and the reference's (docs/BENCHMARKS.md).
-.PHONY: test replay mutants docs bench
+# make plug: kills a weaver on a file disk, KILLS times, and checks every promise (docs/TESTS.md). Nothing of that is proved.
+.PHONY: test replay mutants docs bench plug
 EXAMPLE = examples/two-mills.txt
 LIBRARY = target/staticlib/libkeeper.a
+KILLS = 2000
 
 test:
 	bash .ci/run
@@ -23,6 +25,9 @@ docs:
 
 bench: $(LIBRARY)
 	python3 bench/run.py
+
+plug: $(LIBRARY)
+	KILLS=$(KILLS) tests/plug.sh
 
 $(LIBRARY): crates.txt $(shell find crates -name '*.rt' -o -name '*.antt')
 	rt staticlib keeper
