@@ -1,8 +1,8 @@
 # make test: the gate. make replay: the event program on a readable example. make mutants: every wrong definition that a theorem must refuse.
 # make docs: what the documents take from the code, and whatever repeats the lent tables. make bench: the keeper's speed beside the C port's and the reference's (docs/BENCHMARKS.md).
 # make plug: kills a weaver on a file disk, KILLS times, and checks every promise (docs/TESTS.md). Nothing of that is proved.
-.PHONY: test replay mutants docs bench plug
-EXAMPLE = examples/two-mills.txt
+.PHONY: test replay mutants docs bench plug break
+LIST = examples/two-mills.txt
 LIBRARY = target/staticlib/libkeeper.a
 KILLS = 2000
 
@@ -10,10 +10,13 @@ test:
 	bash .ci/run
 
 replay:
-	rt check replay
-	python3 tools/events.py encode < $(EXAMPLE) > target/example.in
-	target/bin/replay < target/example.in > target/example.out
-	python3 tools/events.py show $(EXAMPLE) target/example.out
+	@python3 tools/prove.py replay
+	@python3 tools/events.py encode $(LIST) > target/example.in
+	@target/bin/replay < target/example.in > target/example.out
+	@echo && python3 tools/events.py show $(LIST) target/example.out
+
+break:
+	@python3 tools/break.py $(WRONG)
 
 mutants:
 	python3 tests/mutants/run.py
@@ -30,4 +33,4 @@ plug: $(LIBRARY)
 	KILLS=$(KILLS) tests/plug.sh
 
 $(LIBRARY): crates.txt $(shell find crates -name '*.rt' -o -name '*.antt')
-	rt staticlib keeper
+	@python3 tools/prove.py --lib keeper
