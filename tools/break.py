@@ -52,7 +52,7 @@ def proved_wrong(name):
         run.apply_edit(to, edit)
         status, text = run.check(to, edit["crate"])
         said = re.search(r"^.*: error: .*(?:\n .*)*", text, re.M)
-        return run.refused_by(status, text), said.group() if said else "", time.monotonic() - start
+        return run.refused_by(status, text), said.group().replace(f"{to}/", "") if said else "", time.monotonic() - start
     finally:
         shutil.rmtree(to, ignore_errors=True)
 
@@ -74,7 +74,7 @@ def main(words):
     quote(field(name, "old"))
     print(f"\nTried in its place: {field(name, 'what')}.\n")
     quote(field(name, "new"))
-    print("\nThe prover goes through a copy with this one change; a minute or two ..", flush=True)
+    print("\nThe prover goes through a copy with this one change; half a minute or so ..", flush=True)
     place, said, seconds = proved_wrong(name)
     if not place:
         print(f"\nNOT REFUSED, after {seconds:.0f} s: everything is proved with this definition. That must not be.")
