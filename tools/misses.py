@@ -8,6 +8,7 @@ choose the page that leaves its frame are compared: the keeper's removal list, r
 possible, which knows the future and takes the page whose next use is farthest.
 """
 
+import functools
 import pathlib
 import subprocess
 import sys
@@ -66,6 +67,7 @@ def best(pages):
     return [best_with(pages, following, frames) for frames in FRAMES]
 
 
+@functools.cache
 def program():
     """Builds tools/misses.c over the static library."""
     built, library = ROOT / "target" / "misses", ROOT / "target" / "staticlib" / "libkeeper.a"
