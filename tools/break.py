@@ -37,6 +37,20 @@ def names():
     return sorted(path.stem for path in MUTANTS.glob("*.edit") if field(path.stem, "breaks"))
 
 
+def definition(name, text):
+    """The paragraph of the file in which the edit's old text stands, with `text` in its place."""
+    whole, old = (ROOT / field(name, "file")).read_text(), field(name, "old")
+    at = whole.index(old)
+    start, end = whole.rfind("\n\n", 0, at) + 2, whole.find("\n\n", at)
+    return whole[start:at] + text + whole[at + len(old) : end if end >= 0 else len(whole)]
+
+
+def lines(text, most):
+    """So many lines of a text, each cut where it is long."""
+    for line in text.splitlines()[:most]:
+        print("    " + (line if len(line) <= 150 else line[:147] + ".."), flush=True)
+
+
 def quote(text):
     print(textwrap.fill(text.strip(), 100, initial_indent="    ", subsequent_indent="    "), flush=True)
 
@@ -70,17 +84,17 @@ def main(words):
         return 2
     print("The specification says (docs/SPEC.md):\n")
     quote(field(name, "breaks"))
-    print(f"\nIts definition has (in {field(name, 'file')}):\n")
-    quote(field(name, "old"))
+    print(f"\nIts definition, in {field(name, 'file')}:\n")
+    lines(definition(name, field(name, "old")), 12)
     print(f"\nTried in its place: {field(name, 'what')}.\n")
-    quote(field(name, "new"))
+    lines(definition(name, field(name, "new")), 12)
     print("\nThe prover goes through a copy with this one change; half a minute or so ..", flush=True)
     place, said, seconds = proved_wrong(name)
     if not place:
         print(f"\nNOT REFUSED, after {seconds:.0f} s: everything is proved with this definition. That must not be.")
         return 1
     print(f"\nRefused, after {seconds:.0f} s, by the crate {place}. The prover's first words:\n")
-    quote(said[:600] or "(see docs/PROOF.md)")
+    lines(said or "(see docs/PROOF.md)", 4)
     print("\nSo this sentence of the specification does not hold with it:\n")
     quote(field(name, "breaks"))
     return 0
