@@ -144,7 +144,11 @@ class NewTable(unittest.TestCase):
         self.assertEqual(ran.stderr, "")
 
     def test_the_easy_header_compiles(self):
-        """The struct, the block and the calls follow; and a new kind of request gets its function."""
+        """The struct, the block and the calls follow; a new kind of request gets its function, and what a call takes beside the tables stays."""
+        first = {"format": ctext.FIRST["format"] + ["const uint16_t *wanted", "size_t wanted_count"]}
+        patch = mock.patch.dict(ctext.FIRST, first)
+        patch.start()
+        self.addCleanup(patch.stop)
         plain, easy = ((lent.ROOT / "include" / name).read_text() for name in ("keeper.h", "keeper_easy.h"))
         plain = plain.replace("KEEPER_LIMIT = 15 ", "KEEPER_MOVE = 17, /* giver, taker, amount */\n    KEEPER_LIMIT = 15 ")
         plain = "".join(tables.parts(plain, *tables.marks("keeper.h", "tables and calls"), "keeper.h")[::2]).replace(
@@ -157,7 +161,7 @@ class NewTable(unittest.TestCase):
         text = plain + before.replace('#include "keeper.h"', "") + made + after
         use = (
             "KeeperAnswer call(Keeper *keeper);\nKeeperAnswer call(Keeper *keeper)\n{\n    keeper->parents[0] = keeper->highest[0] > keeper->line[31];\n"
-            "    keeper_move(keeper, 1, 0, 2);\n    return keeper_easy_restart(keeper);\n}\n"
+            "    keeper_move(keeper, 1, 0, 2);\n    keeper_easy_format(keeper, keeper->parents, 1);\n    return keeper_easy_restart(keeper);\n}\n"
         )
         for words in (["gcc", "-std=c99", "-x", "c"], ["g++", "-std=c++11", "-x", "c++"]):
             command = [*words, "-Wall", "-Wextra", "-Werror", "-pedantic", "-fsyntax-only", "-"]
