@@ -593,7 +593,7 @@ static inline uint32_t keeper_hold(Keeper *keeper, const uint16_t *frames, size_
 }
 
 /* Claims the changed pages of the design that were not tried yet, and no other: the rest of the removal list is wired meanwhile, and is in its
- * old order after it. `count` is how many were claimed. */
+ * old order after it, with initial off. `count` is how many were claimed. */
 static inline uint32_t keeper_save_claims(Keeper *keeper, KeeperSave *save, size_t *count)
 {
     uint16_t others[KEEPER_MOST_FRAMES];
