@@ -30,7 +30,10 @@ def needed(name, text):
 
 
 def shown(line, done, total, seconds):
-    """What a reader sees of a line of the prover's: a crate that is proved, or None."""
+    """What a reader sees of a line of the prover's: a crate that is proved, a library that is built, or None."""
+    built = re.match(r"rt: (target/\S+) has ", line)
+    if built:
+        return f"built {built.group(1)}, {seconds:.0f} s"
     found = re.match(r"rt: (\w+) proved(.*)", line)
     if not found or found.group(1) in done:
         return None

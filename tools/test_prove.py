@@ -54,7 +54,8 @@ class Prove(Tools):
         self.assertEqual((self.root / "target" / "prove-high.log").read_text(), GOOD)
 
     def test_library(self):
-        self.run_tool("prove.py", GOOD, 0, "--lib", "high")
+        _, said = self.run_tool("prove.py", GOOD.replace("rt: high proved (3 s)", "rt: target/staticlib/libhigh.a has the functions"), 0, "--lib", "high")
+        self.assertIn("built target/staticlib/libhigh.a, 0 s", said)
         self.assertEqual((self.root / "asked").read_text(), "staticlib high\n")
 
     def test_not_proved(self):
