@@ -192,7 +192,7 @@ static void test_transfers(void)
 
 static void test_text(void)
 {
-    for (uint32_t a = 0; a <= KEEPER_LEAVING; a++) {
+    for (uint32_t a = 0; a <= KEEPER_NO_TRANSFER; a++) {
         CHECK(keeper_text(a)[0] != 0 && strcmp(keeper_text(a), keeper_text(1000)) != 0);
         for (uint32_t b = 0; b < a; b++)
             if (strcmp(keeper_text(a), keeper_text(b)) == 0)
