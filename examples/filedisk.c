@@ -31,9 +31,9 @@ static int file_read(void *self, uint64_t at, void *to, size_t bytes)
         ssize_t got = pread((int)(intptr_t)self, next, bytes, (off_t)at);
         if (got < 0 && errno == EINTR)
             continue;
-        if (got < 0)
+        if (got < 0 || (got == 0 && at >= FILEDISK_BLOCK)) /* a file that ends within its tables is damaged */
             return -1;
-        if (got == 0) { /* past the end of the file: zeros, which no checksum takes for a header */
+        if (got == 0) { /* one that ends within the header block has none: zeros, which are no header */
             memset(next, 0, bytes);
             return 0;
         }

@@ -1,6 +1,8 @@
 /* Not proved: the test of examples/filedisk.c's header, journal and refusals, over a file. Kills and cuts are tests/plug.c's. */
+#define _POSIX_C_SOURCE 200809L
 #include <stdio.h>
 #include <stdlib.h>
+#include <unistd.h>
 #include "filedisk.h"
 
 static unsigned passed, failed;
@@ -160,6 +162,10 @@ int main(int count, char **words)
     disk.blocks.write = fails;
     filedisk_limit(&disk, &keeper, 0, 1);
     CHECK(disk.dead && strstr(disk.line, "device failed"));
+    /* a file that was cut off is refused, not read as zeros */
+    char line[240];
+    CHECK(truncate(words[1], (off_t)disk.end - 600) == 0 && opened_with(blocks, sizes, line) == FILEDISK_DEVICE);
+    CHECK(truncate(words[1], 100) == 0 && opened_with(blocks, sizes, line) == FILEDISK_NO_DISK);
     filedisk_close(&blocks);
     free(keeper.records);
     printf("%u passed, %u failed\n", passed, failed);
