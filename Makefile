@@ -1,17 +1,24 @@
 # make test: the gate. make replay: the event program on a readable example. make mutants: every wrong definition that a theorem must refuse.
 # make docs: what the documents take from the code, and whatever repeats the lent tables. make bench: the keeper's speed beside the C port's and the reference's (docs/BENCHMARKS.md).
-.PHONY: test replay mutants docs bench
-EXAMPLE = examples/two-mills.txt
+# make plug: kills a weaver on a file disk, KILLS times, and checks every promise. make break: a wrong definition, WRONG, refused before your eyes.
+# make timeline: a list of events, LIST, as one HTML file to look at. make misses: the misses of a list of page uses, TRACE, for 1 to 64 frames. (docs/TESTS.md; what these are made of is tested, not proved.)
+.PHONY: test replay mutants docs bench plug break misses timeline
+LIST = examples/two-mills.txt
 LIBRARY = target/staticlib/libkeeper.a
+KILLS = 2000
+TRACE = examples/traces/weaving.txt
 
 test:
 	bash .ci/run
 
 replay:
-	rt check replay
-	python3 tools/events.py encode < $(EXAMPLE) > target/example.in
-	target/bin/replay < target/example.in > target/example.out
-	python3 tools/events.py show $(EXAMPLE) target/example.out
+	@python3 tools/prove.py replay
+	@python3 tools/events.py encode $(LIST) > target/example.in
+	@target/bin/replay < target/example.in > target/example.out
+	@echo && python3 tools/events.py show $(LIST) target/example.out
+
+break:
+	@python3 tools/break.py $(WRONG)
 
 mutants:
 	python3 tests/mutants/run.py
@@ -24,5 +31,14 @@ docs:
 bench: $(LIBRARY)
 	python3 bench/run.py
 
+timeline: $(LIBRARY)
+	@python3 tools/timeline.py $(LIST)
+
+misses: $(LIBRARY)
+	@python3 tools/misses.py $(TRACE)
+
+plug: $(LIBRARY)
+	KILLS=$(KILLS) tests/plug.sh
+
 $(LIBRARY): crates.txt $(shell find crates -name '*.rt' -o -name '*.antt')
-	rt staticlib keeper
+	@python3 tools/prove.py --lib keeper

@@ -59,10 +59,12 @@ typedef struct {
 } KeeperPart;
 
 /* The layouts that the calls are proved for. */
-#ifdef __cplusplus
+#if defined __cplusplus
 #define KEEPER_ASSERT static_assert
-#else
+#elif __STDC_VERSION__ >= 201112L
 #define KEEPER_ASSERT _Static_assert
+#else /* C99: an array of no length is an error */
+#define KEEPER_ASSERT(holds, text) extern const char keeper_holds[(holds) ? 1 : -1]
 #endif
 KEEPER_ASSERT(sizeof(size_t) == 8, "a 64-bit platform");
 KEEPER_ASSERT(sizeof(KeeperSizes) == 48, "six sizes of 8 bytes");

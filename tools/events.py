@@ -1,13 +1,16 @@
 #!/usr/bin/env python3
 """Event lists of the event program, as text and as bytes.
 
-    events.py encode < text > bytes
-    events.py decode < bytes > text
-    events.py show TEXT OUTPUT     the program's output lines beside the events
+    events.py encode [TEXT] > bytes      the list as the program reads it; without a file, from standard input
+    events.py decode [BYTES] > text
+    events.py show TEXT OUTPUT           the list with its comments, and beside each event what the program answered, in words
+    events.py --help                     this, and the events
 
 One event a line, its name and then its values in decimal; # starts a comment.
 """
 
+import difflib
+import re
 import sys
 
 # Name, tag, and each value's name and width in bytes.
@@ -34,6 +37,9 @@ BY_TAG = {tag: (name, values) for name, tag, values in EVENTS}
 
 HEADER = "n tag answer result"
 
+# what the result of an event is, in words
+RESULTS = {"fault": "frame {}", "read": "reads {}", "claim": "{} looks"}
+
 
 class Bad(Exception):
     """A line or field that is no event; says where and why."""
@@ -50,6 +56,12 @@ def value_of(word, name, width, line):
     return int(digits)
 
 
+def nearest(name):
+    """The event that a wrong name is most like."""
+    close = difflib.get_close_matches(name.lower(), BY_NAME, 1, 0.5)
+    return f"; did you mean {close[0]}?" if close else "."
+
+
 def parse_line(text, line):
     """A line's event as a name and values, or None for a blank one."""
     words = text.split("#", 1)[0].split()
@@ -57,7 +69,7 @@ def parse_line(text, line):
         return None
     name = words[0]
     if name not in BY_NAME:
-        raise Bad(f"line {line}: unknown event: {name}")
+        raise Bad(f"line {line}: unknown event: {name}{nearest(name)} The events: {', '.join(BY_NAME)}")
     values = BY_NAME[name][1]
     if len(words) - 1 != len(values):
         wanted = " ".join([name] + [value for value, _ in values])
@@ -120,22 +132,50 @@ def decode(data):
     return "".join(lines)
 
 
-def show(text, output):
-    """The output's lines beside the events that they answer."""
-    events = [line_of(name, values) for name, values in parse(text)]
-    lines = output.splitlines()
+def refusals():
+    """The refusals in words, by number: the header's comments."""
+    import ceasy
+
+    return {int(number): re.sub(r"^[a-z ,]+: ", "", comment) for _, number, comment in ceasy.enum("/* The refusals.")}
+
+
+def in_words(name, answer, result, words):
+    """An answer as a reader wants it."""
+    if answer != "0":
+        return f"refused, {answer}: {words.get(int(answer), 'an unknown refusal')}"
+    said = ", " + RESULTS[name].format(result) if name in RESULTS else ""
+    return "done" + (said[:-1] if said == ", 1 looks" else said)
+
+
+def answered(text, output):
+    """The answer and result of each event, where the output is that of the list."""
+    events, lines = parse(text), output.splitlines()
     if not lines or lines[0] != HEADER:
-        raise Bad("output line 1: not the program's header")
+        raise Bad("line 1: not the program's header")
     answers = lines[1:]
     if len(answers) != len(events):
         raise Bad(f"{len(events)} events, but {len(answers)} lines of output after the header")
-    for line, ((name, _), answer) in enumerate(zip(parse(text), answers), 2):
+    for line, ((name, _), answer) in enumerate(zip(events, answers), 2):
         words = answer.split()
         if len(words) != 4 or words[:2] != [str(line - 1), f"{BY_NAME[name][0]:02X}"]:
-            raise Bad(f"output line {line}: not the answer of {name}: {answer}")
-    width = max([len(event) for event in events], default=0)
-    rows = [" " * width + "  " + HEADER]
-    rows += [f"{event:<{width}}  {answer}" for event, answer in zip(events, answers)]
+            raise Bad(f"line {line}: not the answer of {name}: {answer}")
+    return [answer.split()[2:] for answer in answers]
+
+
+def show(text, output):
+    """The list as it stands, comments and all; beside each event its number and what was answered, in words."""
+    answers, words = iter(answered(text, output)), refusals()
+    width = max([len(line_of(*event)) for event in parse(text)], default=0)
+    rows, count = [], 0
+    for number, line in enumerate(text.splitlines(), 1):
+        event = parse_line(line, number)
+        if event is None:
+            rows.append(line)
+            continue
+        count += 1
+        comment = line.partition("#")[2].strip()
+        said = in_words(event[0], *next(answers), words)
+        rows.append(f"{count:>4}  {line_of(*event):<{width}}  {said}" + (f"  # {comment}" if comment else ""))
     return "".join(row.rstrip() + "\n" for row in rows)
 
 
@@ -144,20 +184,43 @@ def read_text(path):
         return file.read()
 
 
+def help_text():
+    rows = ["  " + line_of(name, [value.upper() for value, _ in values]) for name, _, values in EVENTS]
+    return __doc__.strip() + "\n\nThe events:\n\n" + "\n".join(rows) + "\n"
+
+
+def named(path, work):
+    """Work over a file; what is wrong with it is said with its name."""
+    try:
+        return work()
+    except Bad as bad:
+        raise Bad(f"{path}: {bad}") from None
+
+
 def main(arguments):
-    if arguments == ["encode"]:
-        sys.stdout.buffer.write(encode(sys.stdin.read()))
-    elif arguments == ["decode"]:
-        sys.stdout.write(decode(sys.stdin.buffer.read()))
-    elif len(arguments) == 3 and arguments[0] == "show":
-        sys.stdout.write(show(read_text(arguments[1]), read_text(arguments[2])))
+    what, path = (arguments + ["", ""])[:2]
+    name = path or "standard input"
+    if what in ("--help", "-h", "help"):
+        sys.stdout.write(help_text())
+    elif what == "encode" and len(arguments) <= 2:
+        text = read_text(path) if path else sys.stdin.read()
+        sys.stdout.buffer.write(named(name, lambda: encode(text)))
+    elif what == "decode" and len(arguments) <= 2:
+        data = open(path, "rb").read() if path else sys.stdin.buffer.read()
+        sys.stdout.write(named(name, lambda: decode(data)))
+    elif what == "show" and len(arguments) == 3:
+        text, output = read_text(path), read_text(arguments[2])
+        named(path, lambda: parse(text))
+        sys.stdout.write(named(arguments[2], lambda: show(text, output)))
     else:
-        raise Bad(__doc__.strip())
+        raise Bad(help_text())
 
 
 if __name__ == "__main__":
     try:
         main(sys.argv[1:])
+    except BrokenPipeError:
+        sys.exit(1)
     except (Bad, OSError, UnicodeDecodeError) as error:
         print(error, file=sys.stderr)
         sys.exit(1)

@@ -11,6 +11,7 @@ import pathlib
 import re
 import sys
 
+import ceasy
 import ctext
 import lent
 from lent import PARTS, ROOT, WIDTHS, of_part
@@ -85,6 +86,7 @@ MADE = [
     ("docs/USING.md", "tables", bytes_table),
     ("docs/SPEC.md", "tables", meaning_table),
     ("include/keeper.h", "tables and calls", ctext.header),
+    ("include/keeper_easy.h", "tables and calls", ceasy.easy),
     ("bench/keeper.h", "tables", ctext.port_layout),
     ("bench/replay.c", "tables", ctext.port_tables),
     ("tests/reference/src/linked/c_port.rs", "layout", ctext.linked_layout),

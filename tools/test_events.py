@@ -13,6 +13,7 @@ VECTORS = ROOT / "tests" / "vectors"
 EXAMPLE = ROOT / "examples" / "two-mills.txt"
 EXAMPLE_VECTOR = VECTORS / "40-two-mills.in"
 TOOL = ROOT / "tools" / "events.py"
+NAMES = ", ".join(name for name, _, _ in events.EVENTS)
 
 
 def inputs():
@@ -64,7 +65,9 @@ class RoundTrip(unittest.TestCase):
 
 class Refusals(unittest.TestCase):
     CASES = [
-        ("claim\nclaims", "line 2: unknown event: claims"),
+        ("claim\nclaims", f"line 2: unknown event: claims; did you mean claim? The events: {NAMES}"),
+        ("xyzzy", f"line 1: unknown event: xyzzy. The events: {NAMES}"),
+        ("Map_Done 0 1", f"line 1: unknown event: Map_Done; did you mean map-done? The events: {NAMES}"),
         ("\n\nfault 0", "line 3: 1 values, the event is: fault slot page"),
         ("claim 0", "line 1: 1 values, the event is: claim"),
         ("fault 0 x", "line 1: page is not a number: x"),
@@ -88,10 +91,18 @@ class Refusals(unittest.TestCase):
         )
         bad = run("encode", given=b"claim\nclaims\n")
         self.assertEqual((bad.returncode, bad.stdout), (1, b""))
-        self.assertIn(b"line 2: unknown event: claims", bad.stderr)
+        self.assertIn(b"standard input: line 2: unknown event: claims", bad.stderr)
+        self.assertIn(b"README.md: line 3: unknown event: A. The events: create, ", run("encode", ROOT / "README.md").stderr)
         self.assertEqual(run("decode", given=b"\x00").returncode, 1)
         self.assertEqual(run("show", "nothing", "nothing").returncode, 1)
         self.assertEqual(run("guess").returncode, 1)
+        self.assertEqual((run().returncode, run().stdout), (1, b""))
+        for word in ("--help", "-h"):
+            helped = run(word)
+            self.assertEqual((helped.returncode, helped.stderr), (0, b""))
+            self.assertIn(b"  map-done SLOT GOOD\n", helped.stdout)
+        self.assertEqual(run("encode", EXAMPLE).stdout, EXAMPLE_VECTOR.read_bytes())
+        self.assertEqual(run("decode", EXAMPLE_VECTOR).stdout, run("decode", given=EXAMPLE_VECTOR.read_bytes()).stdout)
         self.assertEqual(run("encode", given=b"claim").stdout, b"\x08\x00\x00")
 
 
@@ -99,9 +110,18 @@ class Show(unittest.TestCase):
     OUTPUT = events.HEADER + "\n1 0F 0 0\n2 08 21 0\n"
 
     def test_beside(self):
-        shown = events.show("limit 0 2\n# nothing in a frame\nclaim", self.OUTPUT)
-        rows = ["           n tag answer result", "limit 0 2  1 0F 0 0", "claim      2 08 21 0"]
+        shown = events.show("limit 0 2  # two pages\n\n# nothing in a frame\nclaim", self.OUTPUT)
+        rows = ["   1  limit 0 2  done  # two pages", "", "# nothing in a frame", "   2  claim      refused, 21: the removal list is empty"]
         self.assertEqual(shown.splitlines(), rows)
+
+    def test_results(self):
+        output = events.HEADER + "\n1 05 0 1\n2 06 0 77\n3 08 0 2\n4 08 0 1\n5 10 0 0\n"
+        said = [line.split("  ")[-1].strip() for line in events.show("fault 0 0\nread 0 0 0\nclaim\nclaim\ncut", output).splitlines()]
+        self.assertEqual(said, ["done, frame 1", "done, reads 77", "done, 2 looks", "done, 1 look", "done"])
+
+    def test_every_refusal_in_words(self):
+        self.assertLessEqual(set(range(23)), set(events.refusals()))
+        self.assertEqual(events.refusals()[20], "no frame is free")
 
     def test_another_list(self):
         for text in ["limit 0 2", "limit 0 2\ncut", "limit 0 2\nclaim\nclaim"]:
@@ -118,7 +138,8 @@ class Example(unittest.TestCase):
         text = EXAMPLE.read_text()
         self.assertEqual(events.encode(text), EXAMPLE_VECTOR.read_bytes())
         shown = events.show(text, EXAMPLE_VECTOR.with_suffix(".out").read_text())
-        self.assertEqual(len(shown.splitlines()), len(events.parse(text)) + 1)
+        self.assertEqual(len(shown.splitlines()), len(text.splitlines()))
+        self.assertIn("  12  fault 0 1       refused, 20: no frame is free", shown.splitlines())
 
 
 if __name__ == "__main__":

@@ -2,10 +2,12 @@
 """Tests of tables.py, and that the list of the lent tables is the code's: python3 tools/test_tables.py"""
 
 import re
+import shutil
 import subprocess
 import unittest
 from unittest import mock
 
+import ceasy
 import ctext
 import lent
 import tables
@@ -140,6 +142,33 @@ class NewTable(unittest.TestCase):
         command = ["gcc", "-std=c11", "-Wall", "-Wextra", "-Werror", "-pedantic", "-fsyntax-only", "-x", "c", "-"]
         ran = subprocess.run(command, input=before + ctext.header() + after + use, capture_output=True, text=True)
         self.assertEqual(ran.stderr, "")
+
+    def test_the_easy_header_compiles(self):
+        """The struct, the block and the calls follow; a new kind of request gets its function, and what a call takes beside the tables stays."""
+        first = {"format": ctext.FIRST["format"] + ["const uint16_t *wanted", "size_t wanted_count"]}
+        patch = mock.patch.dict(ctext.FIRST, first)
+        patch.start()
+        self.addCleanup(patch.stop)
+        plain, easy = ((lent.ROOT / "include" / name).read_text() for name in ("keeper.h", "keeper_easy.h"))
+        plain = plain.replace("KEEPER_LIMIT = 15 ", "KEEPER_MOVE = 17, /* giver, taker, amount */\n    KEEPER_LIMIT = 15 ")
+        plain = "".join(tables.parts(plain, *tables.marks("keeper.h", "tables and calls"), "keeper.h")[::2]).replace(
+            tables.marks("keeper.h", "tables and calls")[0], tables.marks("keeper.h", "tables and calls")[0] + ctext.header()
+        )
+        before, _, after = tables.parts(easy, *tables.marks("keeper_easy.h", "tables and calls"), "keeper_easy.h")
+        whole = ceasy.enum
+        with mock.patch.object(ceasy, "enum", lambda comment: whole(comment, plain)):
+            made = ceasy.easy()
+        text = plain + before.replace('#include "keeper.h"', "") + made + after
+        use = (
+            "KeeperAnswer call(Keeper *keeper);\nKeeperAnswer call(Keeper *keeper)\n{\n    keeper->parents[0] = keeper->highest[0] > keeper->line[31];\n"
+            "    keeper_move(keeper, 1, 0, 2);\n    keeper_easy_format(keeper, keeper->parents, 1);\n    return keeper_easy_restart(keeper);\n}\n"
+        )
+        for words in (["gcc", "-std=c99", "-x", "c"], ["g++", "-std=c++11", "-x", "c++"]):
+            command = [*words, "-Wall", "-Wextra", "-Werror", "-pedantic", "-fsyntax-only", "-"]
+            with self.subTest(words[0]):
+                if not shutil.which(words[0]):
+                    self.skipTest(f"no {words[0]}")
+                self.assertEqual(subprocess.run(command, input=text + use, capture_output=True, text=True).stderr, "")
 
 
 class Files(unittest.TestCase):

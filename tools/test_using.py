@@ -60,6 +60,35 @@ class Bytes(unittest.TestCase):
             self.assertEqual([sum(column) for column in zip(*numbers[:-1])], numbers[-1])
 
 
+class Memory(unittest.TestCase):
+    """What is said of the memory near the top, and to a mill owner, is what the table of tables adds up to."""
+
+    def test_using(self):
+        totals = {row[0]: row for row in rows("part")[1:] if row[1] == "all"}
+        paragraph = USING[USING.index("**The memory that it takes.**") :].split("\n\n")[0]
+        self.assertIn("4·R·W bytes for the records, and " + totals["disk"][4].replace("4·R·W + ", "") + " for the rest", paragraph)
+        for part in ("disk", "memory"):
+            for number in totals[part][6:]:
+                self.assertIn(number, paragraph)
+
+    def test_promises(self):
+        disk = next(row for row in rows("part") if row[:2] == ["disk", "all"])
+        middle, largest_ = (int(cell.replace(",", "")) for cell in disk[6:])
+        said = (ROOT / "docs" / "PROMISES.md").read_text()
+        self.assertIn(f"{round(middle / 1000)} kB for 512 pages of 64 words, {largest_ / 1e6:.1f} MB for the largest", said)
+
+
+class Functions(unittest.TestCase):
+    def test_named(self):
+        """Every function that the document names is in a header."""
+        known = HEADER + (ROOT / "include" / "keeper_easy.h").read_text()
+        named = set(re.findall(r"`&?(keeper_[a-z_]+)", USING))
+        self.assertGreater(len(named), 15)
+        for name in sorted(named):
+            with self.subTest(name):
+                self.assertTrue(re.search(rf"\b{name}\(", known) or re.search(rf"\b{name}\.h\b", known) or name == "keeper_easy")
+
+
 class Requests(unittest.TestCase):
     def test_kinds(self):
         section = enum_text("/* The kinds of request.")

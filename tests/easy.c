@@ -1,0 +1,393 @@
+/* Not proved: the test of include/keeper_easy.h, in the common part of C99 and C++. Every function of it is used here; the events are compared,
+ * table by table, with the same requests to keeper.h over tables that the macros of that header declare. tests/easy.sh builds and runs it. */
+#include <stdio.h>
+#include <stdlib.h>
+#include "keeper_easy.h"
+
+enum { W = 4, R = 9, F = 4, S = 3, N = 5, Q = 2 };
+
+static struct {
+    KEEPER_DISK_TABLES(W, R, F, S, N, Q)
+} disk;
+static struct {
+    KEEPER_MEMORY_TABLES(W, R, F, S, N, Q)
+} memory;
+#define EVERYTHING KEEPER_LEND(memory.frames), &memory.pool, KEEPER_LEND_DISK(disk), KEEPER_LEND_MEMORY(memory)
+
+static unsigned passed, failed;
+
+#define CHECK(holds) check((holds) != 0, #holds, __LINE__)
+static void check(int holds, const char *what, int line)
+{
+    if (holds) {
+        passed++;
+    } else {
+        failed++;
+        printf("tests/easy.c:%d: %s\n", line, what);
+    }
+}
+
+static KeeperSizes sizes_of(size_t words, size_t records, size_t frames, size_t slots, size_t pages, size_t accounts)
+{
+    KeeperSizes sizes;
+    memset(&sizes, 0, sizeof sizes);
+    sizes.words = words;
+    sizes.records = records;
+    sizes.frames = frames;
+    sizes.slots = slots;
+    sizes.pages = pages;
+    sizes.accounts = accounts;
+    return sizes;
+}
+
+static Keeper keeper;
+
+/* A keeper over a new block, formatted and restarted. */
+static void set_up(KeeperSizes sizes)
+{
+    free(keeper.records);
+    void *block = malloc(keeper_workspace(sizes));
+    memset(block, 0xA5, keeper_workspace(sizes));
+    CHECK(keeper_place(&keeper, sizes, block, keeper_workspace(sizes)) == KEEPER_PLACED);
+    CHECK(keeper_easy_format(&keeper).refusal == KEEPER_DONE);
+    CHECK(keeper_easy_restart(&keeper).refusal == KEEPER_DONE);
+}
+
+/* ── the block ── */
+static void test_place(void)
+{
+    KeeperSizes sizes = sizes_of(W, R, F, S, N, Q);
+    size_t bytes = keeper_workspace(sizes), end = 0, sum = 0;
+    unsigned char *block = (unsigned char *)malloc(bytes + 8);
+    memset(block, 0x5A, bytes + 8);
+    memset(&keeper, 0, sizeof keeper);
+    CHECK(keeper_place(&keeper, sizes, block, bytes - 1) == KEEPER_BLOCK_SHORT);
+    CHECK(keeper_place(&keeper, sizes, NULL, bytes) == KEEPER_BLOCK_SHORT);
+    CHECK(keeper_place(&keeper, sizes, block + 4, bytes) == KEEPER_BLOCK_MISALIGNED);
+    CHECK(keeper_place(&keeper, sizes_of(W, 0, F, S, N, Q), block, bytes) == KEEPER_BAD_SIZES);
+    CHECK(keeper_place(&keeper, sizes_of(W, KEEPER_MOST_RECORDS + 1, F, S, N, Q), block, bytes) == KEEPER_BAD_SIZES);
+    CHECK(keeper_workspace(sizes_of(W, R, F, S, KEEPER_MOST_PAGES + 1, Q)) == 0);
+    CHECK(keeper.records == NULL);
+    CHECK(keeper_place(&keeper, sizes, block, bytes) == KEEPER_PLACED);
+    for (size_t number = 0; number < KEEPER_TABLE_COUNT; number++) {
+        KeeperTable table = keeper_table(&keeper, number);
+        size_t at = (size_t)((unsigned char *)table.at - block);
+        CHECK(at % KEEPER_ALIGNMENT == 0 && at >= end && table.name[0] != 0);
+        end = at + table.width * table.count;
+        sum += table.width * table.count;
+    }
+    CHECK(end <= bytes && sum <= bytes && bytes < sum + 8 * KEEPER_TABLE_COUNT);
+    CHECK(keeper_table(&keeper, KEEPER_TABLE_COUNT).at == NULL);
+    CHECK(keeper_table(&keeper, KEEPER_TABLE_RECORDS).count == R * W && keeper_table(&keeper, KEEPER_TABLE_POOL).count == 1);
+    CHECK(keeper_size(sizes, 0).letter == 'W' && keeper_size(sizes, 0).value == W && keeper_size(sizes, 5).value == Q);
+    unsigned other = 0;
+    for (size_t at = 0; at < bytes + 8; at++)
+        other += block[at] != 0x5A;
+    CHECK(other == 0);
+    KeeperSizes most = sizes_of(KEEPER_MOST_WORDS, KEEPER_MOST_RECORDS, KEEPER_MOST_FRAMES, KEEPER_MOST_SLOTS, KEEPER_MOST_PAGES, KEEPER_MOST_ACCOUNTS);
+    CHECK(keeper_workspace(most) > 17000000 && keeper_workspace(most) < 17500000);
+    free(block);
+    keeper.records = NULL;
+}
+
+/* ── every event beside keeper.h ── */
+static uint32_t seed = 1;
+static uint32_t random_below(uint32_t most)
+{
+    seed ^= seed << 13;
+    seed ^= seed >> 17;
+    seed ^= seed << 5;
+    return seed % most;
+}
+
+static KeeperAnswer by_function(KeeperRequest r)
+{
+    switch (r.kind) {
+    case KEEPER_CREATE: return keeper_create(&keeper, r.first, r.second, r.third);
+    case KEEPER_DELETE: return keeper_delete(&keeper, r.first);
+    case KEEPER_ACTIVATE: return keeper_activate(&keeper, r.first);
+    case KEEPER_DEACTIVATE: return keeper_deactivate(&keeper, r.first);
+    case KEEPER_FAULT: return keeper_fault(&keeper, r.first, r.second);
+    case KEEPER_READ: return keeper_read(&keeper, r.first, r.second, r.third);
+    case KEEPER_WRITE: return keeper_write(&keeper, r.first, r.second, r.third, r.fourth);
+    case KEEPER_CLAIM: return keeper_claim(&keeper);
+    case KEEPER_WIRE: return keeper_wire(&keeper, r.first, r.second);
+    case KEEPER_UNWIRE: return keeper_unwire(&keeper, r.first, r.second);
+    case KEEPER_TRUNCATE: return keeper_truncate(&keeper, r.first, r.second);
+    case KEEPER_UPDATE: return keeper_update(&keeper, r.first);
+    case KEEPER_PAGE_DONE: return keeper_page_done(&keeper, r.first, r.second);
+    case KEEPER_MAP_DONE: return keeper_map_done(&keeper, r.first, r.second);
+    case KEEPER_LIMIT: return keeper_limit(&keeper, r.first, r.second);
+    default: return keeper_easy_apply(&keeper, r);
+    }
+}
+
+static KeeperRequest any_request(void)
+{
+    KeeperRequest r;
+    r.kind = 1 + random_below(16);
+    r.first = random_below(r.kind == KEEPER_PAGE_DONE ? F + 1 : r.kind == KEEPER_LIMIT ? Q + 1 : S);
+    r.second = random_below(r.kind == KEEPER_PAGE_DONE || r.kind == KEEPER_MAP_DONE || r.kind == KEEPER_CREATE ? 2 : N + 1);
+    r.third = r.kind == KEEPER_CREATE ? 1 + random_below(40) : random_below(W);
+    r.fourth = random_below(3);
+    return r;
+}
+
+#define SAME(part, name) (memcmp(keeper.name, part.name, sizeof part.name) == 0)
+static int same_tables(void)
+{
+    return SAME(disk, records) && SAME(disk, numbers) && SAME(disk, accounts) && SAME(disk, maps) && SAME(disk, limits)
+        && SAME(memory, frames) && SAME(memory, frame_words) && SAME(memory, free_queue) && SAME(memory, removal_list)
+        && SAME(memory, addresses) && SAME(memory, states) && SAME(memory, owners) && SAME(memory, free_map)
+        && SAME(memory, active) && SAME(memory, updating) && SAME(memory, images) && SAME(memory, used)
+        && memcmp(keeper.pool, &memory.pool, sizeof memory.pool) == 0;
+}
+
+static void test_events(void)
+{
+    KeeperSizes sizes = sizes_of(W, R, F, S, N, Q);
+    unsigned done[17] = {0}, different = 0;
+    set_up(sizes);
+    CHECK(keeper_format(sizes, KEEPER_LEND_DISK(disk)).refusal == KEEPER_DONE);
+    CHECK(keeper_restart(sizes, EVERYTHING).refusal == KEEPER_DONE);
+    for (unsigned call = 0; call < 60000; call++) {
+        KeeperRequest r = any_request();
+        KeeperAnswer easy = by_function(r), plain = keeper_apply(sizes, r, EVERYTHING);
+        different += easy.refusal != plain.refusal || easy.result != plain.result || !same_tables();
+        done[r.kind] += easy.refusal == KEEPER_DONE;
+        KeeperPart part = keeper_easy_page_look(&keeper, r.first, r.second);
+        KeeperPart beside = keeper_page_look(sizes, r.first, r.second, KEEPER_LEND(memory.frames), memory.pool, KEEPER_LEND_DISK(disk), KEEPER_LEND_MEMORY(memory));
+        different += part.refusal != beside.refusal || part.start != beside.start || part.count != beside.count;
+        const uint32_t *words = keeper_words(&keeper, r.first, r.second);
+        different += part.refusal == KEEPER_DONE ? words != keeper.frame_words + part.start : words != NULL;
+    }
+    CHECK(different == 0);
+    for (unsigned kind = 1; kind <= 15; kind++)
+        CHECK(done[kind] > 20);
+    CHECK(done[16] == 0);
+}
+
+/* ── the transfers ── */
+static void test_transfers(void)
+{
+    set_up(sizes_of(W, R, F, S, N, Q));
+    for (unsigned call = 0; call < 20000; call++) {
+        by_function(any_request());
+        unsigned found = 0, there = 0, wrong = 0;
+        for (KeeperTransfer t = keeper_next_transfer(&keeper, 0); t.way; t = keeper_next_transfer(&keeper, t.frame + 1)) {
+            const KeeperFrame *frame = keeper.frames + t.frame;
+            found++;
+            wrong += frame->transfer != t.way || frame->page != t.slot * N + t.page + 1 || keeper.addresses[frame->page - 1] != t.record + 1;
+            wrong += t.words != keeper.frame_words + t.frame * W || keeper_frame_of(&keeper, t.slot, t.page) != t.frame;
+        }
+        for (size_t frame = 0; frame < F; frame++)
+            there += keeper.frames[frame].transfer != 0;
+        for (uint32_t slot = keeper_next_update(&keeper, 0); slot < S; slot = keeper_next_update(&keeper, slot + 1))
+            wrong += !keeper.updating[slot] || keeper_image(&keeper, slot) != keeper.images + slot * N;
+        if (found != there || wrong)
+            CHECK(0 && "a transfer is not as the tables say");
+    }
+    CHECK(keeper_next_transfer(&keeper, F).way == KEEPER_NO_WAY && keeper_transfer(&keeper, F).way == KEEPER_NO_WAY);
+}
+
+static void test_text(void)
+{
+    for (uint32_t a = 0; a <= KEEPER_NO_TRANSFER; a++) {
+        CHECK(keeper_text(a)[0] != 0 && strcmp(keeper_text(a), keeper_text(1000)) != 0);
+        for (uint32_t b = 0; b < a; b++)
+            if (strcmp(keeper_text(a), keeper_text(b)) == 0)
+                CHECK(0 && "two refusals have one text");
+    }
+    CHECK(strcmp(keeper_text(KEEPER_NO_DESIGN), "the slot is empty") == 0);
+}
+
+/* ── bring and save ── */
+
+/* The device of these tests: a step's transfer or map is made at once, and reported. */
+static void report(KeeperStep step, uint32_t good)
+{
+    if (step.what == KEEPER_STEP_TRANSFER)
+        CHECK(keeper_page_done(&keeper, step.transfer.frame, good).refusal == KEEPER_DONE);
+    else if (step.what == KEEPER_STEP_MAP)
+        CHECK(keeper_map_done(&keeper, step.slot, good).refusal == KEEPER_DONE);
+}
+
+static uint32_t bring(uint32_t slot, uint32_t page)
+{
+    KeeperStep step = keeper_bring(&keeper, slot, page);
+    for (unsigned steps = 0; step.what == KEEPER_STEP_TRANSFER && steps < 20; steps++) {
+        CHECK(keeper_bring(&keeper, slot, page).transfer.frame == step.transfer.frame); /* asked again, it asks for the same */
+        report(step, 1);
+        step = keeper_bring(&keeper, slot, page);
+    }
+    return step.refusal;
+}
+
+static void weave(uint32_t slot, uint32_t page, uint32_t value)
+{
+    CHECK(bring(slot, page) == KEEPER_DONE);
+    for (uint32_t word = 0; word < keeper.sizes.words; word++)
+        CHECK(keeper_write(&keeper, slot, page, word, value).refusal == KEEPER_DONE);
+}
+
+static uint32_t first_word(uint32_t slot, uint32_t page)
+{
+    CHECK(bring(slot, page) == KEEPER_DONE);
+    return keeper_words(&keeper, slot, page) ? *keeper_words(&keeper, slot, page) : UINT32_MAX;
+}
+
+/* Saves the slot; how many transfers and maps it took, and which pages were left, one bit each. */
+static unsigned transfers, maps;
+static uint32_t save(uint32_t slot, uint32_t back, uint32_t good, uint32_t *left)
+{
+    KeeperSave state = keeper_save_begin(slot);
+    state.back = back;
+    transfers = maps = 0;
+    *left = 0;
+    for (unsigned steps = 0; steps < 100; steps++) {
+        KeeperStep step = keeper_save(&keeper, &state);
+        if (step.what == KEEPER_STEP_DONE)
+            return KEEPER_DONE;
+        if (step.what == KEEPER_STEP_REFUSED)
+            return step.refusal;
+        transfers += step.what == KEEPER_STEP_TRANSFER;
+        maps += step.what == KEEPER_STEP_MAP;
+        if (step.what == KEEPER_STEP_LEFT)
+            *left |= 1u << step.page;
+        report(step, step.what == KEEPER_STEP_TRANSFER ? good : 1);
+    }
+    CHECK(0 && "a save without end");
+    return UINT32_MAX;
+}
+
+/* Power fails, nothing lands that was not reported, all designs are active again. */
+static void cut(void)
+{
+    for (size_t number = KEEPER_DISK_COUNT; number < KEEPER_TABLE_COUNT; number++)
+        memset(keeper_table(&keeper, number).at, 0xC3, keeper_table(&keeper, number).width * keeper_table(&keeper, number).count);
+    CHECK(keeper_easy_restart(&keeper).refusal == KEEPER_DONE);
+    for (uint32_t slot = 0; slot < keeper.sizes.slots; slot++)
+        if (keeper.numbers[slot])
+            CHECK(keeper_activate(&keeper, slot).refusal == KEEPER_DONE);
+}
+
+static void designs(void)
+{
+    set_up(sizes_of(W, R, F, S, N, Q));
+    for (uint32_t slot = 0; slot < 2; slot++) {
+        CHECK(keeper_limit(&keeper, slot, N).refusal == KEEPER_DONE);
+        CHECK(keeper_create(&keeper, slot, slot, 101 + slot).refusal == KEEPER_DONE);
+        CHECK(keeper_activate(&keeper, slot).refusal == KEEPER_DONE);
+    }
+}
+
+static void test_bring(void)
+{
+    designs();
+    for (uint32_t page = 0; page < N; page++)
+        weave(0, page, 10 + page); /* more pages than frames */
+    for (uint32_t page = 0; page < N; page++)
+        CHECK(first_word(0, page) == 10 + page);
+    CHECK(bring(0, N) == KEEPER_NO_RANGE && bring(S, 0) == KEEPER_NO_RANGE && bring(2, 0) == KEEPER_NO_DESIGN);
+    for (uint32_t page = 0; page < F; page++)
+        CHECK(bring(0, page) == KEEPER_DONE && keeper_wire(&keeper, 0, page).refusal == KEEPER_DONE);
+    CHECK(bring(0, F) == KEEPER_NOTHING_TO_CLAIM);
+}
+
+static void test_save(void)
+{
+    uint32_t left;
+    designs();
+    weave(1, 0, 70); /* another mill's page stays in its frame */
+    weave(0, 0, 11);
+    weave(0, 1, 12);
+    CHECK(save(0, 0, 1, &left) == KEEPER_DONE && left == 0 && transfers == 2 && maps == 1);
+    CHECK(keeper_frame_of(&keeper, 1, 0) < F && keeper_frame_of(&keeper, 0, 0) == F);
+    CHECK(!keeper.frames[keeper_frame_of(&keeper, 1, 0)].wired);
+    CHECK(save(0, 0, 1, &left) == KEEPER_DONE && transfers == 0 && maps == 1);
+    cut();
+    CHECK(first_word(0, 0) == 11 && first_word(0, 1) == 12 && first_word(0, 2) == 0 && first_word(1, 0) == 0);
+
+    /* page 0 changes to zeros, page 1 is wired, page 2 is new: one write, one page left */
+    weave(0, 0, 0);
+    weave(0, 1, 22);
+    CHECK(keeper_wire(&keeper, 0, 1).refusal == KEEPER_DONE);
+    weave(0, 2, 23);
+    CHECK(save(0, 0, 1, &left) == KEEPER_DONE && left == 1u << 1 && transfers == 1);
+    CHECK(first_word(0, 1) == 22); /* still in its frame, still changed */
+    cut();
+    CHECK(first_word(0, 0) == 0 && first_word(0, 1) == 12 && first_word(0, 2) == 23);
+
+    /* a write that fails leaves its page; the next save takes it */
+    weave(0, 1, 32);
+    CHECK(save(0, 0, 0, &left) == KEEPER_DONE && left == 1u << 1);
+    CHECK(save(0, 1, 1, &left) == KEEPER_DONE && left == 0 && transfers == 2); /* the write, and the read that brings it back */
+    CHECK(keeper_frame_of(&keeper, 0, 1) < F);
+    cut();
+    CHECK(first_word(0, 1) == 32);
+
+    CHECK(save(2, 0, 1, &left) == KEEPER_NO_DESIGN && save(S, 0, 1, &left) == KEEPER_NO_RANGE);
+}
+
+/* An update and a write that are under way as the save begins are ended first; a failed map done begins another update. */
+static void test_save_under_way(void)
+{
+    uint32_t left;
+    designs();
+    weave(0, 0, 41);
+    CHECK(keeper_update(&keeper, 0).refusal == KEEPER_DONE);
+    CHECK(keeper_claim(&keeper).refusal == KEEPER_DONE);
+    CHECK(save(0, 0, 1, &left) == KEEPER_DONE && left == 0 && transfers == 1 && maps == 2);
+    cut();
+    CHECK(first_word(0, 0) == 41);
+    weave(0, 3, 42);
+    KeeperSave state = keeper_save_begin(0);
+    report(keeper_save(&keeper, &state), 1);
+    KeeperStep step = keeper_save(&keeper, &state);
+    CHECK(step.what == KEEPER_STEP_MAP);
+    report(step, 0);
+    step = keeper_save(&keeper, &state);
+    CHECK(step.what == KEEPER_STEP_MAP);
+    report(step, 1);
+    CHECK(keeper_save(&keeper, &state).what == KEEPER_STEP_DONE && keeper_save(&keeper, &state).what == KEEPER_STEP_DONE);
+    cut();
+    CHECK(first_word(0, 3) == 42);
+}
+
+/* Pages of other designs keep their frames and their order through a save. */
+static void test_save_order(void)
+{
+    uint32_t left;
+    uint16_t before[F], after[F];
+    set_up(sizes_of(W, R, F, S, N, Q));
+    CHECK(keeper_limit(&keeper, 0, N).refusal == KEEPER_DONE);
+    for (uint32_t slot = 0; slot < 2; slot++)
+        CHECK(keeper_create(&keeper, slot, 0, 5 + slot).refusal == KEEPER_DONE && keeper_activate(&keeper, slot).refusal == KEEPER_DONE);
+    weave(1, 0, 1);
+    weave(0, 0, 2);
+    weave(1, 1, 3);
+    weave(1, 2, 4);
+    size_t others = 0, now = 0;
+    for (size_t at = 0; at < F && keeper.removal_list[at]; at++)
+        if (keeper.frames[keeper.removal_list[at] - 1].page > N)
+            before[others++] = keeper.frames[keeper.removal_list[at] - 1].page;
+    CHECK(save(0, 0, 1, &left) == KEEPER_DONE && left == 0);
+    for (size_t at = 0; at < F && keeper.removal_list[at]; at++)
+        after[now++] = keeper.frames[keeper.removal_list[at] - 1].page;
+    CHECK(others == 3 && now == 3 && memcmp(before, after, sizeof before[0] * 3) == 0);
+}
+
+int main(void)
+{
+    test_place();
+    test_events();
+    test_transfers();
+    test_text();
+    test_bring();
+    test_save();
+    test_save_under_way();
+    test_save_order();
+    free(keeper.records);
+    printf("%u passed, %u failed\n", passed, failed);
+    return failed != 0;
+}

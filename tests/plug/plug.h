@@ -1,0 +1,106 @@
+/* Not proved: what the parts of the plug test share. The weaver (weave.c) runs on a device that is cut (devices.c), and tells what it does in
+ * notes; the books (books.c) are kept outside from the notes alone, and judge what is read after every cut. */
+#ifndef PLUG_H
+#define PLUG_H
+
+#include "filedisk.h"
+
+enum { PLUG_MOST_WORDS = 256, PLUG_MOST_SLOTS = 4, PLUG_MOST_PAGES = 16, PLUG_MOST_ACCOUNTS = 4 };
+
+/* What the weaver tells. Slot, page and so on are a, b, c in this order. */
+enum {
+    NOTE_FORMATTED = 1,
+    NOTE_LOST,        /* the disk was formatted, and does not open */
+    NOTE_FOUND_LIMIT, /* at an open: account, limit */
+    NOTE_FOUND_SLOT,  /* at an open: slot, number, account */
+    NOTE_FOUND_PAGE,  /* at an open: slot, page, and the words that it reads */
+    NOTE_OPENED,      /* all of these were told */
+    NOTE_LIMIT,       /* account, pages: the store begins */
+    NOTE_LIMIT_END,   /* account */
+    NOTE_SLOT,        /* slot, number, account: the store of a create or delete begins */
+    NOTE_SLOT_END,    /* slot */
+    NOTE_ACTIVATE,    /* slot */
+    NOTE_DEACTIVATE,  /* slot */
+    NOTE_WOVEN,       /* slot, page, version: the page's words are these now, in memory */
+    NOTE_IN,          /* slot, page: in a frame */
+    NOTE_OUT,         /* slot, page, whether it was changed: taken from its frame without a write */
+    NOTE_WRITE,       /* slot, page: its write begins */
+    NOTE_WRITE_END,   /* slot, page, good */
+    NOTE_UPDATE,      /* slot: a map update begins */
+    NOTE_MAP_END,     /* slot, good */
+    NOTE_TRUNCATE,    /* slot, k */
+    NOTE_READ,        /* slot, page, and the words that it reads */
+    NOTE_REFUSED      /* a call was refused that must not be: its refusal, and where */
+};
+
+typedef struct {
+    uint32_t type, a, b, c, calls, count;
+    uint32_t words[PLUG_MOST_WORDS];
+} Note;
+
+/* Wrong drivers: each must be caught. */
+enum { WRONG_NONE = 0, WRONG_NO_JOURNAL = 1, WRONG_PAGE_EARLY = 2, WRONG_MAP_EARLY = 3, WRONG_NO_SLOT = 4, WRONG_NO_SYNC = 5, WRONG_COUNT = 6 };
+
+/* ── random numbers ── */
+uint32_t plug_random(uint64_t *state, uint32_t below);
+
+/* ── the words of a version: the first is its number ── */
+uint32_t plug_word(uint32_t version, size_t word);
+
+/* ── the weaver ── */
+typedef struct {
+    Keeper *keeper;
+    FileBlocks blocks;
+    uint64_t random;
+    uint32_t formatted;    /* whether the books know of a format */
+    uint32_t next_version; /* above all that were woven */
+    uint32_t next_number;  /* the same of the designs */
+    int wrong;
+    void (*tell)(void *to, const Note *note);
+    void *to;
+} Weaver;
+
+/* Opens the disk, tells what is on it, and weaves until the device is dead. */
+void weaver_run(Weaver *weaver);
+
+/* ── the books ── */
+typedef struct Books Books;
+Books *books_new(KeeperSizes sizes);
+void books_free(Books *books);
+void books_note(Books *books, const Note *note);
+void books_cut(Books *books); /* the weaver is dead: what it told of an open that was not whole is forgotten */
+uint32_t books_formatted(const Books *books);
+uint32_t books_next_version(const Books *books);
+uint32_t books_next_number(const Books *books);
+
+typedef struct {
+    unsigned long kills, calls, reads, broken;
+    int quiet; /* print no broken promise */
+} Totals;
+extern Totals totals;
+
+/* ── the devices ── */
+
+/* A device in memory: what was not synced is lost, torn at `grain` bytes and reordered at the cut. */
+typedef struct Simulated Simulated;
+Simulated *simulated_new(size_t bytes);
+void simulated_free(Simulated *device);
+FileBlocks simulated_on(Simulated *device, uint64_t seed, unsigned countdown, size_t grain); /* power on, for so many operations */
+void simulated_cut(Simulated *device);
+
+/* A file that kills its process at its write number `countdown`, some pieces of `grain` bytes of it written. */
+typedef struct {
+    FileBlocks file;
+    uint64_t random;
+    unsigned countdown;
+    size_t grain;
+} Killer;
+FileBlocks killer_on(Killer *killer);
+
+/* A device that passes over what is written to the journal, or over every sync: as under a driver that leaves these out. */
+typedef struct {
+    FileBlocks inner;
+} Without;
+FileBlocks without_on(Without *device, FileBlocks inner, int wrong);
+
+#endif

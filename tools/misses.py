@@ -1,0 +1,144 @@
+#!/usr/bin/env python3
+"""Not proved, tested by tools/test_misses.py: how much memory is worth buying.
+
+    misses.py TRACE [SVG]    the misses of a list of page uses for 1 to 64 frames, as a table and a plot (target/misses.svg)
+
+A trace is page numbers, 0 to 16,383, in the order of their uses; # starts a comment. A use misses if its page is in no frame. Three ways to
+choose the page that leaves its frame are compared: the keeper's removal list, run by the keeper itself; least recently used; and the best
+possible, which knows the future and takes the page whose next use is farthest.
+"""
+
+import functools
+import pathlib
+import subprocess
+import sys
+
+ROOT = pathlib.Path(__file__).resolve().parent.parent
+FRAMES = range(1, 65)
+KINDS = (("the keeper", "#1b6ca8"), ("least recently used", "#c05a00"), ("best possible", "#3d8a3d"))
+
+
+class Bad(Exception):
+    """A trace that is none; says where."""
+
+
+def read(path):
+    """The page numbers of a trace."""
+    pages = []
+    for number, line in enumerate(path.read_text().splitlines(), 1):
+        for word in line.partition("#")[0].split():
+            if not word.isdigit() or int(word) > 16383:
+                raise Bad(f"{path}: line {number}: not a page number from 0 to 16383: {word}")
+            pages.append(int(word))
+    if not pages:
+        raise Bad(f"{path}: no page uses")
+    return pages
+
+
+def least_recent(pages):
+    """Misses for each number of frames, least recently used: by each use's depth in the list of the last uses."""
+    stack, depths = [], {}
+    for page in pages:
+        depth = stack.index(page) + 1 if page in stack else 0
+        depths[depth] = depths.get(depth, 0) + 1
+        if depth:
+            stack.pop(depth - 1)
+        stack.insert(0, page)
+    return [len(pages) - sum(count for depth, count in depths.items() if 0 < depth <= frames) for frames in FRAMES]
+
+
+def best_with(pages, following, frames):
+    held, missed = {}, 0
+    for use, page in enumerate(pages):
+        if page not in held:
+            missed += 1
+            if len(held) == frames:
+                del held[max(held, key=held.get)]
+        held[page] = following[use]
+    return missed
+
+
+def best(pages):
+    """Misses for each number of frames if the page leaves whose next use is farthest."""
+    following, later = [0] * len(pages), {}
+    for use in range(len(pages) - 1, -1, -1):
+        following[use] = later.get(pages[use], len(pages))
+        later[pages[use]] = use
+    return [best_with(pages, following, frames) for frames in FRAMES]
+
+
+@functools.cache
+def program():
+    """Builds tools/misses.c over the static library."""
+    built, library = ROOT / "target" / "misses", ROOT / "target" / "staticlib" / "libkeeper.a"
+    if not library.exists():
+        raise Bad("there is no target/staticlib/libkeeper.a: rt staticlib keeper makes it")
+    words = ["gcc", "-std=c99", "-O2", "-Wall", "-Wextra", "-Werror", "-pedantic", "-Iinclude", "tools/misses.c", library, "-o", built]
+    subprocess.run(words, cwd=ROOT, check=True)
+    return built
+
+
+def keeper(pages):
+    """Misses for each number of frames, by the keeper itself."""
+    ran = subprocess.run([program()], input=" ".join(map(str, pages)), capture_output=True, text=True)
+    if ran.returncode != 0:
+        raise Bad(ran.stderr.strip())
+    return [int(line.split()[1]) for line in ran.stdout.splitlines()]
+
+
+def table(uses, counts):
+    """The counts and rates."""
+    rows = ["frames" + "".join(f"{name:>22}" for name, _ in KINDS)]
+    for at, frames in enumerate(FRAMES):
+        rows.append(f"{frames:>6}" + "".join(f"{column[at]:>13} {100 * column[at] / uses:>6.1f} %" for column in counts))
+    return "\n".join(rows) + "\n"
+
+
+def plot(title, uses, counts):
+    """The same as a picture: frames to the right, misses in per cent of the uses upwards."""
+    left, top, width, height = 60, 50, 640, 320
+    x = lambda frames: left + width * (frames - 1) / (FRAMES[-1] - 1)
+    y = lambda rate: top + height * (1 - rate)
+    out = [
+        f'<svg xmlns="http://www.w3.org/2000/svg" viewBox="0 0 {left + width + 30} {top + height + 60}" font-family="sans-serif" font-size="13">',
+        f'<rect width="{left + width + 30}" height="{top + height + 60}" fill="white"/>',
+        f'<text x="{left}" y="24" font-size="15">Misses of {title}, {uses:,} uses</text>',
+    ]
+    for part in range(0, 101, 20):
+        out.append(f'<line x1="{left}" x2="{left + width}" y1="{y(part / 100):.1f}" y2="{y(part / 100):.1f}" stroke="#ddd"/>')
+        out.append(f'<text x="{left - 8}" y="{y(part / 100) + 4:.1f}" text-anchor="end">{part} %</text>')
+    for frames in (1, 8, 16, 24, 32, 40, 48, 56, 64):
+        out.append(f'<text x="{x(frames):.1f}" y="{top + height + 20}" text-anchor="middle">{frames}</text>')
+    out.append(f'<text x="{left + width / 2}" y="{top + height + 44}" text-anchor="middle">frames</text>')
+    for (name, colour), column in zip(KINDS, counts):
+        points = " ".join(f"{x(frames):.1f},{y(count / uses):.1f}" for frames, count in zip(FRAMES, column))
+        out.append(f'<polyline points="{points}" fill="none" stroke="{colour}" stroke-width="2"><title>{name}</title></polyline>')
+    for at, (name, colour) in enumerate(KINDS):
+        out.append(f'<line x1="{left + width - 190}" x2="{left + width - 160}" y1="{top + 14 + 20 * at}" y2="{top + 14 + 20 * at}" stroke="{colour}" stroke-width="3"/>')
+        out.append(f'<text x="{left + width - 152}" y="{top + 18 + 20 * at}">{name}</text>')
+    return "\n".join(out) + "\n</svg>\n"
+
+
+def main(words):
+    if words in (["--help"], ["-h"]):
+        print(__doc__.strip())
+        return 0
+    if not 1 <= len(words) <= 2:
+        print(__doc__.strip(), file=sys.stderr)
+        return 2
+    path = pathlib.Path(words[0])
+    svg = pathlib.Path(words[1]) if len(words) > 1 else ROOT / "target" / "misses.svg"
+    pages = read(path)
+    counts = [keeper(pages), least_recent(pages), best(pages)]
+    print(f"{path}: {len(pages)} uses of {len(set(pages))} pages; misses, and per cent of the uses")
+    print(table(len(pages), counts), end="")
+    svg.write_text(plot(path.name, len(pages), counts))
+    print(f"the plot is in {svg}")
+    return 0
+
+
+if __name__ == "__main__":
+    try:
+        sys.exit(main(sys.argv[1:]))
+    except (Bad, OSError, subprocess.CalledProcessError) as bad:
+        sys.exit(f"misses.py: {bad}")

@@ -1,0 +1,110 @@
+#!/usr/bin/env python3
+"""Tests of misses.py and misses.c: python3 tools/test_misses.py"""
+
+import pathlib
+import random
+import subprocess
+import sys
+import unittest
+import xml.etree.ElementTree
+
+import misses
+
+TRACES = sorted((misses.ROOT / "examples" / "traces").glob("*.txt"))
+TOOL = misses.ROOT / "tools" / "misses.py"
+
+
+def removal_list(pages, frames):
+    """The paper's removal list, written again: a page that comes in stands at the front with initial on; a use turns used on; a claim looks at
+    the front, and sends it to the end if one of both is on, turning them off."""
+    queue, marked, missed = [], set(), 0
+    for page in pages:
+        if page not in queue:
+            missed += 1
+            if len(queue) == frames:
+                while queue[0] in marked:
+                    marked.discard(queue[0])
+                    queue.append(queue.pop(0))
+                queue.pop(0)
+            queue.insert(0, page)
+        marked.add(page)
+    return missed
+
+
+def by_search(pages, held, frames):
+    """The fewest misses there can be, by trying all choices."""
+    if not pages:
+        return 0
+    page, rest = pages[0], pages[1:]
+    if page in held:
+        return by_search(rest, held, frames)
+    if len(held) < frames:
+        return 1 + by_search(rest, held | {page}, frames)
+    return 1 + min(by_search(rest, held - {out} | {page}, frames) for out in held)
+
+
+class Counts(unittest.TestCase):
+    def some(self, seed, most, uses):
+        chance = random.Random(seed)
+        return [min(chance.randrange(most), chance.randrange(most)) for _ in range(uses)]
+
+    def test_best(self):
+        for seed in range(40):
+            pages = self.some(seed, 5, 12)
+            counts = misses.best(pages)
+            for frames in (1, 2, 3, 4):
+                self.assertEqual(counts[frames - 1], by_search(pages, frozenset(), frames), (pages, frames))
+
+    def test_least_recent(self):
+        for seed in range(20):
+            pages = self.some(seed, 12, 150)
+            for frames in (1, 2, 5, 11, 12):
+                held, missed = [], 0
+                for page in pages:
+                    missed += page not in held
+                    held = ([page] + [other for other in held if other != page])[:frames]
+                self.assertEqual(misses.least_recent(pages)[frames - 1], missed)
+
+    def test_keeper(self):
+        """The keeper's counts are those of its removal list as the specification tells it."""
+        cases = [self.some(3, 30, 400), self.some(4, 90, 600), [7], [300, 5, 16383, 300], misses.read(TRACES[0])]
+        for pages in cases:
+            counts = misses.keeper(pages)
+            self.assertEqual(counts, [removal_list(pages, frames) for frames in misses.FRAMES])
+
+    def test_traces(self):
+        self.assertEqual([path.stem for path in TRACES], ["hot", "weaving"])
+        for path in TRACES:
+            pages = misses.read(path)
+            keeper, recent, best = misses.keeper(pages), misses.least_recent(pages), misses.best(pages)
+            for column in (keeper, recent, best):
+                self.assertGreaterEqual(min(column), len(set(pages)))
+            for other in (keeper, recent):
+                self.assertTrue(all(a >= b for a, b in zip(other, best)))
+            self.assertEqual([recent, best], [sorted(recent, reverse=True), sorted(best, reverse=True)])
+
+
+class Shown(unittest.TestCase):
+    def test_tool(self):
+        svg = misses.ROOT / "target" / "test-misses.svg"
+        ran = subprocess.run([sys.executable, TOOL, TRACES[1], svg], capture_output=True, text=True)
+        self.assertEqual((ran.returncode, ran.stderr), (0, ""))
+        self.assertEqual(len(ran.stdout.splitlines()), 64 + 3)
+        drawn = xml.etree.ElementTree.parse(svg).getroot()
+        self.assertEqual(len(drawn.findall("{http://www.w3.org/2000/svg}polyline")), 3)
+        svg.unlink()
+
+    def test_bad(self):
+        bad = misses.ROOT / "target" / "bad-trace.txt"
+        for text in ("1 2 x\n", "16384\n", "# nothing\n"):
+            bad.write_text(text)
+            with self.assertRaises(misses.Bad) as caught:
+                misses.read(bad)
+            self.assertIn(str(bad), str(caught.exception))
+        self.assertEqual(subprocess.run([sys.executable, TOOL], capture_output=True).returncode, 2)
+        self.assertEqual(subprocess.run([sys.executable, TOOL, "--help"], capture_output=True).returncode, 0)
+        bad.unlink()
+
+
+if __name__ == "__main__":
+    unittest.main()

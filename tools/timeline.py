@@ -1,0 +1,240 @@
+#!/usr/bin/env python3
+"""Not proved, tested by tools/test_timeline.py: a list of events as one HTML file to look at.
+
+    timeline.py LIST [HTML]    a row for each event of the list (target/timeline.html): its answer in words, the frames, the records, the maps
+
+Behind each row the power can be cut, with any choice of what lands, and the page shows what every page reads then. All that it shows comes from
+the library (tools/timeline.c runs it). The file needs nothing else: no script or picture from elsewhere. An address that ends in
+'#cut=ROW&lands=0,2' opens that cut.
+"""
+
+import functools
+import html
+import json
+import pathlib
+import subprocess
+import sys
+
+import events
+
+ROOT = pathlib.Path(__file__).resolve().parent.parent
+PAGES, WORDS = 3, 2
+COLOURS = ("#9cc5e3", "#f3bf8a")
+STATES = ("free", "filed", "nulled", "live", "released", "leaving")
+WAYS = ("", "reading", "writing")
+
+
+# ── the library ──
+@functools.cache
+def program():
+    """Builds tools/timeline.c over the static library."""
+    built, library = ROOT / "target" / "timeline", ROOT / "target" / "staticlib" / "libkeeper.a"
+    if not library.exists():
+        raise events.Bad("there is no target/staticlib/libkeeper.a: rt staticlib keeper makes it")
+    words = ["gcc", "-std=c99", "-O2", "-Wall", "-Wextra", "-Werror", "-pedantic", "-Iinclude", "tools/timeline.c", library, "-o", built]
+    subprocess.run(words, cwd=ROOT, check=True)
+    return built
+
+
+def requests(text):
+    """The list as the program reads it."""
+    lines = ([events.BY_NAME[name][0], *values, *[0] * (4 - len(values))] for name, values in events.parse(text))
+    return "".join(" ".join(map(str, line)) + "\n" for line in lines)
+
+
+def ran(text, *words):
+    """What the library says of a list."""
+    return subprocess.run([program(), *words], input=requests(text), capture_output=True, text=True, check=True).stdout
+
+
+# ── the pictures ──
+def page_name(state, page):
+    """A page of a table of pages: design and page."""
+    return f"{state['numbers'][page // PAGES]}/{page % PAGES}"
+
+
+def box(x, y, width, height, fill, more=""):
+    return f'<rect x="{x}" y="{y}" width="{width}" height="{height}" fill="{fill}" stroke="#888" {more}/>'
+
+
+def label(x, y, text, size=11, more=""):
+    return f'<text x="{x}" y="{y}" font-size="{size}" {more}>{html.escape(str(text))}</text>'
+
+
+def words_at(x, y, words, room):
+    """Words, as large as they fit."""
+    text = " ".join(map(str, words))
+    return label(x, y, text, max(5, min(13, int(room / (0.6 * len(text))))))
+
+
+def frames(state):
+    """The frames: page, words, switches, transfer."""
+    out = []
+    for at, frame in enumerate(state["frames"]):
+        x, page = 4 + at * 112, frame["page"] - 1
+        way = WAYS[frame["transfer"]]
+        out.append(box(x, 16, 106, 46, COLOURS[page // PAGES] if page >= 0 else "#fff", 'stroke-width="3"' if way else ""))
+        out.append(label(x, 12, f"frame {at}" + (f", {way}" if way else "")))
+        if page >= 0:
+            words = state["frame_words"][at * WORDS : (at + 1) * WORDS]
+            switches = " ".join(name for name in ("used", "modified", "wired", "initial") if frame[name])
+            out += [label(x + 6, 30, f"page {page_name(state, page)}"), words_at(x + 6, 44, words, 96), label(x + 6, 57, switches, 9)]
+    return out
+
+
+def records(state, left):
+    """The records as a strip, coloured by the design that owns them; not live or filed ones are pale."""
+    out = [label(left, 12, "records")]
+    for at, number in enumerate(state["states"]):
+        x = left + at * 72
+        fill = COLOURS[state["owners"][at]] if number else "#fff"
+        out.append(box(x, 16, 70, 46, fill, 'fill-opacity="0.45"' if STATES[number] not in ("live", "filed") else ""))
+        words = state["records"][at * WORDS : (at + 1) * WORDS]
+        out += [label(x + 5, 30, f"{at} {STATES[number]}"), words_at(x + 5, 46, words, 62)]
+        holder = [page for page, record in enumerate(state["addresses"]) if record == at + 1]
+        out += [label(x + 5, 58, f"of {page_name(state, holder[0])}", 9)] if holder else []
+    return out
+
+
+def maps(state, left):
+    """The maps on the disk: a cell for each page, with its record; below, the image of an update under way."""
+    out = []
+    for slot, number in enumerate(state["numbers"]):
+        x = left + slot * 134
+        out.append(label(x, 12, f"map of {number}" + ("" if state["active"][slot] else ", at rest") if number else "empty slot"))
+        for page in range(PAGES):
+            entry, image = (state[name][slot * PAGES + page] for name in ("maps", "images"))
+            out.append(box(x + page * 32, 16, 30, 22, COLOURS[slot] if entry else "#fff"))
+            out.append(label(x + page * 32 + 11, 31, entry - 1 if entry else "·"))
+            if state["updating"][slot]:
+                out.append(box(x + page * 32, 41, 30, 18, COLOURS[slot] if image else "#fff", 'stroke-dasharray="3 2"'))
+                out.append(label(x + page * 32 + 11, 54, image - 1 if image else "·", 10))
+        if state["updating"][slot]:
+            out.append(label(x, 69, "update under way", 9))
+    return out
+
+
+def picture(state):
+    left = 12 + 112 * len(state["frames"])
+    after = left + 72 * len(state["states"]) + 14
+    width = after + 134 * len(state["numbers"])
+    drawn = frames(state) + records(state, left) + maps(state, after)
+    return f'<svg xmlns="http://www.w3.org/2000/svg" width="{width}" height="72" viewBox="0 0 {width} 72" font-family="sans-serif">' + "".join(drawn) + "</svg>"
+
+
+# ── the file ──
+STYLE = """
+body { font: 14px sans-serif; margin: 1.5em; color: #222; } table { border-collapse: collapse; }
+td { padding: 4px 8px; vertical-align: middle; border-top: 1px solid #e4e4e4; } td.n { color: #999; text-align: right; }
+td.event { font-family: monospace; white-space: nowrap; } td.refused { color: #a02020; } tr.comment td { color: #555; padding-top: 14px; border: 0; }
+tr.panel td { background: #fbf6e8; padding: 10px 20px; } tr.panel ul { margin: 6px 0; columns: 2; max-width: 46em; } label { margin-right: 1.5em; }
+button { cursor: pointer; }
+"""
+
+SCRIPT = """
+"use strict";
+function name(transfer, row) {
+  return "map" in transfer ? "the map of " + row.numbers[transfer.map] : "the write of page " + row.numbers[transfer.slot] + "/" + transfer.page;
+}
+function said(read) {
+  const what = read.refusal ? "refused, " + read.refusal : read.words.join(" ") + (read.listed ? "" : "  (not listed)");
+  return "page " + read.number + "/" + read.page + " reads " + what;
+}
+function choice(boxes) {
+  return boxes.reduce(function (sum, box, at) { return sum + (box.checked ? 1 << at : 0); }, 0);
+}
+function element(kind, text) {
+  const made = document.createElement(kind);
+  if (text) made.textContent = text;
+  return made;
+}
+function show(n) {
+  const panel = document.getElementById("panel-" + n), cell = panel.firstElementChild, row = DATA[n];
+  panel.hidden = !panel.hidden;
+  if (panel.hidden || cell.childElementCount > 0) return;
+  const list = element("ul"), boxes = [];
+  const fill = function () {
+    const reads = row.cuts[choice(boxes)].map(function (read) { const item = element("li", said(read)); item.className = "reads"; return item; });
+    list.replaceChildren.apply(list, reads.length ? reads : [element("li", "no design is on the disk")]);
+  };
+  cell.append(element("b", "The power fails here. "), element("span", row.open.length ? "What has landed: " : "Nothing is on its way to the disk."));
+  row.open.forEach(function (transfer, at) {
+    const label = element("label"), box = element("input");
+    box.type = "checkbox";
+    box.id = "lands-" + n + "-" + at;
+    box.onchange = fill;
+    boxes.push(box);
+    label.append(box, " " + name(transfer, row));
+    cell.append(label);
+  });
+  cell.append(element("div", "After restart and activate:"), list);
+  fill();
+}
+function follow(address) {
+  const found = /cut=(\\d+)(?:&lands=([\\d,]*))?/.exec(address);
+  if (!found || !DATA[found[1]]) return;
+  document.getElementById("cut-" + found[1]).click();
+  (found[2] || "").split(",").filter(Boolean).forEach(function (at) { document.getElementById("lands-" + found[1] + "-" + at).click(); });
+  document.getElementById("row-" + found[1]).scrollIntoView();
+}
+DATA.forEach(function (row, n) { document.getElementById("cut-" + n).onclick = function () { show(n); }; });
+follow(location.hash);
+"""
+
+
+def row(n, event, said, state):
+    kind = "said refused" if said.startswith("refused") else "said"
+    return (
+        f'<tr id="row-{n}"><td class="n">{n or ""}</td><td class="event">{html.escape(event)}</td><td class="{kind}">{html.escape(said)}</td>'
+        f'<td>{picture(state)}</td><td><button id="cut-{n}">cut here</button></td></tr>\n<tr class="panel" id="panel-{n}" hidden><td colspan="5"></td></tr>\n'
+    )
+
+
+def rows(text, states):
+    """The rows of a list: its comments, its events."""
+    words, out, n = events.refusals(), [row(0, "", "a new disk", states[0])], 0
+    for number, line in enumerate(text.splitlines(), 1):
+        event, comment = events.parse_line(line, number), line.partition("#")[2].strip()
+        if comment:
+            out.append(f'<tr class="comment"><td></td><td colspan="4">{html.escape(comment)}</td></tr>\n')
+        if event:
+            n += 1
+            said = events.in_words(event[0], str(states[n]["refusal"]), states[n]["result"], words)
+            out.append(row(n, events.line_of(*event), said, states[n]))
+    return "".join(out)
+
+
+def page(title, text, states):
+    kept = [{key: state[key] for key in ("numbers", "open", "cuts")} for state in states]
+    data = json.dumps(kept, separators=(",", ":"))
+    return (
+        f'<!DOCTYPE html>\n<html lang="en"><head><meta charset="utf-8"><title>{html.escape(title)}</title><style>{STYLE}</style></head><body>\n'
+        f"<h1>{html.escape(title)}</h1>\n<p>Each row is an event, with everything as it is after it. A page is named by its design and its number in it. "
+        "Records are coloured by the design that owns them, and pale while their words are void or given up. A dashed strip is the map that an update is about to "
+        f"store. Press “cut here” to see what every page would read if the power failed behind that row.</p>\n<table>\n{rows(text, states)}</table>\n"
+        f"<script>const DATA = {data};{SCRIPT}</script>\n</body></html>\n"
+    )
+
+
+def main(words):
+    if words in (["--help"], ["-h"]):
+        print(__doc__.strip())
+        return 0
+    if not 1 <= len(words) <= 2:
+        print(__doc__.strip(), file=sys.stderr)
+        return 2
+    path = pathlib.Path(words[0])
+    out = pathlib.Path(words[1]) if len(words) > 1 else ROOT / "target" / "timeline.html"
+    text = path.read_text()
+    events.named(path, lambda: events.parse(text))
+    states = json.loads(ran(text))
+    out.write_text(page(path.name, text, states))
+    print(f"{len(states) - 1} events, {sum(len(state['cuts']) for state in states)} cuts: {out}")
+    return 0
+
+
+if __name__ == "__main__":
+    try:
+        sys.exit(main(sys.argv[1:]))
+    except (events.Bad, OSError, subprocess.CalledProcessError) as bad:
+        sys.exit(f"timeline.py: {bad}")
