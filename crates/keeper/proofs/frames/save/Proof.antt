@@ -206,7 +206,9 @@ module _ {M : Type 1} (𝓤 : URA M) (H : Heap 𝓤) (A : Atoms 𝓤) (W : Given
         -- [_3; obs; the borrow; the token; _5; _1; _4; _7; …; _13; _0; _2; _6; what frees each]
         assigns ! (of-opd ! (unit-lit !)) (from ! (stop !)) (init ! 14 refl (tt, tt)) $
         returns ! (look ! 14 refl) $ forget ! 0 refl $ forget ! 4 refl $ forget ! 5 refl $ forget ! 6 refl $ forget ! 7 refl $ forget ! 14 refl $ forget ! 15 refl $ forget ! 16 refl $
-        move ! (14 ∷ 17 ∷ []) $ free1 ! $ move ! (5 ∷ 16 ∷ []) $ free1 ! $ move ! (13 ∷ 15 ∷ []) $ free1 ! $ move ! (0 ∷ 14 ∷ []) $ free1 ! $ move ! (4 ∷ 13 ∷ []) $ free1 ! $ move ! (3 ∷ 12 ∷ []) $ free1 ! $ move ! (10 ∷ 11 ∷ []) $ free1 ! $ move ! (3 ∷ 10 ∷ []) $ free1 ! $ move ! (3 ∷ 9 ∷ []) $ free1 ! $ move ! (3 ∷ 8 ∷ []) $ free1 ! $ move ! (3 ∷ 7 ∷ []) $ free1 ! $ move ! (3 ∷ 6 ∷ []) $ free1 ! $ move ! (3 ∷ 5 ∷ []) $ free1 ! $ move ! (3 ∷ 4 ∷ []) $ free1 ! $ free0 ! $
+        move ! (14 ∷ 17 ∷ []) $ free1 ! $ move ! (5 ∷ 16 ∷ []) $ free1 ! $ move ! (13 ∷ 15 ∷ []) $ free1 ! $ move ! (0 ∷ 14 ∷ []) $ free1 ! $ move ! (4 ∷ 13 ∷ []) $ free1 ! $ move ! (3 ∷ 12 ∷ []) $
+        free1 ! $ move ! (10 ∷ 11 ∷ []) $ free1 ! $ move ! (3 ∷ 10 ∷ []) $ free1 ! $ move ! (3 ∷ 9 ∷ []) $ free1 ! $ move ! (3 ∷ 8 ∷ []) $ free1 ! $ move ! (3 ∷ 7 ∷ []) $ free1 ! $ move ! (3 ∷ 6 ∷
+        []) $ free1 ! $ move ! (3 ∷ 5 ∷ []) $ free1 ! $ move ! (3 ∷ 4 ∷ []) $ free1 ! $ free0 ! $
         keep ! (0 ∷ 1 ∷ 2 ∷ []) $ by ! exits
 
     turns : (t : ℕ) → Sq W (Inv t) (runs C Λ En mir.turn-1 (anyQ (afterTurn 𝓤 H (Below 𝓤 H A _<_ Inv t) Left)))
