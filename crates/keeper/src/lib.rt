@@ -112,7 +112,8 @@ pub extern "C" fn keeper_restart(
 ) -> Answer
     ensures { λ r. ⌜ record {
       answer = r;
-      left = left (now (frames .exit))
+      left = left
+          (now (frames .exit))
           (now (pool .exit)) records numbers accounts maps limits
           «frame_words» «free_queue» «removal_list» addresses states owners «free_map» active updating images used;
     }

@@ -135,11 +135,13 @@ module _ {M : Type 1} (𝓤 : URA M) (H : Heap 𝓤) (A : Atoms 𝓤) (W : Given
     -- what no turn touches
     abbrev Rest : List (Item 𝓤)
     Rest = ‵ (fobor κ q (Held F n b o γ)) ∷ ‵ (fobs γ (codedHoleys F .code (heres F ys))) ∷ ‵ (fauth γ (codedHoleys F .code (heres F ys))) ∷ ‵ (froom tyUnit l₀ 0) ∷ ‵ (fat fullShare ty64 l₂ 0 (mach64 fs)) ∷ ‵ (fat fullShare word l₆ 0 (vint w64 n))
-        ∷ ‵ (fdies tyUnit l₀) ∷ ‵ (fdies slice l₁) ∷ ‵ (fdies ty64 l₂) ∷ ‵ (fdies ty64 l₃) ∷ ‵ (fdies word l₄) ∷ ‵ (fdies word l₅) ∷ ‵ (fdies word l₆) ∷ ‵ (fdies tyBool l₇) ∷ ‵ (fdies word l₈) ∷ ‵ (fdies tyPtr l₉) ∷ ‵ (fdies tyPtr l₁₀) ∷ ‵ (fdies T′.mir l₁₁) ∷ ‵ (fdies word l₁₂) ∷ ‵ (fdies tyPtr l₁₃) ∷ []
+        ∷ ‵ (fdies tyUnit l₀) ∷ ‵ (fdies slice l₁) ∷ ‵ (fdies ty64 l₂) ∷ ‵ (fdies ty64 l₃) ∷ ‵ (fdies word l₄) ∷ ‵ (fdies word l₅) ∷ ‵ (fdies word l₆) ∷ ‵ (fdies tyBool l₇) ∷ ‵ (fdies word l₈) ∷ ‵
+        (fdies tyPtr l₉) ∷ ‵ (fdies tyPtr l₁₀) ∷ ‵ (fdies T′.mir l₁₁) ∷ ‵ (fdies word l₁₂) ∷ ‵ (fdies tyPtr l₁₃) ∷ []
 
     -- [the slice's frames]; i; the array's frames; _1; _4; _7; _8; _9; _10; _11; _12; _13; …
     abbrev Tail : ℕ → List (Item 𝓤)
-    Tail i = ‵ (fat fullShare word l₅ 0 (vint w64 i)) ∷ ‵ (row F fullShare fs l₃ 0) ∷ ‵ (fat fullShare slice l₁ 0 s) ∷ ‵ (fat fullShare word l₄ 0 (vint w64 m)) ∷ ‵ (froom tyBool l₇ 0) ∷ ‵ (froom word l₈ 0) ∷ ‵ (froom tyPtr l₉ 0) ∷ ‵ (froom tyPtr l₁₀ 0) ∷ ‵ (froom T′.mir l₁₁ 0) ∷ ‵ (froom word l₁₂ 0) ∷ ‵ (froom tyPtr l₁₃ 0) ∷ Rest
+    Tail i = ‵ (fat fullShare word l₅ 0 (vint w64 i)) ∷ ‵ (row F fullShare fs l₃ 0) ∷ ‵ (fat fullShare slice l₁ 0 s) ∷ ‵ (fat fullShare word l₄ 0 (vint w64 m)) ∷ ‵ (froom tyBool l₇ 0) ∷ ‵
+        (froom word l₈ 0) ∷ ‵ (froom tyPtr l₉ 0) ∷ ‵ (froom tyPtr l₁₀ 0) ∷ ‵ (froom T′.mir l₁₁ 0) ∷ ‵ (froom word l₁₂ 0) ∷ ‵ (froom tyPtr l₁₃ 0) ∷ Rest
 
     abbrev At : ℕ → List (Item 𝓤)
     At i = ‵ (row F fullShare (zs i) b o) ∷ Tail i
