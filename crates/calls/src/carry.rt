@@ -1,7 +1,7 @@
 // An event handed on to its family.
 ghost use mathlib.Core.Path.{_≡_};
 ghost use lib.ListN.{take};
-ghost use Rattle.model.specs.Lent.{stateOf};
+ghost use Rattle.model.specs.Lent.{given, entered, left};
 ghost use Rattle.model.specs.Own.{own};
 ghost use Rattle.dispatch.specs.Kept.{Kept, leaves};
 use dispatch::design_event::design_event;
@@ -36,8 +36,15 @@ pub fn carry(
     images: &mut [u16],
     used: &mut [u16],
 ) -> Applied
-    requires { ⌜ Kept sizes (stateOf (take (sizes .frames) frames) pool (now records) (now numbers) (now accounts) (now maps) (now limits) (now «frame_words») (now «free_queue») (now «removal_list») (now addresses) (now states) (now owners) (now «free_map») (now active) (now updating) (now images) (now used)) ⌝ }
-    ensures { λ r. ⌜ leaves (r .answer) (stateOf (take (sizes .frames) (r .frames)) (r .pool) (now (records .exit)) (now (numbers .exit)) (now (accounts .exit)) (now (maps .exit)) (now (limits .exit)) (now («frame_words» .exit)) (now («free_queue» .exit)) (now («removal_list» .exit)) (now (addresses .exit)) (now (states .exit)) (now (owners .exit)) (now («free_map» .exit)) (now (active .exit)) (now (updating .exit)) (now (images .exit)) (now (used .exit))) ≡ own sizes (stateOf (take (sizes .frames) frames) pool (now (records .entry)) (now (numbers .entry)) (now (accounts .entry)) (now (maps .entry)) (now (limits .entry)) (now («frame_words» .entry)) (now («free_queue» .entry)) (now («removal_list» .entry)) (now (addresses .entry)) (now (states .entry)) (now (owners .entry)) (now («free_map» .entry)) (now (active .entry)) (now (updating .entry)) (now (images .entry)) (now (used .entry))) event ⌝ }
+    requires { ⌜ Kept sizes
+        (given (take (sizes .frames) frames) pool records numbers accounts maps limits
+        «frame_words» «free_queue» «removal_list» addresses states owners «free_map» active updating images used) ⌝ }
+    ensures { λ r. ⌜ leaves (r .answer)
+        (left (take (sizes .frames) (r .frames)) (r .pool) records numbers accounts maps limits
+        «frame_words» «free_queue» «removal_list» addresses states owners «free_map» active updating images used)
+        ≡ own sizes
+        (entered (take (sizes .frames) frames) pool records numbers accounts maps limits
+        «frame_words» «free_queue» «removal_list» addresses states owners «free_map» active updating images used) event ⌝ }
 {
     match event {
         Event::Design(e) => {

@@ -1,6 +1,6 @@
 // Questions 1 and 2 of every event and of a page look.
 ghost use mathlib.Core.Path.{_≡_};
-ghost use Rattle.model.specs.Lent.{stateOf};
+ghost use Rattle.model.specs.Lent.{entered};
 ghost use Rattle.model.specs.Calls.{framesOf};
 ghost use Rattle.calls.specs.Common.{common};
 use model::frame::Frame;
@@ -32,7 +32,9 @@ pub fn common(
     images: &[u16],
     used: &[u16],
 ) -> u32
-    ensures { λ r. ⌜ r ≡ common sizes (stateOf (framesOf frames lent) pool (now (records .entry)) (now (numbers .entry)) (now (accounts .entry)) (now (maps .entry)) (now (limits .entry)) (now («frame_words» .entry)) (now («free_queue» .entry)) (now («removal_list» .entry)) (now (addresses .entry)) (now (states .entry)) (now (owners .entry)) (now («free_map» .entry)) (now (active .entry)) (now (updating .entry)) (now (images .entry)) (now (used .entry))) ⌝ }
+    ensures { λ r. ⌜ r ≡ common sizes
+        (entered (framesOf frames lent) pool records numbers accounts maps limits
+        «frame_words» «free_queue» «removal_list» addresses states owners «free_map» active updating images used) ⌝ }
 {
     if all_fit(
         sizes,

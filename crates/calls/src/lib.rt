@@ -1,8 +1,9 @@
 // The calls, over everything that is lent: questions 1 and 2 are asked once, then the work is done.
 ghost use mathlib.Core.Path.{_≡_};
-ghost use Rattle.model.specs.Lent.{diskOf, stateOf};
+ghost use Rattle.model.specs.Lent.{diskOf, entered, left};
 ghost use Rattle.model.specs.Calls.{framesOf, apply};
 ghost use Rattle.model.specs.Step.{restart, format};
+ghost use Rattle.dispatch.specs.Kept.{leaves};
 use crate::carry::carry;
 use crate::common::common;
 use model::applied::Applied;
@@ -47,7 +48,12 @@ pub fn apply_core(
     images: &mut [u16],
     used: &mut [u16],
 ) -> Applied
-    ensures { λ r. ⌜ record { answer = r .answer; left = stateOf (framesOf (r .frames) lent) (r .pool) (now (records .exit)) (now (numbers .exit)) (now (accounts .exit)) (now (maps .exit)) (now (limits .exit)) (now («frame_words» .exit)) (now («free_queue» .exit)) (now («removal_list» .exit)) (now (addresses .exit)) (now (states .exit)) (now (owners .exit)) (now («free_map» .exit)) (now (active .exit)) (now (updating .exit)) (now (images .exit)) (now (used .exit)) } ≡ apply sizes (stateOf (framesOf frames lent) pool (now (records .entry)) (now (numbers .entry)) (now (accounts .entry)) (now (maps .entry)) (now (limits .entry)) (now («frame_words» .entry)) (now («free_queue» .entry)) (now («removal_list» .entry)) (now (addresses .entry)) (now (states .entry)) (now (owners .entry)) (now («free_map» .entry)) (now (active .entry)) (now (updating .entry)) (now (images .entry)) (now (used .entry))) request ⌝ }
+    ensures { λ r. ⌜ leaves (r .answer)
+        (left (framesOf (r .frames) lent) (r .pool) records numbers accounts maps limits
+        «frame_words» «free_queue» «removal_list» addresses states owners «free_map» active updating images used)
+        ≡ apply sizes
+        (entered (framesOf frames lent) pool records numbers accounts maps limits
+        «frame_words» «free_queue» «removal_list» addresses states owners «free_map» active updating images used) request ⌝ }
 {
     let refusal = common(
         sizes,
@@ -138,7 +144,12 @@ pub fn restart_core(
     images: &mut [u16],
     used: &mut [u16],
 ) -> Applied
-    ensures { λ r. ⌜ record { answer = r .answer; left = stateOf (framesOf (r .frames) lent) (r .pool) (now (records .entry)) (now (numbers .entry)) (now (accounts .entry)) (now (maps .entry)) (now (limits .entry)) (now («frame_words» .exit)) (now («free_queue» .exit)) (now («removal_list» .exit)) (now (addresses .exit)) (now (states .exit)) (now (owners .exit)) (now («free_map» .exit)) (now (active .exit)) (now (updating .exit)) (now (images .exit)) (now (used .exit)) } ≡ restart sizes (stateOf (framesOf frames lent) pool (now (records .entry)) (now (numbers .entry)) (now (accounts .entry)) (now (maps .entry)) (now (limits .entry)) (now («frame_words» .entry)) (now («free_queue» .entry)) (now («removal_list» .entry)) (now (addresses .entry)) (now (states .entry)) (now (owners .entry)) (now («free_map» .entry)) (now (active .entry)) (now (updating .entry)) (now (images .entry)) (now (used .entry))) ⌝ }
+    ensures { λ r. ⌜ leaves (r .answer)
+        (left (framesOf (r .frames) lent) (r .pool) records numbers accounts maps limits
+        «frame_words» «free_queue» «removal_list» addresses states owners «free_map» active updating images used)
+        ≡ restart sizes
+        (entered (framesOf frames lent) pool records numbers accounts maps limits
+        «frame_words» «free_queue» «removal_list» addresses states owners «free_map» active updating images used) ⌝ }
 {
     if all_fit(
         sizes,
@@ -208,7 +219,8 @@ pub fn format(
     maps: &mut [u16],
     limits: &mut [u16],
 ) -> Answer
-    ensures { λ r. ⌜ record { answer = r; left = diskOf (now (records .exit)) (now (numbers .exit)) (now (accounts .exit)) (now (maps .exit)) (now (limits .exit)) } ≡ format sizes (diskOf (now (records .entry)) (now (numbers .entry)) (now (accounts .entry)) (now (maps .entry)) (now (limits .entry))) ⌝ }
+    ensures { λ r. ⌜ record { answer = r; left = diskOf (now (records .exit)) (now (numbers .exit)) (now (accounts .exit)) (now (maps .exit)) (now (limits .exit)) }
+        ≡ format sizes (diskOf (now (records .entry)) (now (numbers .entry)) (now (accounts .entry)) (now (maps .entry)) (now (limits .entry))) ⌝ }
 {
     if disk_fit(sizes, records, numbers, accounts, maps, limits) {} else {
         return Answer {

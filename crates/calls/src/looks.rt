@@ -3,7 +3,7 @@ ghost use mathlib.Core.Path.{_≡_};
 ghost use Prim.Native.Nat.{_+_, _≤_};
 ghost use lib.ListN.{length};
 ghost use denote.Ref.{ptr};
-ghost use Rattle.model.specs.Lent.{stateOf};
+ghost use Rattle.model.specs.Lent.{entered};
 ghost use Rattle.model.specs.Calls.{framesOf};
 ghost use Rattle.model.specs.Step.{look};
 ghost use Rattle.model.specs.Part.{partOf, wordAt};
@@ -39,7 +39,10 @@ pub fn place_core(
     images: &[u16],
     used: &[u16],
 ) -> Part
-    ensures { λ r. ⌜ (r ≡ partOf sizes (stateOf (framesOf frames lent) pool (now (records .entry)) (now (numbers .entry)) (now (accounts .entry)) (now (maps .entry)) (now (limits .entry)) (now («frame_words» .entry)) (now («free_queue» .entry)) (now («removal_list» .entry)) (now (addresses .entry)) (now (states .entry)) (now (owners .entry)) (now («free_map» .entry)) (now (active .entry)) (now (updating .entry)) (now (images .entry)) (now (used .entry))) slot page) × (r .start + r .count ≤ length (now («frame_words» .entry))) ⌝ }
+    ensures { λ r. ⌜ (r ≡ partOf sizes
+        (entered (framesOf frames lent) pool records numbers accounts maps limits
+        «frame_words» «free_queue» «removal_list» addresses states owners «free_map» active updating images used) slot page)
+        × (r .start + r .count ≤ length (now («frame_words» .entry))) ⌝ }
 {
     let refusal = common(
         sizes,
@@ -99,7 +102,11 @@ pub fn look_core<'a>(
     images: &[u16],
     used: &[u16],
 ) -> &'a [u32]
-    ensures { λ r. ⌜ (now r ≡ look sizes (stateOf (framesOf frames lent) pool (now (records .entry)) (now (numbers .entry)) (now (accounts .entry)) (now (maps .entry)) (now (limits .entry)) (now («frame_words» .entry)) (now («free_queue» .entry)) (now («removal_list» .entry)) (now (addresses .entry)) (now (states .entry)) (now (owners .entry)) (now («free_map» .entry)) (now (active .entry)) (now (updating .entry)) (now (images .entry)) (now (used .entry))) slot page .left) × ((now (refusal .exit) ≡ look sizes (stateOf (framesOf frames lent) pool (now (records .entry)) (now (numbers .entry)) (now (accounts .entry)) (now (maps .entry)) (now (limits .entry)) (now («frame_words» .entry)) (now («free_queue» .entry)) (now («removal_list» .entry)) (now (addresses .entry)) (now (states .entry)) (now (owners .entry)) (now («free_map» .entry)) (now (active .entry)) (now (updating .entry)) (now (images .entry)) (now (used .entry))) slot page .answer .refusal) × (ptr r ≡ wordAt (ptr («frame_words» .entry)) (partOf sizes (stateOf (framesOf frames lent) pool (now (records .entry)) (now (numbers .entry)) (now (accounts .entry)) (now (maps .entry)) (now (limits .entry)) (now («frame_words» .entry)) (now («free_queue» .entry)) (now («removal_list» .entry)) (now (addresses .entry)) (now (states .entry)) (now (owners .entry)) (now («free_map» .entry)) (now (active .entry)) (now (updating .entry)) (now (images .entry)) (now (used .entry))) slot page .start))) ⌝ }
+    ensures { λ r. ⌜ (let st = entered (framesOf frames lent) pool records numbers accounts maps limits
+        «frame_words» «free_queue» «removal_list» addresses states owners «free_map» active updating images used in
+        (now r ≡ look sizes st slot page .left)
+        × ((now (refusal .exit) ≡ look sizes st slot page .answer .refusal)
+        × (ptr r ≡ wordAt (ptr («frame_words» .entry)) (partOf sizes st slot page .start)))) ⌝ }
 {
     let part = place_core(
         sizes,

@@ -76,7 +76,9 @@ module _ (z : Sizes) (st : State) (k : Kept z st) where
     abbrev activate-sees : State
     activate-sees = seenTurns [] (st .disk .numbers) (st .disk .maps) (st .memory .held .addresses) (st .memory .held .states) (st .memory .held .owners) (st .memory .slots .active) []
 
-    pub activate-own : {a : Answer} {ads ss ac : List ℕ} → a ≡ own z activate-sees activates .answer → ads ≡ own z activate-sees activates .left .memory .held .addresses → ss ≡ own z activate-sees activates .left .memory .held .states → ac ≡ own z activate-sees activates .left .memory .slots .active → leaves a (after st (st .disk .numbers) (st .disk .accounts) (st .disk .limits) ads ss ac) ≡ own z st activates
+    pub activate-own : {a : Answer} {ads ss ac : List ℕ} → a ≡ own z activate-sees activates .answer → ads ≡ own z activate-sees activates .left .memory .held .addresses → ss ≡
+        own z activate-sees activates .left .memory .held .states → ac ≡ own z activate-sees activates .left .memory .slots .active → leaves a (after st (st .disk .numbers) (st .disk .accounts)
+        (st .disk .limits) ads ss ac) ≡ own z st activates
     unfolding carried result Designs.activate counted
     activate-own ea eads ess eac = own-by z st activate-sees activates refl refl ea
         (λ o ok. (λ x. after st (st .disk .numbers) (st .disk .accounts) (st .disk .limits) ((eads ∙ (λ y. o y .left .memory .held .addresses)) x) ((ess ∙ (λ y. o y .left .memory .held .states)) x) ((eac ∙ (λ y. o y .left .memory .slots .active)) x)) ∙ sym (activate-left z st (k .fits) (k .rules) s ok))
@@ -89,7 +91,9 @@ module _ (z : Sizes) (st : State) (k : Kept z st) where
     abbrev deactivate-sees : State
     deactivate-sees = seenTurns (st .memory .core .frames) (st .disk .numbers) (st .disk .maps) (st .memory .held .addresses) (st .memory .held .states) (st .memory .held .owners) (st .memory .slots .active) (st .memory .slots .updating)
 
-    pub deactivate-own : {a : Answer} {ads ss ac : List ℕ} → a ≡ own z deactivate-sees deactivates .answer → ads ≡ own z deactivate-sees deactivates .left .memory .held .addresses → ss ≡ own z deactivate-sees deactivates .left .memory .held .states → ac ≡ own z deactivate-sees deactivates .left .memory .slots .active → leaves a (after st (st .disk .numbers) (st .disk .accounts) (st .disk .limits) ads ss ac) ≡ own z st deactivates
+    pub deactivate-own : {a : Answer} {ads ss ac : List ℕ} → a ≡ own z deactivate-sees deactivates .answer → ads ≡ own z deactivate-sees deactivates .left .memory .held .addresses → ss ≡
+        own z deactivate-sees deactivates .left .memory .held .states → ac ≡ own z deactivate-sees deactivates .left .memory .slots .active → leaves a (after st (st .disk .numbers)
+        (st .disk .accounts) (st .disk .limits) ads ss ac) ≡ own z st deactivates
     unfolding carried result Designs.deactivate counted wouldStore
     deactivate-own ea eads ess eac = own-by z st deactivate-sees deactivates refl refl ea
         (λ o ok. (λ x. after st (st .disk .numbers) (st .disk .accounts) (st .disk .limits) ((eads ∙ (λ y. o y .left .memory .held .addresses)) x) ((ess ∙ (λ y. o y .left .memory .held .states)) x) ((eac ∙ (λ y. o y .left .memory .slots .active)) x)) ∙ sym (deactivate-left z st (k .fits) (k .rules) s ok))

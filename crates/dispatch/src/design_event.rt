@@ -2,7 +2,7 @@
 ghost use mathlib.Core.Path.{_≡_};
 ghost use lib.ListN.{take};
 ghost use Rattle.model.specs.declared.event.Event.the-variants as Event;
-ghost use Rattle.model.specs.Lent.{stateOf};
+ghost use Rattle.model.specs.Lent.{given, entered, left};
 ghost use Rattle.model.specs.Own.{own};
 ghost use Rattle.dispatch.specs.Kept.{Kept, leaves};
 use designs::activate::activate;
@@ -39,8 +39,16 @@ pub fn design_event(
     images: &[u16],
     used: &[u16],
 ) -> Answer
-    requires { ⌜ Kept sizes (stateOf (take (sizes .frames) frames) pool (now records) (now numbers) (now accounts) (now maps) (now limits) (now «frame_words») (now «free_queue») (now «removal_list») (now addresses) (now states) (now owners) (now «free_map») (now active) (now updating) (now images) (now used)) ⌝ }
-    ensures { λ r. ⌜ leaves r (stateOf (take (sizes .frames) frames) pool (now (records .entry)) (now (numbers .exit)) (now (accounts .exit)) (now (maps .entry)) (now (limits .exit)) (now («frame_words» .entry)) (now («free_queue» .entry)) (now («removal_list» .entry)) (now (addresses .exit)) (now (states .exit)) (now (owners .entry)) (now («free_map» .entry)) (now (active .exit)) (now (updating .entry)) (now (images .entry)) (now (used .entry))) ≡ own sizes (stateOf (take (sizes .frames) frames) pool (now (records .entry)) (now (numbers .entry)) (now (accounts .entry)) (now (maps .entry)) (now (limits .entry)) (now («frame_words» .entry)) (now («free_queue» .entry)) (now («removal_list» .entry)) (now (addresses .entry)) (now (states .entry)) (now (owners .entry)) (now («free_map» .entry)) (now (active .entry)) (now (updating .entry)) (now (images .entry)) (now (used .entry))) (Event.Design event) ⌝ }
+    requires { ⌜ Kept sizes
+        (given (take (sizes .frames) frames) pool records numbers accounts maps limits
+        «frame_words» «free_queue» «removal_list» addresses states owners «free_map» active updating images used) ⌝ }
+    ensures { λ r. ⌜ leaves r
+        (left (take (sizes .frames) frames) pool records numbers accounts maps limits
+        «frame_words» «free_queue» «removal_list» addresses states owners «free_map» active updating images used)
+        ≡ own sizes
+        (entered (take (sizes .frames) frames) pool records numbers accounts maps limits
+        «frame_words» «free_queue» «removal_list» addresses states owners «free_map» active updating images used)
+        (Event.Design event) ⌝ }
 {
     match event {
         Design::Limit { account, pages } => limit(sizes, account, pages, limits),

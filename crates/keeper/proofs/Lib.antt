@@ -1,6 +1,7 @@
 -- Laws that the proofs of this crate share.
 pub mod Row
 pub mod Row64
+pub mod Shapes
 pub mod Copied
 pub mod Capped
 pub mod Shared

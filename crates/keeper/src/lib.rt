@@ -2,7 +2,7 @@
 // Each does its work on values, in crate `calls`; here stands what is lent. A name with the prefix is a C symbol (include/keeper.h).
 ghost use mathlib.Core.Path.{_≡_};
 ghost use denote.Ref.{ptr};
-ghost use Rattle.model.specs.Lent.{diskOf, stateOf};
+ghost use Rattle.model.specs.Lent.{diskOf, entered, left};
 ghost use Rattle.model.specs.Part.{wordAt};
 ghost use Rattle.model.specs.Calls.{apply};
 ghost use Rattle.model.specs.Step.{restart, format, look};
@@ -46,7 +46,14 @@ pub extern "C" fn keeper_apply(
     images: &mut [u16],
     used: &mut [u16],
 ) -> Answer
-    ensures { λ r. ⌜ record { answer = r; left = stateOf (now (frames .exit)) (now (pool .exit)) (now (records .exit)) (now (numbers .exit)) (now (accounts .exit)) (now (maps .exit)) (now (limits .exit)) (now («frame_words» .exit)) (now («free_queue» .exit)) (now («removal_list» .exit)) (now (addresses .exit)) (now (states .exit)) (now (owners .exit)) (now («free_map» .exit)) (now (active .exit)) (now (updating .exit)) (now (images .exit)) (now (used .exit)) } ≡ apply sizes (stateOf (now (frames .entry)) (now (pool .entry)) (now (records .entry)) (now (numbers .entry)) (now (accounts .entry)) (now (maps .entry)) (now (limits .entry)) (now («frame_words» .entry)) (now («free_queue» .entry)) (now («removal_list» .entry)) (now (addresses .entry)) (now (states .entry)) (now (owners .entry)) (now («free_map» .entry)) (now (active .entry)) (now (updating .entry)) (now (images .entry)) (now (used .entry))) request ⌝ }
+    ensures { λ r. ⌜ record {
+      answer = r;
+      left = left (now (frames .exit)) (now (pool .exit)) records numbers accounts maps limits
+          «frame_words» «free_queue» «removal_list» addresses states owners «free_map» active updating images used;
+    }
+        ≡ apply sizes
+        (entered (now (frames .entry)) (now (pool .entry)) records numbers accounts maps limits
+        «frame_words» «free_queue» «removal_list» addresses states owners «free_map» active updating images used) request ⌝ }
 {
     let lent = frames.len();
     let values = load(frames);
@@ -103,7 +110,16 @@ pub extern "C" fn keeper_restart(
     images: &mut [u16],
     used: &mut [u16],
 ) -> Answer
-    ensures { λ r. ⌜ record { answer = r; left = stateOf (now (frames .exit)) (now (pool .exit)) (now (records .entry)) (now (numbers .entry)) (now (accounts .entry)) (now (maps .entry)) (now (limits .entry)) (now («frame_words» .exit)) (now («free_queue» .exit)) (now («removal_list» .exit)) (now (addresses .exit)) (now (states .exit)) (now (owners .exit)) (now («free_map» .exit)) (now (active .exit)) (now (updating .exit)) (now (images .exit)) (now (used .exit)) } ≡ restart sizes (stateOf (now (frames .entry)) (now (pool .entry)) (now (records .entry)) (now (numbers .entry)) (now (accounts .entry)) (now (maps .entry)) (now (limits .entry)) (now («frame_words» .entry)) (now («free_queue» .entry)) (now («removal_list» .entry)) (now (addresses .entry)) (now (states .entry)) (now (owners .entry)) (now («free_map» .entry)) (now (active .entry)) (now (updating .entry)) (now (images .entry)) (now (used .entry))) ⌝ }
+    ensures { λ r. ⌜ record {
+      answer = r;
+      left = left
+          (now (frames .exit))
+          (now (pool .exit)) records numbers accounts maps limits
+          «frame_words» «free_queue» «removal_list» addresses states owners «free_map» active updating images used;
+    }
+        ≡ restart sizes
+        (entered (now (frames .entry)) (now (pool .entry)) records numbers accounts maps limits
+        «frame_words» «free_queue» «removal_list» addresses states owners «free_map» active updating images used) ⌝ }
 {
     let lent = frames.len();
     let values = load(frames);
@@ -146,7 +162,8 @@ pub extern "C" fn keeper_format(
     maps: &mut [u16],
     limits: &mut [u16],
 ) -> Answer
-    ensures { λ r. ⌜ record { answer = r; left = diskOf (now (records .exit)) (now (numbers .exit)) (now (accounts .exit)) (now (maps .exit)) (now (limits .exit)) } ≡ format sizes (diskOf (now (records .entry)) (now (numbers .entry)) (now (accounts .entry)) (now (maps .entry)) (now (limits .entry))) ⌝ }
+    ensures { λ r. ⌜ record { answer = r; left = diskOf (now (records .exit)) (now (numbers .exit)) (now (accounts .exit)) (now (maps .exit)) (now (limits .exit)) }
+        ≡ format sizes (diskOf (now (records .entry)) (now (numbers .entry)) (now (accounts .entry)) (now (maps .entry)) (now (limits .entry))) ⌝ }
 {
     calls::format(sizes, records, numbers, accounts, maps, limits)
 }
@@ -177,7 +194,11 @@ pub fn page_look<'a>(
     images: &[u16],
     used: &[u16],
 ) -> &'a [u32]
-    ensures { λ r. ⌜ (now r ≡ look sizes (stateOf (now (frames .entry)) pool (now (records .entry)) (now (numbers .entry)) (now (accounts .entry)) (now (maps .entry)) (now (limits .entry)) (now («frame_words» .entry)) (now («free_queue» .entry)) (now («removal_list» .entry)) (now (addresses .entry)) (now (states .entry)) (now (owners .entry)) (now («free_map» .entry)) (now (active .entry)) (now (updating .entry)) (now (images .entry)) (now (used .entry))) slot page .left) × ((now (refusal .exit) ≡ look sizes (stateOf (now (frames .entry)) pool (now (records .entry)) (now (numbers .entry)) (now (accounts .entry)) (now (maps .entry)) (now (limits .entry)) (now («frame_words» .entry)) (now («free_queue» .entry)) (now («removal_list» .entry)) (now (addresses .entry)) (now (states .entry)) (now (owners .entry)) (now («free_map» .entry)) (now (active .entry)) (now (updating .entry)) (now (images .entry)) (now (used .entry))) slot page .answer .refusal) × (ptr r ≡ wordAt (ptr («frame_words» .entry)) (partOf sizes (stateOf (now (frames .entry)) pool (now (records .entry)) (now (numbers .entry)) (now (accounts .entry)) (now (maps .entry)) (now (limits .entry)) (now («frame_words» .entry)) (now («free_queue» .entry)) (now («removal_list» .entry)) (now (addresses .entry)) (now (states .entry)) (now (owners .entry)) (now («free_map» .entry)) (now (active .entry)) (now (updating .entry)) (now (images .entry)) (now (used .entry))) slot page .start))) ⌝ }
+    ensures { λ r. ⌜ (let st = entered (now (frames .entry)) pool records numbers accounts maps limits
+        «frame_words» «free_queue» «removal_list» addresses states owners «free_map» active updating images used in
+        (now r ≡ look sizes st slot page .left)
+        × ((now (refusal .exit) ≡ look sizes st slot page .answer .refusal)
+        × (ptr r ≡ wordAt (ptr («frame_words» .entry)) (partOf sizes st slot page .start)))) ⌝ }
 {
     let lent = frames.len();
     let values = load(frames);
@@ -234,7 +255,9 @@ pub extern "C" fn keeper_page_look(
     images: &[u16],
     used: &[u16],
 ) -> Part
-    ensures { λ r. ⌜ r ≡ partOf sizes (stateOf (now (frames .entry)) pool (now (records .entry)) (now (numbers .entry)) (now (accounts .entry)) (now (maps .entry)) (now (limits .entry)) (now («frame_words» .entry)) (now («free_queue» .entry)) (now («removal_list» .entry)) (now (addresses .entry)) (now (states .entry)) (now (owners .entry)) (now («free_map» .entry)) (now (active .entry)) (now (updating .entry)) (now (images .entry)) (now (used .entry))) slot page ⌝ }
+    ensures { λ r. ⌜ r ≡ partOf sizes
+        (entered (now (frames .entry)) pool records numbers accounts maps limits
+        «frame_words» «free_queue» «removal_list» addresses states owners «free_map» active updating images used) slot page ⌝ }
 {
     let lent = frames.len();
     let values = load(frames);

@@ -21,58 +21,70 @@ use Rattle.calls.proofs.restart_core.Tie as tie
 
 -- the state by its frames
 abbrev at : tie.Start → List Frame → State
-at s l = let a = s .args in stateOf l (a .pool) (a .records .now) (a .numbers .now) (a .accounts .now) (a .maps .now) (a .limits .now) (a .frame-words .now) (a .free-queue .now) (a .removal-list .now) (a .addresses .now) (a .states .now) (a .owners .now) (a .free-map .now) (a .active .now) (a .updating .now) (a .images .now) (a .used .now)
+at s l =
+    let a = s .args in
+    stateOf l (a .pool) (a .records .now) (a .numbers .now) (a .accounts .now) (a .maps .now) (a .limits .now) (a .frame-words .now) (a .free-queue .now) (a .removal-list .now)
+    (a .addresses .now) (a .states .now) (a .owners .now) (a .free-map .now) (a .active .now) (a .updating .now) (a .images .now) (a .used .now)
+
+-- from the work back to question 2, and from question 1 to the start
+abbrev ruled : tie.After-restart-tables → tie.Then2
+ruled t = search
+
+abbrev start : tie.After-all-fit → tie.Start
+start q = search
 
 abbrev lent : tie.Start → State
 lent s = at s (framesOf (s .args .frames) (s .args .lent))
 
 returns : tie.Need-returns
 returns c =
-    let s = c .before .before .before .before .before .before .before .before .before .before .before .before .before .before .before .before .before .before .before .before .before .before .before .before .before .before .before .before .before in
+    let s = start (c .before) in
     let a = s .args in
     restart-unfit (a .sizes) (lent s)
     (sym (c .if1 .left) ∙ c .before .all-fit .ensures (framesOf (a .frames) (a .lent)) (a .pool) (length-frames (a .frames) (a .lent)))
 
-fitted : (c : tie.Then1) → (let s = c .before .before .before .before .before .before .before .before .before .before .before .before .before .before .before .before .before .before .before .before .before .before .before .before .before .before .before .before .before in true ≡ test (allFit (s .args .sizes) (lent s)))
+fitted : (c : tie.Then1) → (let s = start (c .before) in true ≡ test (allFit (s .args .sizes) (lent s)))
 fitted c =
-    let s = c .before .before .before .before .before .before .before .before .before .before .before .before .before .before .before .before .before .before .before .before .before .before .before .before .before .before .before .before .before in
+    let s = start (c .before) in
     let a = s .args in
     sym (c .if1 .taken) ∙ c .before .all-fit .ensures (framesOf (a .frames) (a .lent)) (a .pool) (length-frames (a .frames) (a .lent))
 
 disk-rules-requires : tie.Need-disk-rules-requires
 disk-rules-requires c κs =
-    let s = c .before .before .before .before .before .before .before .before .before .before .before .before .before .before .before .before .before .before .before .before .before .before .before .before .before .before .before .before .before in
+    let s = start (c .before) in
     let f = fit-told (s .args .sizes) (lent s) (fitted c) in
     (sizes-fit (s .args .sizes) (f .sizes), fit-disk (s .args .sizes) (lent s .disk) (f .disk))
 
 returns-2 : tie.Need-returns-2
 returns-2 c =
     let k = c .before .before in
-    let s = k .before .before .before .before .before .before .before .before .before .before .before .before .before .before .before .before .before .before .before .before .before .before .before .before .before .before .before .before .before in
+    let s = start (k .before) in
     restart-unruled (s .args .sizes) (lent s) (fitted k) (sym (c .if2 .left) ∙ c .before .disk-rules .ensures (lent s .memory))
 
-listed : (c : tie.Then2) → (let s = c .before .before .before .before .before .before .before .before .before .before .before .before .before .before .before .before .before .before .before .before .before .before .before .before .before .before .before .before .before .before .before in true ≡ test (diskRules (s .args .sizes) (lent s)))
-listed c = let s = c .before .before .before .before .before .before .before .before .before .before .before .before .before .before .before .before .before .before .before .before .before .before .before .before .before .before .before .before .before .before .before in sym (c .if2 .taken) ∙ c .before .disk-rules .ensures (lent s .memory)
+listed : (c : tie.Then2) → (let s = start (c .before .before .before) in true ≡ test (diskRules (s .args .sizes) (lent s)))
+listed c = let s = start (c .before .before .before) in sym (c .if2 .taken) ∙ c .before .disk-rules .ensures (lent s .memory)
 
 restart-tables-requires : tie.Need-restart-tables-requires
 restart-tables-requires c κs =
-    let h = c .before .before .before .before .before .before .before .before .before .before .before in
+    let h : tie.Then2 = search in
     let k = h .before .before in
-    let s = k .before .before .before .before .before .before .before .before .before .before .before .before .before .before .before .before .before .before .before .before .before .before .before .before .before .before .before .before .before in
+    let s = start (k .before) in
     ready (s .args .sizes) (lent s) (fit-told (s .args .sizes) (lent s) (fitted k)) (disk-told (s .args .sizes) (lent s) (listed h))
 
 returns-3 : tie.Need-returns-3
 returns-3 c =
-    let t = c .before .before .before .before .before .before .before .before .before .before .before .before .before .before .before .before .before .before .before .before .before .before .restart-tables in
-    let h = c .before .before .before .before .before .before .before .before .before .before .before .before .before .before .before .before .before .before .before .before .before .before .before .before .before .before .before .before .before .before .before .before .before .before in
+    let w : tie.After-restart-tables = search in
+    let t = w .restart-tables in
+    let h = ruled w in
     let k = h .before .before in
-    let s = k .before .before .before .before .before .before .before .before .before .before .before .before .before .before .before .before .before .before .before .before .before .before .before .before .before .before .before .before .before in
+    let s = start (k .before) in
     let a = s .args in
     let e = t .ensures in
     restart-left (a .sizes) (lent s) _ (t .result .answer) (e .0)
     (restarted-tables (a .sizes) (lent s .disk)
     (restarted-lent (a .sizes) (seen (a .accounts .now) (a .maps .now)) (t .result .frames) (a .lent) (all-lent (a .sizes) (at s) (λ l. refl) (a .frames) (a .lent) (learn (allFit (a .sizes) (lent s)) (fitted k))) (e .1 .0))
-    (e .1 .1 .1 .1 .1 .1 .1 .1 .1 .0) (e .1 .1 .0) (e .1 .1 .1 .0) (e .1 .1 .1 .1 .0) (e .1 .1 .1 .1 .1 .0) (e .1 .1 .1 .1 .1 .1 .0) (e .1 .1 .1 .1 .1 .1 .1 .0) (e .1 .1 .1 .1 .1 .1 .1 .1 .0) (e .1 .1 .1 .1 .1 .1 .1 .1 .1 .1 .0) (e .1 .1 .1 .1 .1 .1 .1 .1 .1 .1 .1 .0) (e .1 .1 .1 .1 .1 .1 .1 .1 .1 .1 .1 .1 .0) (e .1 .1 .1 .1 .1 .1 .1 .1 .1 .1 .1 .1 .1))
+    (e .1 .1 .1 .1 .1 .1 .1 .1 .1 .0) (e .1 .1 .0) (e .1 .1 .1 .0) (e .1 .1 .1 .1 .0) (e .1 .1 .1 .1 .1 .0) (e .1 .1 .1 .1 .1 .1 .0) (e .1 .1 .1 .1 .1 .1 .1 .0) (e .1 .1 .1 .1 .1 .1 .1 .1 .0)
+    (e .1 .1 .1 .1 .1 .1 .1 .1 .1 .1 .0) (e .1 .1 .1 .1 .1 .1 .1 .1 .1 .1 .1 .0) (e .1 .1 .1 .1 .1 .1 .1 .1 .1 .1 .1 .1 .0) (e .1 .1 .1 .1 .1 .1 .1 .1 .1 .1 .1 .1 .1))
     (fitted k) (listed h)
 
 pub restart-core-spec : {M : Type 1} → statement M
@@ -106,15 +118,15 @@ restart-core-spec =
     (λ c. refl)
     returns-2
     restart-tables-requires
-    (λ c. c .before .before .before .before .before .before .before .before .before .before .before .before .before .before .before .before .before .before .before .before .before .before .restart-tables .kept .1 .1 .1 .0)
-    (λ c. c .before .before .before .before .before .before .before .before .before .before .before .before .before .before .before .before .before .before .before .before .before .before .restart-tables .kept .1 .1 .1 .1 .0)
-    (λ c. c .before .before .before .before .before .before .before .before .before .before .before .before .before .before .before .before .before .before .before .before .before .before .restart-tables .kept .1 .1 .1 .1 .1 .0)
-    (λ c. c .before .before .before .before .before .before .before .before .before .before .before .before .before .before .before .before .before .before .before .before .before .before .restart-tables .kept .1 .1 .1 .1 .1 .1 .0)
-    (λ c. c .before .before .before .before .before .before .before .before .before .before .before .before .before .before .before .before .before .before .before .before .before .before .restart-tables .kept .1 .1 .1 .1 .1 .1 .1 .0)
-    (λ c. c .before .before .before .before .before .before .before .before .before .before .before .before .before .before .before .before .before .before .before .before .before .before .restart-tables .kept .1 .1 .1 .1 .1 .1 .1 .1 .0)
-    (λ c. c .before .before .before .before .before .before .before .before .before .before .before .before .before .before .before .before .before .before .before .before .before .before .restart-tables .kept .1 .1 .1 .1 .1 .1 .1 .1 .1 .0)
-    (λ c. c .before .before .before .before .before .before .before .before .before .before .before .before .before .before .before .before .before .before .before .before .before .before .restart-tables .kept .1 .1 .1 .1 .1 .1 .1 .1 .1 .1 .0)
-    (λ c. c .before .before .before .before .before .before .before .before .before .before .before .before .before .before .before .before .before .before .before .before .before .before .restart-tables .kept .1 .1 .1 .1 .1 .1 .1 .1 .1 .1 .1 .0)
-    (λ c. c .before .before .before .before .before .before .before .before .before .before .before .before .before .before .before .before .before .before .before .before .before .before .restart-tables .kept .1 .1 .1 .1 .1 .1 .1 .1 .1 .1 .1 .1 .0)
-    (λ c. c .before .before .before .before .before .before .before .before .before .before .before .before .before .before .before .before .before .before .before .before .before .before .restart-tables .kept .1 .1 .1 .1 .1 .1 .1 .1 .1 .1 .1 .1 .1 .0)
+    (λ c. let w : tie.After-restart-tables = search in w .restart-tables .kept .1 .1 .1 .0)
+    (λ c. let w : tie.After-restart-tables = search in w .restart-tables .kept .1 .1 .1 .1 .0)
+    (λ c. let w : tie.After-restart-tables = search in w .restart-tables .kept .1 .1 .1 .1 .1 .0)
+    (λ c. let w : tie.After-restart-tables = search in w .restart-tables .kept .1 .1 .1 .1 .1 .1 .0)
+    (λ c. let w : tie.After-restart-tables = search in w .restart-tables .kept .1 .1 .1 .1 .1 .1 .1 .0)
+    (λ c. let w : tie.After-restart-tables = search in w .restart-tables .kept .1 .1 .1 .1 .1 .1 .1 .1 .0)
+    (λ c. let w : tie.After-restart-tables = search in w .restart-tables .kept .1 .1 .1 .1 .1 .1 .1 .1 .1 .0)
+    (λ c. let w : tie.After-restart-tables = search in w .restart-tables .kept .1 .1 .1 .1 .1 .1 .1 .1 .1 .1 .0)
+    (λ c. let w : tie.After-restart-tables = search in w .restart-tables .kept .1 .1 .1 .1 .1 .1 .1 .1 .1 .1 .1 .0)
+    (λ c. let w : tie.After-restart-tables = search in w .restart-tables .kept .1 .1 .1 .1 .1 .1 .1 .1 .1 .1 .1 .1 .0)
+    (λ c. let w : tie.After-restart-tables = search in w .restart-tables .kept .1 .1 .1 .1 .1 .1 .1 .1 .1 .1 .1 .1 .1 .0)
     returns-3)

@@ -16,8 +16,9 @@ use prog.Routine.{Routine}
 use prog.Wp.{Heap, Calls, Loops, WpFn, Tables}
 use ghost.Atoms.{Atoms, sem}
 use contract.Monad.{Fun, fact}
+use contract.Lifetimes.{Lfts, Shares}
 use contract.Running.{givenOf, tables, tablesOf}
-use types.Kit.{Given, ‵, raw, given, _⊛_, some, later, ⋆, _$_, _∵_, !, qed, by, move, keep, drop, use1, use2, use3, split, join, pick, learn, show, check, rewrite, fsplit, fjoin, feqL, suffices, frame, await, done}
+use types.Kit.{Item, Given, ‵, raw, given, _⊛_, some, later, ⋆, _$_, _∵_, !, qed, by, move, keep, drop, use1, use2, use3, split, join, pick, learn, show, check, rewrite, fsplit, fjoin, feqL, suffices, frame, await, done}
 use types.Tokens.{lft-new, lft-end}
 use types.Part.{whole, sub, look-in}
 use types.Run.{look, init, store, forget, stop, hop, fld, from, load, and-then, no-more, of-opd, addr, assigns, land, returns, enter, alloc1, alloc0, params1, pass1, pass0, free1, free0}
@@ -28,7 +29,7 @@ use denote.Laws.{Is, shows}
 use denote.Plain.{Nothing, uint-makes, nothing-lawful}
 use denote.Builtin.{u16, u32, u8, usize}
 use denote.Ref.{RefT, MutRef, ptr, name, now, ptr-vals, mut-tells}
-use denote.Slice.{MutSlice, ShrSlice, Room, sliceVal, slice-vals, mut-slice-tells, finally}
+use denote.Slice.{MutSlice, ShrSlice, Room, sliceVal, slice-vals, finally}
 use denote.Signature.{plain}
 use denote.Steps.{only, owned, peeks, heard, nothing}
 use denote.Struct.Laws as LL
@@ -38,8 +39,7 @@ use denote.Triple.Entry.{onEntry}
 use denote.Triple.Spec.{Meets, tripleOf}
 use denote.Triple.Statement.{Contract, Triple}
 use denote.Triple.Table.{entered, cited}
-use denote.Triple.Walked.{says, Stays, stay-dropped, gave-ref, gave-slice, walkOf, goes-dropped, goes-gave-ref, goes-gave-slice, Walks, ends-at, walked, walk-meets}
-use denote.Exit.{yes}
+use denote.Triple.Walked.{says, Stays, gave-ref, walkOf, goes-gave-ref, Walks, ends-at, walked, walk-meets}
 use Rattle.model.specs.declared.frame.Frame.{Frame}
 use Rattle.model.specs.declared.frame.Pool.{Pool}
 use Rattle.model.specs.declared.sizes.Sizes.{Sizes}
@@ -57,6 +57,7 @@ use Rattle.model.proofs.applied.Applied as TO
 use Rattle.model.proofs.applied.Applied.Laws as TO′
 use Rattle.keeper.specs.Copies.{loaded, saved}
 use Rattle.keeper.proofs.Row.{F}
+use Rattle.keeper.proofs.Shapes.{Sixteen, value, gave, mut, goes-value, goes-gave}
 use Rattle.keeper.proofs.Row64.{F64, makes64, typed64}
 use Rattle.keeper.proofs.ByValue.{Z, Q, sizes-val, sizes-vals, sizes-tells, makes-sizes, typed-sizes, request-val, request-vals, request-tells, makes-request, typed-request}
 use Rattle.keeper.proofs.Shared.{SharedAgain, shares-again, comes-home}
@@ -83,14 +84,41 @@ use Rattle.keeper.proofs.keeper_apply.Statement as stated
 use Rattle.keeper.proofs.keeper_apply.Code as code
 
 abbrev stayed : Stays (fn.ended .signature .params) (fn.ended .kept)
-stayed = (stay-dropped (plain (λ _. Z)) yes, (stay-dropped (plain (λ _. Q)) yes, (gave-slice (0 ∷ []) tt (plain (λ _. F)), (gave-ref (1 ∷ []) tt (plain (λ _. P)), (gave-slice (2 ∷ []) tt (plain (λ _. u32)), (gave-slice (3 ∷ []) tt (plain (λ _. u32)), (gave-slice (4 ∷ []) tt (plain (λ _. u16)), (gave-slice (5 ∷ []) tt (plain (λ _. u16)), (gave-slice (6 ∷ []) tt (plain (λ _. u16)), (gave-slice (7 ∷ []) tt (plain (λ _. u32)), (gave-slice (8 ∷ []) tt (plain (λ _. u16)), (gave-slice (9 ∷ []) tt (plain (λ _. u16)), (gave-slice (10 ∷ []) tt (plain (λ _. u16)), (gave-slice (11 ∷ []) tt (plain (λ _. u8)), (gave-slice (12 ∷ []) tt (plain (λ _. u8)), (gave-slice (13 ∷ []) tt (plain (λ _. u32)), (gave-slice (14 ∷ []) tt (plain (λ _. u8)), (gave-slice (15 ∷ []) tt (plain (λ _. u8)), (gave-slice (16 ∷ []) tt (plain (λ _. u16)), (gave-slice (17 ∷ []) tt (plain (λ _. u16)), tt))))))))))))))))))))
+stayed =
+    let v = value 18 in let g = gave 18 in
+    (v Z, (v Q, (g 0 tt F, (gave-ref (1 ∷ []) tt (plain (λ _. P)), (g 2 tt u32, (g 3 tt u32, (g 4 tt u16, (g 5 tt u16, (g 6 tt u16, (g 7 tt u32, (g 8 tt u16, (g 9 tt u16, (g 10 tt u16, (g 11 tt u8, (g 12 tt u8, (g 13 tt u32, (g 14 tt u8, (g 15 tt u8, (g 16 tt u16, (g 17 tt u16, tt))))))))))))))))))))
 
 module _ {M : Type 1} (𝓤 : URA M) (H : Heap 𝓤) (A : Atoms 𝓤) (at-mem : Memory → SProp 𝓤) (run : Routine → Fun 𝓤) where
   abbrev Core : Contract 𝓤
   Core = tripleOf 𝓤 H A core.signature (core.spec 𝓤 H A at-mem run)
 
-module _ {M : Type 1} (𝓤 : URA M) (H : Heap 𝓤) (A : Atoms 𝓤) (W : Given 𝓤 H A) (at-mem : Memory → SProp 𝓤) (run : Routine → Fun 𝓤) (κ0 : Lft) (q0 : Share) (κ1 : Lft) (q1 : Share) (κ2 : Lft) (q2 : Share) (κ3 : Lft) (q3 : Share) (κ4 : Lft) (q4 : Share) (κ5 : Lft) (q5 : Share) (κ6 : Lft) (q6 : Share) (κ7 : Lft) (q7 : Share) (κ8 : Lft) (q8 : Share) (κ9 : Lft) (q9 : Share) (κ10 : Lft) (q10 : Share) (κ11 : Lft) (q11 : Share) (κ12 : Lft) (q12 : Share) (κ13 : Lft) (q13 : Share) (κ14 : Lft) (q14 : Share) (κ15 : Lft) (q15 : Share) (κ16 : Lft) (q16 : Share) (κ17 : Lft) (q17 : Share) (z : Sizes) (request : Request)
-    (bf of′ : ℕ) (γf : GName) (ys : List Frame) (roomf : Room F (length ys)) (bp op : ℕ) (γp : GName) (p : Pool) (x0 : RefT (List ℕ)) (room0 : Room u32 (length (now x0))) (x1 : RefT (List ℕ)) (room1 : Room u32 (length (now x1))) (x2 : RefT (List ℕ)) (room2 : Room u16 (length (now x2))) (x3 : RefT (List ℕ)) (room3 : Room u16 (length (now x3))) (x4 : RefT (List ℕ)) (room4 : Room u16 (length (now x4))) (x5 : RefT (List ℕ)) (room5 : Room u32 (length (now x5))) (x6 : RefT (List ℕ)) (room6 : Room u16 (length (now x6))) (x7 : RefT (List ℕ)) (room7 : Room u16 (length (now x7))) (x8 : RefT (List ℕ)) (room8 : Room u16 (length (now x8))) (x9 : RefT (List ℕ)) (room9 : Room u8 (length (now x9))) (x10 : RefT (List ℕ)) (room10 : Room u8 (length (now x10))) (x11 : RefT (List ℕ)) (room11 : Room u32 (length (now x11))) (x12 : RefT (List ℕ)) (room12 : Room u8 (length (now x12))) (x13 : RefT (List ℕ)) (room13 : Room u8 (length (now x13))) (x14 : RefT (List ℕ)) (room14 : Room u16 (length (now x14))) (x15 : RefT (List ℕ)) (room15 : Room u16 (length (now x15))) (is-z : Is Z z (sizes-vals z)) (is-req : Is Q request (request-vals request)) where
+module _ {M : Type 1} (𝓤 : URA M) (H : Heap 𝓤) (A : Atoms 𝓤) (W : Given 𝓤 H A) (at-mem : Memory → SProp 𝓤) (run : Routine → Fun 𝓤) (κ0 : Lft) (q0 : Share) (κ1 : Lft) (q1 : Share) (κ2 : Lft)
+    (q2 : Share) (κ3 : Lft) (q3 : Share) (κ4 : Lft) (q4 : Share) (κ5 : Lft) (q5 : Share) (κ6 : Lft) (q6 : Share) (κ7 : Lft) (q7 : Share) (κ8 : Lft) (q8 : Share) (κ9 : Lft) (q9 : Share) (κ10 : Lft)
+    (q10 : Share) (κ11 : Lft) (q11 : Share) (κ12 : Lft) (q12 : Share) (κ13 : Lft) (q13 : Share) (κ14 : Lft) (q14 : Share) (κ15 : Lft) (q15 : Share) (κ16 : Lft) (q16 : Share) (κ17 : Lft) (q17 : Share)
+    (z : Sizes) (request : Request)
+    (bf of′ : ℕ) (γf : GName) (ys : List Frame) (roomf : Room F (length ys)) (bp op : ℕ) (γp : GName) (p : Pool) (x0 : RefT (List ℕ)) (room0 : Room u32 (length (now x0))) (x1 : RefT (List ℕ))
+    (room1 : Room u32 (length (now x1))) (x2 : RefT (List ℕ)) (room2 : Room u16 (length (now x2))) (x3 : RefT (List ℕ)) (room3 : Room u16 (length (now x3))) (x4 : RefT (List ℕ)) (room4 : Room u16
+    (length (now x4))) (x5 : RefT (List ℕ)) (room5 : Room u32 (length (now x5))) (x6 : RefT (List ℕ)) (room6 : Room u16 (length (now x6))) (x7 : RefT (List ℕ)) (room7 : Room u16 (length (now x7)))
+    (x8 : RefT (List ℕ)) (room8 : Room u16 (length (now x8))) (x9 : RefT (List ℕ)) (room9 : Room u8 (length (now x9))) (x10 : RefT (List ℕ)) (room10 : Room u8 (length (now x10))) (x11 : RefT
+    (List ℕ)) (room11 : Room u32 (length (now x11))) (x12 : RefT (List ℕ)) (room12 : Room u8 (length (now x12))) (x13 : RefT (List ℕ)) (room13 : Room u8 (length (now x13))) (x14 : RefT (List ℕ))
+    (room14 : Room u16 (length (now x14))) (x15 : RefT (List ℕ)) (room15 : Room u16 (length (now x15))) (is-z : Is Z z (sizes-vals z)) (is-req : Is Q request (request-vals request)) where
+  -- the tables' lifetimes, shares, references and machine values, and their tokens
+  abbrev κt : Lfts 16
+  κt = (κ2, (κ3, (κ4, (κ5, (κ6, (κ7, (κ8, (κ9, (κ10, (κ11, (κ12, (κ13, (κ14, (κ15, (κ16, (κ17, tt))))))))))))))))
+
+  abbrev qt : Shares 16
+  qt = (q2, (q3, (q4, (q5, (q6, (q7, (q8, (q9, (q10, (q11, (q12, (q13, (q14, (q15, (q16, (q17, tt))))))))))))))))
+
+  abbrev xt : Sixteen (RefT (List ℕ))
+  xt = (x0, (x1, (x2, (x3, (x4, (x5, (x6, (x7, (x8, (x9, (x10, (x11, (x12, (x13, (x14, (x15, tt))))))))))))))))
+
+  abbrev vt : Sixteen (List Val)
+  vt = (table-val x0 ∷ [], (table-val x1 ∷ [], (table-val x2 ∷ [], (table-val x3 ∷ [], (table-val x4 ∷ [], (table-val x5 ∷ [], (table-val x6 ∷ [], (table-val x7 ∷ [], (table-val x8 ∷ [], (table-val x9 ∷ [], (table-val x10 ∷ [], (table-val x11 ∷ [], (table-val x12 ∷ [], (table-val x13 ∷ [], (table-val x14 ∷ [], (table-val x15 ∷ [], tt))))))))))))))))
+
+  abbrev tokens : Item 𝓤
+  tokens = (‵ (flft κ2 q2) ⊛ (‵ (flft κ3 q3) ⊛ (‵ (flft κ4 q4) ⊛ (‵ (flft κ5 q5) ⊛ (‵ (flft κ6 q6) ⊛ (‵ (flft κ7 q7) ⊛ (‵ (flft κ8 q8) ⊛ (‵ (flft κ9 q9) ⊛ (‵ (flft κ10 q10) ⊛ (‵ (flft κ11 q11) ⊛ (‵
+      (flft κ12 q12) ⊛ (‵ (flft κ13 q13) ⊛ (‵ (flft κ14 q14) ⊛ (‵ (flft κ15 q15) ⊛ (‵ (flft κ16 q16) ⊛ (‵ (flft κ17 q17) ⊛ ‵ ftrue))))))))))))))))
+
   -- the parameters, and their machine values
   abbrev n : ℕ
   n = length ys
@@ -108,7 +136,7 @@ module _ {M : Type 1} (𝓤 : URA M) (H : Heap 𝓤) (A : Atoms 𝓤) (W : Given
   sf = sliceVal (bf, of′) n
 
   abbrev bound : walkOf 𝓤 H A fn.ended stayed (fn.clauses 𝓤 H A at-mem run) .Ghost
-  bound = (((κ0, (κ1, (κ2, (κ3, (κ4, (κ5, (κ6, (κ7, (κ8, (κ9, (κ10, (κ11, (κ12, (κ13, (κ14, (κ15, (κ16, (κ17, tt)))))))))))))))))), (q0, (q1, (q2, (q3, (q4, (q5, (q6, (q7, (q8, (q9, (q10, (q11, (q12, (q13, (q14, (q15, (q16, (q17, tt)))))))))))))))))), tt, (z, (request, (xf γf, (xp, (x0, (x1, (x2, (x3, (x4, (x5, (x6, (x7, (x8, (x9, (x10, (x11, (x12, (x13, (x14, (x15, tt)))))))))))))))))))), (sizes-val z ∷ [], (request-val request ∷ [], (sf ∷ [], (vptr bp op ∷ [], (table-val x0 ∷ [], (table-val x1 ∷ [], (table-val x2 ∷ [], (table-val x3 ∷ [], (table-val x4 ∷ [], (table-val x5 ∷ [], (table-val x6 ∷ [], (table-val x7 ∷ [], (table-val x8 ∷ [], (table-val x9 ∷ [], (table-val x10 ∷ [], (table-val x11 ∷ [], (table-val x12 ∷ [], (table-val x13 ∷ [], (table-val x14 ∷ [], (table-val x15 ∷ [], tt))))))))))))))))))))), tt)
+  bound = (((κ0, (κ1, κt)), (q0, (q1, qt)), tt, (z, (request, (xf γf, (xp, xt)))), (sizes-val z ∷ [], (request-val request ∷ [], (sf ∷ [], (vptr bp op ∷ [], vt))))), tt)
 
   abbrev Post : Val → SProp 𝓤
   Post = walkOf 𝓤 H A fn.ended stayed (fn.clauses 𝓤 H A at-mem run) .post bound
@@ -118,25 +146,47 @@ module _ {M : Type 1} (𝓤 : URA M) (H : Heap 𝓤) (A : Atoms 𝓤) (W : Given
   Lasts = Unit {0} × (Unit {0} × (Unit {0} × (Unit {0} × (Unit {0} × (List ℕ × (List ℕ × (List ℕ × (List ℕ × (List ℕ × (List ℕ × (List ℕ × (List ℕ × (List ℕ × (List ℕ × (List ℕ × (List ℕ × (List ℕ × (List ℕ × (List ℕ × (List ℕ × (Unit {0})))))))))))))))))))))
 
   abbrev Fin : Lasts → Fml
-  Fin ms = fsep (finally u32 (name x0) (ms .1 .1 .1 .1 .1 .0)) (fsep (finally u32 (name x1) (ms .1 .1 .1 .1 .1 .1 .0)) (fsep (finally u16 (name x2) (ms .1 .1 .1 .1 .1 .1 .1 .0)) (fsep (finally u16 (name x3) (ms .1 .1 .1 .1 .1 .1 .1 .1 .0)) (fsep (finally u16 (name x4) (ms .1 .1 .1 .1 .1 .1 .1 .1 .1 .0)) (fsep (finally u32 (name x5) (ms .1 .1 .1 .1 .1 .1 .1 .1 .1 .1 .0)) (fsep (finally u16 (name x6) (ms .1 .1 .1 .1 .1 .1 .1 .1 .1 .1 .1 .0)) (fsep (finally u16 (name x7) (ms .1 .1 .1 .1 .1 .1 .1 .1 .1 .1 .1 .1 .0)) (fsep (finally u16 (name x8) (ms .1 .1 .1 .1 .1 .1 .1 .1 .1 .1 .1 .1 .1 .0)) (fsep (finally u8 (name x9) (ms .1 .1 .1 .1 .1 .1 .1 .1 .1 .1 .1 .1 .1 .1 .0)) (fsep (finally u8 (name x10) (ms .1 .1 .1 .1 .1 .1 .1 .1 .1 .1 .1 .1 .1 .1 .1 .0)) (fsep (finally u32 (name x11) (ms .1 .1 .1 .1 .1 .1 .1 .1 .1 .1 .1 .1 .1 .1 .1 .1 .0)) (fsep (finally u8 (name x12) (ms .1 .1 .1 .1 .1 .1 .1 .1 .1 .1 .1 .1 .1 .1 .1 .1 .1 .0)) (fsep (finally u8 (name x13) (ms .1 .1 .1 .1 .1 .1 .1 .1 .1 .1 .1 .1 .1 .1 .1 .1 .1 .1 .0)) (fsep (finally u16 (name x14) (ms .1 .1 .1 .1 .1 .1 .1 .1 .1 .1 .1 .1 .1 .1 .1 .1 .1 .1 .1 .0)) (fsep (finally u16 (name x15) (ms .1 .1 .1 .1 .1 .1 .1 .1 .1 .1 .1 .1 .1 .1 .1 .1 .1 .1 .1 .1 .0)) ftrue)))))))))))))))
+  Fin ms = fsep (finally u32 (name x0) (ms .1 .1 .1 .1 .1 .0)) (fsep (finally u32 (name x1) (ms .1 .1 .1 .1 .1 .1 .0)) (fsep (finally u16 (name x2) (ms .1 .1 .1 .1 .1 .1 .1 .0)) (fsep (finally u16
+      (name x3) (ms .1 .1 .1 .1 .1 .1 .1 .1 .0)) (fsep (finally u16 (name x4) (ms .1 .1 .1 .1 .1 .1 .1 .1 .1 .0)) (fsep (finally u32 (name x5) (ms .1 .1 .1 .1 .1 .1 .1 .1 .1 .1 .0)) (fsep (finally u16
+      (name x6) (ms .1 .1 .1 .1 .1 .1 .1 .1 .1 .1 .1 .0)) (fsep (finally u16 (name x7) (ms .1 .1 .1 .1 .1 .1 .1 .1 .1 .1 .1 .1 .0)) (fsep (finally u16 (name x8)
+      (ms .1 .1 .1 .1 .1 .1 .1 .1 .1 .1 .1 .1 .1 .0)) (fsep (finally u8 (name x9) (ms .1 .1 .1 .1 .1 .1 .1 .1 .1 .1 .1 .1 .1 .1 .0)) (fsep (finally u8 (name x10)
+      (ms .1 .1 .1 .1 .1 .1 .1 .1 .1 .1 .1 .1 .1 .1 .1 .0)) (fsep (finally u32 (name x11) (ms .1 .1 .1 .1 .1 .1 .1 .1 .1 .1 .1 .1 .1 .1 .1 .1 .0)) (fsep (finally u8 (name x12)
+      (ms .1 .1 .1 .1 .1 .1 .1 .1 .1 .1 .1 .1 .1 .1 .1 .1 .1 .0)) (fsep (finally u8 (name x13) (ms .1 .1 .1 .1 .1 .1 .1 .1 .1 .1 .1 .1 .1 .1 .1 .1 .1 .1 .0)) (fsep (finally u16 (name x14)
+      (ms .1 .1 .1 .1 .1 .1 .1 .1 .1 .1 .1 .1 .1 .1 .1 .1 .1 .1 .1 .0)) (fsep (finally u16 (name x15) (ms .1 .1 .1 .1 .1 .1 .1 .1 .1 .1 .1 .1 .1 .1 .1 .1 .1 .1 .1 .1 .0)) ftrue)))))))))))))))
+
+  -- the state then, by its frames and its pool
+  abbrev after : List Frame → Pool → Lasts → State
+  after zs pool ms =
+      let d = ms .1 .1 .1 .1 .1 in
+      let m = d .1 .1 .1 .1 .1 in
+      let h = m .1 .1 .1 in
+      let s = h .1 .1 .1 .1 in
+      stateOf zs pool (d .0) (d .1 .0) (d .1 .1 .0) (d .1 .1 .1 .0) (d .1 .1 .1 .1 .0) (m .0) (m .1 .0) (m .1 .1 .0) (h .0) (h .1 .0) (h .1 .1 .0) (h .1 .1 .1 .0) (s .0) (s .1 .0) (s .1 .1 .0) (s .1 .1 .1 .0)
 
   abbrev Says : Applied → Lasts → Type 0
-  Says out ms = record { answer = out .answer; left = stateOf (framesOf (out .frames) n) (out .pool) (ms .1 .1 .1 .1 .1 .0) (ms .1 .1 .1 .1 .1 .1 .0) (ms .1 .1 .1 .1 .1 .1 .1 .0) (ms .1 .1 .1 .1 .1 .1 .1 .1 .0) (ms .1 .1 .1 .1 .1 .1 .1 .1 .1 .0) (ms .1 .1 .1 .1 .1 .1 .1 .1 .1 .1 .0) (ms .1 .1 .1 .1 .1 .1 .1 .1 .1 .1 .1 .0) (ms .1 .1 .1 .1 .1 .1 .1 .1 .1 .1 .1 .1 .0) (ms .1 .1 .1 .1 .1 .1 .1 .1 .1 .1 .1 .1 .1 .0) (ms .1 .1 .1 .1 .1 .1 .1 .1 .1 .1 .1 .1 .1 .1 .0) (ms .1 .1 .1 .1 .1 .1 .1 .1 .1 .1 .1 .1 .1 .1 .1 .0) (ms .1 .1 .1 .1 .1 .1 .1 .1 .1 .1 .1 .1 .1 .1 .1 .1 .0) (ms .1 .1 .1 .1 .1 .1 .1 .1 .1 .1 .1 .1 .1 .1 .1 .1 .1 .0) (ms .1 .1 .1 .1 .1 .1 .1 .1 .1 .1 .1 .1 .1 .1 .1 .1 .1 .1 .0) (ms .1 .1 .1 .1 .1 .1 .1 .1 .1 .1 .1 .1 .1 .1 .1 .1 .1 .1 .1 .0) (ms .1 .1 .1 .1 .1 .1 .1 .1 .1 .1 .1 .1 .1 .1 .1 .1 .1 .1 .1 .1 .0) } ≡ apply z (stateOf (framesOf (loaded ys) n) p (now x0) (now x1) (now x2) (now x3) (now x4) (now x5) (now x6) (now x7) (now x8) (now x9) (now x10) (now x11) (now x12) (now x13) (now x14) (now x15)) request
+  Says out ms = record { answer = out .answer; left = after (framesOf (out .frames) n) (out .pool) ms } ≡ apply z (stateOf (framesOf (loaded ys) n) p (now x0) (now x1) (now x2) (now x3) (now x4) (now x5) (now x6) (now x7) (now x8) (now x9) (now x10) (now x11) (now x12) (now x13) (now x14) (now x15)) request
 
   abbrev Left : Applied → Lasts → Type 0
-  Left out ms = Says out ms × ((length (ms .1 .1 .1 .1 .1 .0) ≡ length (now x0)) × ((length (ms .1 .1 .1 .1 .1 .1 .0) ≡ length (now x1)) × ((length (ms .1 .1 .1 .1 .1 .1 .1 .0) ≡ length (now x2)) × ((length (ms .1 .1 .1 .1 .1 .1 .1 .1 .0) ≡ length (now x3)) × ((length (ms .1 .1 .1 .1 .1 .1 .1 .1 .1 .0) ≡ length (now x4)) × ((length (ms .1 .1 .1 .1 .1 .1 .1 .1 .1 .1 .0) ≡ length (now x5)) × ((length (ms .1 .1 .1 .1 .1 .1 .1 .1 .1 .1 .1 .0) ≡ length (now x6)) × ((length (ms .1 .1 .1 .1 .1 .1 .1 .1 .1 .1 .1 .1 .0) ≡ length (now x7)) × ((length (ms .1 .1 .1 .1 .1 .1 .1 .1 .1 .1 .1 .1 .1 .0) ≡ length (now x8)) × ((length (ms .1 .1 .1 .1 .1 .1 .1 .1 .1 .1 .1 .1 .1 .1 .0) ≡ length (now x9)) × ((length (ms .1 .1 .1 .1 .1 .1 .1 .1 .1 .1 .1 .1 .1 .1 .1 .0) ≡ length (now x10)) × ((length (ms .1 .1 .1 .1 .1 .1 .1 .1 .1 .1 .1 .1 .1 .1 .1 .1 .0) ≡ length (now x11)) × ((length (ms .1 .1 .1 .1 .1 .1 .1 .1 .1 .1 .1 .1 .1 .1 .1 .1 .1 .0) ≡ length (now x12)) × ((length (ms .1 .1 .1 .1 .1 .1 .1 .1 .1 .1 .1 .1 .1 .1 .1 .1 .1 .1 .0) ≡ length (now x13)) × ((length (ms .1 .1 .1 .1 .1 .1 .1 .1 .1 .1 .1 .1 .1 .1 .1 .1 .1 .1 .1 .0) ≡ length (now x14)) × ((length (ms .1 .1 .1 .1 .1 .1 .1 .1 .1 .1 .1 .1 .1 .1 .1 .1 .1 .1 .1 .1 .0) ≡ length (now x15)) × Unit {0}))))))))))))))))
+  Left out ms = Says out ms × ((length (ms .1 .1 .1 .1 .1 .0) ≡ length (now x0)) × ((length (ms .1 .1 .1 .1 .1 .1 .0) ≡ length (now x1)) × ((length (ms .1 .1 .1 .1 .1 .1 .1 .0) ≡ length (now x2)) ×
+      ((length (ms .1 .1 .1 .1 .1 .1 .1 .1 .0) ≡ length (now x3)) × ((length (ms .1 .1 .1 .1 .1 .1 .1 .1 .1 .0) ≡ length (now x4)) × ((length (ms .1 .1 .1 .1 .1 .1 .1 .1 .1 .1 .0) ≡ length (now x5)) ×
+      ((length (ms .1 .1 .1 .1 .1 .1 .1 .1 .1 .1 .1 .0) ≡ length (now x6)) × ((length (ms .1 .1 .1 .1 .1 .1 .1 .1 .1 .1 .1 .1 .0) ≡ length (now x7)) × ((length
+      (ms .1 .1 .1 .1 .1 .1 .1 .1 .1 .1 .1 .1 .1 .0) ≡ length (now x8)) × ((length (ms .1 .1 .1 .1 .1 .1 .1 .1 .1 .1 .1 .1 .1 .1 .0) ≡ length (now x9)) × ((length
+      (ms .1 .1 .1 .1 .1 .1 .1 .1 .1 .1 .1 .1 .1 .1 .1 .0) ≡ length (now x10)) × ((length (ms .1 .1 .1 .1 .1 .1 .1 .1 .1 .1 .1 .1 .1 .1 .1 .1 .0) ≡ length (now x11)) × ((length
+      (ms .1 .1 .1 .1 .1 .1 .1 .1 .1 .1 .1 .1 .1 .1 .1 .1 .1 .0) ≡ length (now x12)) × ((length (ms .1 .1 .1 .1 .1 .1 .1 .1 .1 .1 .1 .1 .1 .1 .1 .1 .1 .1 .0) ≡ length (now x13)) × ((length
+      (ms .1 .1 .1 .1 .1 .1 .1 .1 .1 .1 .1 .1 .1 .1 .1 .1 .1 .1 .1 .0) ≡ length (now x14)) × ((length (ms .1 .1 .1 .1 .1 .1 .1 .1 .1 .1 .1 .1 .1 .1 .1 .1 .1 .1 .1 .1 .0) ≡ length (now x15)) ×
+      Unit {0}))))))))))))))))
 
   -- what the call's contract says, from that, for a slice of frames of any length
   said : (out : Applied) (ms : Lasts) (zs : List Frame) → zs ≡ saved ys (out .frames) → length (out .frames) ≡ 64 → Says out ms
-      → record { answer = out .answer; left = stateOf zs (out .pool) (ms .1 .1 .1 .1 .1 .0) (ms .1 .1 .1 .1 .1 .1 .0) (ms .1 .1 .1 .1 .1 .1 .1 .0) (ms .1 .1 .1 .1 .1 .1 .1 .1 .0) (ms .1 .1 .1 .1 .1 .1 .1 .1 .1 .0) (ms .1 .1 .1 .1 .1 .1 .1 .1 .1 .1 .0) (ms .1 .1 .1 .1 .1 .1 .1 .1 .1 .1 .1 .0) (ms .1 .1 .1 .1 .1 .1 .1 .1 .1 .1 .1 .1 .0) (ms .1 .1 .1 .1 .1 .1 .1 .1 .1 .1 .1 .1 .1 .0) (ms .1 .1 .1 .1 .1 .1 .1 .1 .1 .1 .1 .1 .1 .1 .0) (ms .1 .1 .1 .1 .1 .1 .1 .1 .1 .1 .1 .1 .1 .1 .1 .0) (ms .1 .1 .1 .1 .1 .1 .1 .1 .1 .1 .1 .1 .1 .1 .1 .1 .0) (ms .1 .1 .1 .1 .1 .1 .1 .1 .1 .1 .1 .1 .1 .1 .1 .1 .1 .0) (ms .1 .1 .1 .1 .1 .1 .1 .1 .1 .1 .1 .1 .1 .1 .1 .1 .1 .1 .0) (ms .1 .1 .1 .1 .1 .1 .1 .1 .1 .1 .1 .1 .1 .1 .1 .1 .1 .1 .1 .0) (ms .1 .1 .1 .1 .1 .1 .1 .1 .1 .1 .1 .1 .1 .1 .1 .1 .1 .1 .1 .1 .0) } ≡ apply z (stateOf ys p (now x0) (now x1) (now x2) (now x3) (now x4) (now x5) (now x6) (now x7) (now x8) (now x9) (now x10) (now x11) (now x12) (now x13) (now x14) (now x15)) request
+      → record { answer = out .answer; left = after zs (out .pool) ms } ≡ apply z (stateOf ys p (now x0) (now x1) (now x2) (now x3) (now x4) (now x5) (now x6) (now x7) (now x8) (now x9) (now x10) (now x11) (now x12) (now x13) (now x14) (now x15)) request
   said out ms zs e l says =
-      of-any-length z ys (stateOf ys p (now x0) (now x1) (now x2) (now x3) (now x4) (now x5) (now x6) (now x7) (now x8) (now x9) (now x10) (now x11) (now x12) (now x13) (now x14) (now x15)) (λ (st : State). apply z st request) (apply-refuses z request) (stateOf ys (out .pool) (ms .1 .1 .1 .1 .1 .0) (ms .1 .1 .1 .1 .1 .1 .0) (ms .1 .1 .1 .1 .1 .1 .1 .0) (ms .1 .1 .1 .1 .1 .1 .1 .1 .0) (ms .1 .1 .1 .1 .1 .1 .1 .1 .1 .0) (ms .1 .1 .1 .1 .1 .1 .1 .1 .1 .1 .0) (ms .1 .1 .1 .1 .1 .1 .1 .1 .1 .1 .1 .0) (ms .1 .1 .1 .1 .1 .1 .1 .1 .1 .1 .1 .1 .0) (ms .1 .1 .1 .1 .1 .1 .1 .1 .1 .1 .1 .1 .1 .0) (ms .1 .1 .1 .1 .1 .1 .1 .1 .1 .1 .1 .1 .1 .1 .0) (ms .1 .1 .1 .1 .1 .1 .1 .1 .1 .1 .1 .1 .1 .1 .1 .0) (ms .1 .1 .1 .1 .1 .1 .1 .1 .1 .1 .1 .1 .1 .1 .1 .1 .0) (ms .1 .1 .1 .1 .1 .1 .1 .1 .1 .1 .1 .1 .1 .1 .1 .1 .1 .0) (ms .1 .1 .1 .1 .1 .1 .1 .1 .1 .1 .1 .1 .1 .1 .1 .1 .1 .1 .0) (ms .1 .1 .1 .1 .1 .1 .1 .1 .1 .1 .1 .1 .1 .1 .1 .1 .1 .1 .1 .0) (ms .1 .1 .1 .1 .1 .1 .1 .1 .1 .1 .1 .1 .1 .1 .1 .1 .1 .1 .1 .1 .0)) (out .answer) (out .frames) l says zs e
+      of-any-length z ys (stateOf ys p (now x0) (now x1) (now x2) (now x3) (now x4) (now x5) (now x6) (now x7) (now x8) (now x9) (now x10) (now x11) (now x12) (now x13) (now x14) (now x15)) (λ (st : State). apply z st request) (apply-refuses z request) (after ys (out .pool) ms) (out .answer) (out .frames) l says zs e
 
   exits : (out : Applied) (zs : List Frame) (ms : Lasts) → (zs ≡ saved ys (out .frames)) × (length zs ≡ n) → Left out ms → Fields out
-      → ent 𝓤 (⋆ 𝓤 H A (‵ (flft κ0 q0) ∷ ‵ (flft κ1 q1) ∷ (‵ (flft κ2 q2) ⊛ (‵ (flft κ3 q3) ⊛ (‵ (flft κ4 q4) ⊛ (‵ (flft κ5 q5) ⊛ (‵ (flft κ6 q6) ⊛ (‵ (flft κ7 q7) ⊛ (‵ (flft κ8 q8) ⊛ (‵ (flft κ9 q9) ⊛ (‵ (flft κ10 q10) ⊛ (‵ (flft κ11 q11) ⊛ (‵ (flft κ12 q12) ⊛ (‵ (flft κ13 q13) ⊛ (‵ (flft κ14 q14) ⊛ (‵ (flft κ15 q15) ⊛ (‵ (flft κ16 q16) ⊛ (‵ (flft κ17 q17) ⊛ ‵ ftrue)))))))))))))))) ∷ ‵ (finally F γf zs) ∷ ‵ (fres γp (P .coded .code (out .pool))) ∷ ‵ (Fin ms) ∷ [])) (Post (answer-val out))
+      → ent 𝓤 (⋆ 𝓤 H A (‵ (flft κ0 q0) ∷ ‵ (flft κ1 q1) ∷ tokens ∷ ‵ (finally F γf zs) ∷ ‵ (fres γp (P .coded .code (out .pool))) ∷ ‵ (Fin ms) ∷ [])) (Post (answer-val out))
   exits out zs ms e₀ e₁ is =
-      qed W (‵ (flft κ0 q0) ∷ ‵ (flft κ1 q1) ∷ (‵ (flft κ2 q2) ⊛ (‵ (flft κ3 q3) ⊛ (‵ (flft κ4 q4) ⊛ (‵ (flft κ5 q5) ⊛ (‵ (flft κ6 q6) ⊛ (‵ (flft κ7 q7) ⊛ (‵ (flft κ8 q8) ⊛ (‵ (flft κ9 q9) ⊛ (‵ (flft κ10 q10) ⊛ (‵ (flft κ11 q11) ⊛ (‵ (flft κ12 q12) ⊛ (‵ (flft κ13 q13) ⊛ (‵ (flft κ14 q14) ⊛ (‵ (flft κ15 q15) ⊛ (‵ (flft κ16 q16) ⊛ (‵ (flft κ17 q17) ⊛ ‵ ftrue)))))))))))))))) ∷ ‵ (finally F γf zs) ∷ ‵ (fres γp (P .coded .code (out .pool))) ∷ ‵ (Fin ms) ∷ []) ∵
-      suffices ! _ (ends-at 𝓤 H A fn.ended stayed (fn.clauses 𝓤 H A at-mem run) W bound (answer-val out) (out .answer) (tt, (tt, (zs, (out .pool, (ms .1 .1 .1 .1 .1 .0, (ms .1 .1 .1 .1 .1 .1 .0, (ms .1 .1 .1 .1 .1 .1 .1 .0, (ms .1 .1 .1 .1 .1 .1 .1 .1 .0, (ms .1 .1 .1 .1 .1 .1 .1 .1 .1 .0, (ms .1 .1 .1 .1 .1 .1 .1 .1 .1 .1 .0, (ms .1 .1 .1 .1 .1 .1 .1 .1 .1 .1 .1 .0, (ms .1 .1 .1 .1 .1 .1 .1 .1 .1 .1 .1 .1 .0, (ms .1 .1 .1 .1 .1 .1 .1 .1 .1 .1 .1 .1 .1 .0, (ms .1 .1 .1 .1 .1 .1 .1 .1 .1 .1 .1 .1 .1 .1 .0, (ms .1 .1 .1 .1 .1 .1 .1 .1 .1 .1 .1 .1 .1 .1 .1 .0, (ms .1 .1 .1 .1 .1 .1 .1 .1 .1 .1 .1 .1 .1 .1 .1 .1 .0, (ms .1 .1 .1 .1 .1 .1 .1 .1 .1 .1 .1 .1 .1 .1 .1 .1 .1 .0, (ms .1 .1 .1 .1 .1 .1 .1 .1 .1 .1 .1 .1 .1 .1 .1 .1 .1 .1 .0, (ms .1 .1 .1 .1 .1 .1 .1 .1 .1 .1 .1 .1 .1 .1 .1 .1 .1 .1 .1 .0, (ms .1 .1 .1 .1 .1 .1 .1 .1 .1 .1 .1 .1 .1 .1 .1 .1 .1 .1 .1 .1 .0, tt)))))))))))))))))))) (tt, (tt, (e₀ .1, (tt, (e₁ .1 .0, (e₁ .1 .1 .0, (e₁ .1 .1 .1 .0, (e₁ .1 .1 .1 .1 .0, (e₁ .1 .1 .1 .1 .1 .0, (e₁ .1 .1 .1 .1 .1 .1 .0, (e₁ .1 .1 .1 .1 .1 .1 .1 .0, (e₁ .1 .1 .1 .1 .1 .1 .1 .1 .0, (e₁ .1 .1 .1 .1 .1 .1 .1 .1 .1 .0, (e₁ .1 .1 .1 .1 .1 .1 .1 .1 .1 .1 .0, (e₁ .1 .1 .1 .1 .1 .1 .1 .1 .1 .1 .1 .0, (e₁ .1 .1 .1 .1 .1 .1 .1 .1 .1 .1 .1 .1 .0, (e₁ .1 .1 .1 .1 .1 .1 .1 .1 .1 .1 .1 .1 .1 .0, (e₁ .1 .1 .1 .1 .1 .1 .1 .1 .1 .1 .1 .1 .1 .1 .0, (e₁ .1 .1 .1 .1 .1 .1 .1 .1 .1 .1 .1 .1 .1 .1 .1 .0, (e₁ .1 .1 .1 .1 .1 .1 .1 .1 .1 .1 .1 .1 .1 .1 .1 .1 .0, tt))))))))))))))))))))) $
+      qed W (‵ (flft κ0 q0) ∷ ‵ (flft κ1 q1) ∷ tokens ∷ ‵ (finally F γf zs) ∷ ‵ (fres γp (P .coded .code (out .pool))) ∷ ‵ (Fin ms) ∷ []) ∵
+      suffices ! _ (ends-at 𝓤 H A fn.ended stayed (fn.clauses 𝓤 H A at-mem run) W bound (answer-val out) (out .answer) (tt, (tt, (zs, (out .pool, ms .1 .1 .1 .1 .1)))) (tt, (tt, (e₀ .1, (tt, e₁ .1))))) $
       says ! (said out ms zs (e₀ .0) (is .0 .1 .0 .1) (e₁ .0)) $
       move ! (1 ∷ 2 ∷ []) $ join ! $ move ! (1 ∷ 0 ∷ []) $ join ! $ frame ! $
       -- [the last list of frames; the last pool; the last lists of the slices]
@@ -145,35 +195,64 @@ module _ {M : Type 1} (𝓤 : URA M) (H : Heap 𝓤) (A : Atoms 𝓤) (W : Given
 
   -- what the work's triple binds outside, that the caller has what it asks, and what it leaves
   abbrev to-core : Val → Val → Core 𝓤 H A at-mem run .Ghost
-  to-core v t = (((κ2, (κ3, (κ4, (κ5, (κ6, (κ7, (κ8, (κ9, (κ10, (κ11, (κ12, (κ13, (κ14, (κ15, (κ16, (κ17, tt)))))))))))))))), (q2, (q3, (q4, (q5, (q6, (q7, (q8, (q9, (q10, (q11, (q12, (q13, (q14, (q15, (q16, (q17, tt)))))))))))))))), tt, (z, (request, (n, (loaded ys, (p, (x0, (x1, (x2, (x3, (x4, (x5, (x6, (x7, (x8, (x9, (x10, (x11, (x12, (x13, (x14, (x15, tt))))))))))))))))))))), (sizes-val z ∷ [], (request-val request ∷ [], (vint w64 n ∷ [], (v ∷ [], (t ∷ [], (table-val x0 ∷ [], (table-val x1 ∷ [], (table-val x2 ∷ [], (table-val x3 ∷ [], (table-val x4 ∷ [], (table-val x5 ∷ [], (table-val x6 ∷ [], (table-val x7 ∷ [], (table-val x8 ∷ [], (table-val x9 ∷ [], (table-val x10 ∷ [], (table-val x11 ∷ [], (table-val x12 ∷ [], (table-val x13 ∷ [], (table-val x14 ∷ [], (table-val x15 ∷ [], tt)))))))))))))))))))))), tt)
+  to-core v t = ((κt, qt, tt, (z, (request, (n, (loaded ys, (p, xt))))), (sizes-val z ∷ [], (request-val request ∷ [], (vint w64 n ∷ [], (v ∷ [], (t ∷ [], vt)))))), tt)
 
   abbrev Owned : Fml
-  Owned = owns (MutSlice (named 0) κ2 u32 ∷ MutSlice (named 1) κ3 u32 ∷ MutSlice (named 2) κ4 u16 ∷ MutSlice (named 3) κ5 u16 ∷ MutSlice (named 4) κ6 u16 ∷ MutSlice (named 5) κ7 u32 ∷ MutSlice (named 6) κ8 u16 ∷ MutSlice (named 7) κ9 u16 ∷ MutSlice (named 8) κ10 u16 ∷ MutSlice (named 9) κ11 u8 ∷ MutSlice (named 10) κ12 u8 ∷ MutSlice (named 11) κ13 u32 ∷ MutSlice (named 12) κ14 u8 ∷ MutSlice (named 13) κ15 u8 ∷ MutSlice (named 14) κ16 u16 ∷ MutSlice (named 15) κ17 u16 ∷ []) (x0, (x1, (x2, (x3, (x4, (x5, (x6, (x7, (x8, (x9, (x10, (x11, (x12, (x13, (x14, (x15, tt)))))))))))))))) (table-val x0 ∷ [], (table-val x1 ∷ [], (table-val x2 ∷ [], (table-val x3 ∷ [], (table-val x4 ∷ [], (table-val x5 ∷ [], (table-val x6 ∷ [], (table-val x7 ∷ [], (table-val x8 ∷ [], (table-val x9 ∷ [], (table-val x10 ∷ [], (table-val x11 ∷ [], (table-val x12 ∷ [], (table-val x13 ∷ [], (table-val x14 ∷ [], (table-val x15 ∷ [], tt))))))))))))))))
+  Owned = owns (MutSlice (named 0) κ2 u32 ∷ MutSlice (named 1) κ3 u32 ∷ MutSlice (named 2) κ4 u16 ∷ MutSlice (named 3) κ5 u16 ∷ MutSlice (named 4) κ6 u16 ∷ MutSlice (named 5) κ7 u32 ∷ MutSlice
+      (named 6) κ8 u16 ∷ MutSlice (named 7) κ9 u16 ∷ MutSlice (named 8) κ10 u16 ∷ MutSlice (named 9) κ11 u8 ∷ MutSlice (named 10) κ12 u8 ∷ MutSlice (named 11) κ13 u32 ∷ MutSlice (named 12) κ14 u8 ∷
+      MutSlice (named 13) κ15 u8 ∷ MutSlice (named 14) κ16 u16 ∷ MutSlice (named 15) κ17 u16 ∷ []) xt vt
 
-  goes-core : (v t : Val) → Is F64 (loaded ys) (v ∷ []) → Is P p (t ∷ []) → ent 𝓤 (⋆ 𝓤 H A ((‵ (flft κ2 q2) ⊛ (‵ (flft κ3 q3) ⊛ (‵ (flft κ4 q4) ⊛ (‵ (flft κ5 q5) ⊛ (‵ (flft κ6 q6) ⊛ (‵ (flft κ7 q7) ⊛ (‵ (flft κ8 q8) ⊛ (‵ (flft κ9 q9) ⊛ (‵ (flft κ10 q10) ⊛ (‵ (flft κ11 q11) ⊛ (‵ (flft κ12 q12) ⊛ (‵ (flft κ13 q13) ⊛ (‵ (flft κ14 q14) ⊛ (‵ (flft κ15 q15) ⊛ (‵ (flft κ16 q16) ⊛ (‵ (flft κ17 q17) ⊛ ‵ ftrue)))))))))))))))) ∷ ‵ Owned ∷ [])) (Core 𝓤 H A at-mem run .pre (to-core v t))
+  goes-core : (v t : Val) → Is F64 (loaded ys) (v ∷ []) → Is P p (t ∷ []) → ent 𝓤 (⋆ 𝓤 H A (tokens ∷ ‵ Owned ∷ [])) (Core 𝓤 H A at-mem run .pre (to-core v t))
   goes-core v t is was =
-      qed W ((‵ (flft κ2 q2) ⊛ (‵ (flft κ3 q3) ⊛ (‵ (flft κ4 q4) ⊛ (‵ (flft κ5 q5) ⊛ (‵ (flft κ6 q6) ⊛ (‵ (flft κ7 q7) ⊛ (‵ (flft κ8 q8) ⊛ (‵ (flft κ9 q9) ⊛ (‵ (flft κ10 q10) ⊛ (‵ (flft κ11 q11) ⊛ (‵ (flft κ12 q12) ⊛ (‵ (flft κ13 q13) ⊛ (‵ (flft κ14 q14) ⊛ (‵ (flft κ15 q15) ⊛ (‵ (flft κ16 q16) ⊛ (‵ (flft κ17 q17) ⊛ ‵ ftrue)))))))))))))))) ∷ ‵ Owned ∷ []) ∵ move ! (1 ∷ []) $ owned ! P (Is P) (LL.makes TP.the-type TP′.the-plain 𝓤 H A) p _ was $ fjoin ! $ owned ! F64 (Is F64) (makes64 𝓤 H A W) (loaded ys) _ is $ fjoin ! $
+      qed W (tokens ∷ ‵ Owned ∷ []) ∵ move ! (1 ∷ []) $ owned ! P (Is P) (LL.makes TP.the-type TP′.the-plain 𝓤 H A) p _ was $ fjoin ! $ owned ! F64 (Is F64) (makes64 𝓤 H A W) (loaded ys) _ is $ fjoin ! $
       owned ! usize (Is usize) (uint-makes 𝓤 H A W w64) n _ (refl, roomf .0) $ fjoin ! $ owned ! Q (Is Q) (makes-request 𝓤 H A) request _ is-req $ fjoin ! $ owned ! Z (Is Z) (makes-sizes 𝓤 H A) z _ is-z $ fjoin ! $
       move ! (1 ∷ 0 ∷ []) $ join ! $ frame ! $ done !
 
-  core-of : (r : Applied) → ent 𝓤 (ensured 𝓤 H A core.ended (core.clauses 𝓤 H A at-mem run) (κ2, (κ3, (κ4, (κ5, (κ6, (κ7, (κ8, (κ9, (κ10, (κ11, (κ12, (κ13, (κ14, (κ15, (κ16, (κ17, tt)))))))))))))))) (z, (request, (n, (loaded ys, (p, (x0, (x1, (x2, (x3, (x4, (x5, (x6, (x7, (x8, (x9, (x10, (x11, (x12, (x13, (x14, (x15, tt))))))))))))))))))))) tt r) (ex 𝓤 (λ (ms : Lasts). guard 𝓤 (Left r ms) (sem 𝓤 H A (Fin ms))))
+  core-of : (r : Applied) → ent 𝓤 (ensured 𝓤 H A core.ended (core.clauses 𝓤 H A at-mem run) κt (z, (request, (n, (loaded ys, (p, xt))))) tt r) (ex 𝓤 (λ (ms : Lasts). guard 𝓤 (Left r ms) (sem 𝓤 H A (Fin ms))))
   core-of r =
-      qed W (raw (ensured 𝓤 H A core.ended (core.clauses 𝓤 H A at-mem run) (κ2, (κ3, (κ4, (κ5, (κ6, (κ7, (κ8, (κ9, (κ10, (κ11, (κ12, (κ13, (κ14, (κ15, (κ16, (κ17, tt)))))))))))))))) (z, (request, (n, (loaded ys, (p, (x0, (x1, (x2, (x3, (x4, (x5, (x6, (x7, (x8, (x9, (x10, (x11, (x12, (x13, (x14, (x15, tt))))))))))))))))))))) tt r) ∷ []) ∵
-      use1 W (some (λ (ms : Lasts). ‵ (lasts core.ended (κ2, (κ3, (κ4, (κ5, (κ6, (κ7, (κ8, (κ9, (κ10, (κ11, (κ12, (κ13, (κ14, (κ15, (κ16, (κ17, tt)))))))))))))))) (z, (request, (n, (loaded ys, (p, (x0, (x1, (x2, (x3, (x4, (x5, (x6, (x7, (x8, (x9, (x10, (x11, (x12, (x13, (x14, (x15, tt))))))))))))))))))))) ms) ⊛ raw (fact 𝓤 (Says r ms)))) (id⊢ 𝓤 _) $ pick ! (λ ms.
+      qed W (raw (ensured 𝓤 H A core.ended (core.clauses 𝓤 H A at-mem run) κt (z, (request, (n, (loaded ys, (p, xt))))) tt r) ∷ []) ∵
+      use1 W (some (λ (ms : Lasts). ‵ (lasts core.ended κt (z, (request, (n, (loaded ys, (p, xt))))) ms) ⊛ raw (fact 𝓤 (Says r ms)))) (id⊢ 𝓤 _) $ pick ! (λ ms.
       split ! $ move ! (1 ∷ []) $ heard ! (Says r ms) (λ e₁. fsplit ! $ drop ! $ fsplit ! $ drop ! $ fsplit ! $ drop ! $ fsplit ! $ drop ! $ fsplit ! $ drop ! $
-      fsplit ! $ fsplit ! $ move ! (1 ∷ []) $ feqL ! (λ n0. move ! (1 ∷ []) $ fsplit ! $ fsplit ! $ move ! (1 ∷ []) $ feqL ! (λ n1. move ! (1 ∷ []) $ fsplit ! $ fsplit ! $ move ! (1 ∷ []) $ feqL ! (λ n2. move ! (1 ∷ []) $ fsplit ! $ fsplit ! $ move ! (1 ∷ []) $ feqL ! (λ n3. move ! (1 ∷ []) $ fsplit ! $ fsplit ! $ move ! (1 ∷ []) $ feqL ! (λ n4. move ! (1 ∷ []) $ fsplit ! $ fsplit ! $ move ! (1 ∷ []) $ feqL ! (λ n5. move ! (1 ∷ []) $ fsplit ! $ fsplit ! $ move ! (1 ∷ []) $ feqL ! (λ n6. move ! (1 ∷ []) $ fsplit ! $ fsplit ! $ move ! (1 ∷ []) $ feqL ! (λ n7. move ! (1 ∷ []) $ fsplit ! $ fsplit ! $ move ! (1 ∷ []) $ feqL ! (λ n8. move ! (1 ∷ []) $ fsplit ! $ fsplit ! $ move ! (1 ∷ []) $ feqL ! (λ n9. move ! (1 ∷ []) $ fsplit ! $ fsplit ! $ move ! (1 ∷ []) $ feqL ! (λ n10. move ! (1 ∷ []) $ fsplit ! $ fsplit ! $ move ! (1 ∷ []) $ feqL ! (λ n11. move ! (1 ∷ []) $ fsplit ! $ fsplit ! $ move ! (1 ∷ []) $ feqL ! (λ n12. move ! (1 ∷ []) $ fsplit ! $ fsplit ! $ move ! (1 ∷ []) $ feqL ! (λ n13. move ! (1 ∷ []) $ fsplit ! $ fsplit ! $ move ! (1 ∷ []) $ feqL ! (λ n14. move ! (1 ∷ []) $ fsplit ! $ fsplit ! $ move ! (1 ∷ []) $ feqL ! (λ n15. move ! (1 ∷ []) $
-      move ! (1 ∷ 0 ∷ []) $ fjoin ! $ move ! (1 ∷ 0 ∷ []) $ fjoin ! $ move ! (1 ∷ 0 ∷ []) $ fjoin ! $ move ! (1 ∷ 0 ∷ []) $ fjoin ! $ move ! (1 ∷ 0 ∷ []) $ fjoin ! $ move ! (1 ∷ 0 ∷ []) $ fjoin ! $ move ! (1 ∷ 0 ∷ []) $ fjoin ! $ move ! (1 ∷ 0 ∷ []) $ fjoin ! $ move ! (1 ∷ 0 ∷ []) $ fjoin ! $ move ! (1 ∷ 0 ∷ []) $ fjoin ! $ move ! (1 ∷ 0 ∷ []) $ fjoin ! $ move ! (1 ∷ 0 ∷ []) $ fjoin ! $ move ! (1 ∷ 0 ∷ []) $ fjoin ! $ move ! (1 ∷ 0 ∷ []) $ fjoin ! $ move ! (1 ∷ 0 ∷ []) $ fjoin ! $ move ! (1 ∷ 0 ∷ []) $ fjoin ! $
+      fsplit ! $ fsplit ! $ move ! (1 ∷ []) $ feqL ! (λ n0. move ! (1 ∷ []) $ fsplit ! $ fsplit ! $ move ! (1 ∷ []) $ feqL ! (λ n1. move ! (1 ∷ []) $ fsplit ! $ fsplit ! $ move ! (1 ∷ []) $
+      feqL ! (λ n2. move ! (1 ∷ []) $ fsplit ! $ fsplit ! $ move ! (1 ∷ []) $ feqL ! (λ n3. move ! (1 ∷ []) $ fsplit ! $ fsplit ! $ move ! (1 ∷ []) $ feqL ! (λ n4. move ! (1 ∷ []) $ fsplit ! $
+      fsplit ! $ move ! (1 ∷ []) $ feqL ! (λ n5. move ! (1 ∷ []) $ fsplit ! $ fsplit ! $ move ! (1 ∷ []) $ feqL ! (λ n6. move ! (1 ∷ []) $ fsplit ! $ fsplit ! $ move ! (1 ∷ []) $
+      feqL ! (λ n7. move ! (1 ∷ []) $ fsplit ! $ fsplit ! $ move ! (1 ∷ []) $ feqL ! (λ n8. move ! (1 ∷ []) $ fsplit ! $ fsplit ! $ move ! (1 ∷ []) $ feqL ! (λ n9. move ! (1 ∷ []) $ fsplit ! $
+      fsplit ! $ move ! (1 ∷ []) $ feqL ! (λ n10. move ! (1 ∷ []) $ fsplit ! $ fsplit ! $ move ! (1 ∷ []) $ feqL ! (λ n11. move ! (1 ∷ []) $ fsplit ! $ fsplit ! $ move ! (1 ∷ []) $
+      feqL ! (λ n12. move ! (1 ∷ []) $ fsplit ! $ fsplit ! $ move ! (1 ∷ []) $ feqL ! (λ n13. move ! (1 ∷ []) $ fsplit ! $ fsplit ! $ move ! (1 ∷ []) $ feqL ! (λ n14. move ! (1 ∷ []) $ fsplit ! $
+      fsplit ! $ move ! (1 ∷ []) $ feqL ! (λ n15. move ! (1 ∷ []) $
+      move ! (1 ∷ 0 ∷ []) $ fjoin ! $ move ! (1 ∷ 0 ∷ []) $ fjoin ! $ move ! (1 ∷ 0 ∷ []) $ fjoin ! $ move ! (1 ∷ 0 ∷ []) $ fjoin ! $ move ! (1 ∷ 0 ∷ []) $ fjoin ! $ move ! (1 ∷ 0 ∷ []) $ fjoin ! $
+      move ! (1 ∷ 0 ∷ []) $ fjoin ! $ move ! (1 ∷ 0 ∷ []) $ fjoin ! $ move ! (1 ∷ 0 ∷ []) $ fjoin ! $ move ! (1 ∷ 0 ∷ []) $ fjoin ! $ move ! (1 ∷ 0 ∷ []) $ fjoin ! $ move ! (1 ∷ 0 ∷ []) $ fjoin ! $
+      move ! (1 ∷ 0 ∷ []) $ fjoin ! $ move ! (1 ∷ 0 ∷ []) $ fjoin ! $ move ! (1 ∷ 0 ∷ []) $ fjoin ! $ move ! (1 ∷ 0 ∷ []) $ fjoin ! $
       show ! (λ (ms : Lasts). guard 𝓤 (Left r ms) (sem 𝓤 H A (Fin ms))) ms $ check ! (e₁, (n0, (n1, (n2, (n3, (n4, (n5, (n6, (n7, (n8, (n9, (n10, (n11, (n12, (n13, (n14, (n15, tt))))))))))))))))) $ done !))))))))))))))))))
 
-  module _ (C : Calls 𝓤 H) (Λ : Loops 𝓤 H) (fm : FmC 𝓤 H (W .laws) C) (known-load : Triple 𝓤 (C #load) (Load 𝓤 H A at-mem run)) (known-core : Triple 𝓤 (C #core) (Core 𝓤 H A at-mem run)) (known-save : Triple 𝓤 (C #save) (Save 𝓤 H A at-mem run)) (known-take : Triple 𝓤 (C #take) (Take 𝓤 H A at-mem run)) (known-deposit : Triple 𝓤 (C #deposit) (Deposit 𝓤 H A at-mem run)) where
-    walk : ent 𝓤 (onEntry 𝓤 H A fn.signature (κ0, (κ1, (κ2, (κ3, (κ4, (κ5, (κ6, (κ7, (κ8, (κ9, (κ10, (κ11, (κ12, (κ13, (κ14, (κ15, (κ16, (κ17, tt)))))))))))))))))) (q0, (q1, (q2, (q3, (q4, (q5, (q6, (q7, (q8, (q9, (q10, (q11, (q12, (q13, (q14, (q15, (q16, (q17, tt)))))))))))))))))) (z, (request, (xf γf, (xp, (x0, (x1, (x2, (x3, (x4, (x5, (x6, (x7, (x8, (x9, (x10, (x11, (x12, (x13, (x14, (x15, tt)))))))))))))))))))) (sizes-val z ∷ [], (request-val request ∷ [], (sf ∷ [], (vptr bp op ∷ [], (table-val x0 ∷ [], (table-val x1 ∷ [], (table-val x2 ∷ [], (table-val x3 ∷ [], (table-val x4 ∷ [], (table-val x5 ∷ [], (table-val x6 ∷ [], (table-val x7 ∷ [], (table-val x8 ∷ [], (table-val x9 ∷ [], (table-val x10 ∷ [], (table-val x11 ∷ [], (table-val x12 ∷ [], (table-val x13 ∷ [], (table-val x14 ∷ [], (table-val x15 ∷ [], tt))))))))))))))))))))) (WpFn 𝓤 H C Λ code.function (sizes-val z ∷ request-val request ∷ sf ∷ vptr bp op ∷ table-val x0 ∷ table-val x1 ∷ table-val x2 ∷ table-val x3 ∷ table-val x4 ∷ table-val x5 ∷ table-val x6 ∷ table-val x7 ∷ table-val x8 ∷ table-val x9 ∷ table-val x10 ∷ table-val x11 ∷ table-val x12 ∷ table-val x13 ∷ table-val x14 ∷ table-val x15 ∷ []) Post)
+  module _ (C : Calls 𝓤 H) (Λ : Loops 𝓤 H) (fm : FmC 𝓤 H (W .laws) C) (known-load : Triple 𝓤 (C #load) (Load 𝓤 H A at-mem run)) (known-core : Triple 𝓤 (C #core) (Core 𝓤 H A at-mem run))
+      (known-save : Triple 𝓤 (C #save) (Save 𝓤 H A at-mem run)) (known-take : Triple 𝓤 (C #take) (Take 𝓤 H A at-mem run)) (known-deposit : Triple 𝓤 (C #deposit) (Deposit 𝓤 H A at-mem run)) where
+    walk : ent 𝓤 (onEntry 𝓤 H A fn.signature (κ0, (κ1, κt)) (q0, (q1, qt)) (z, (request, (xf γf, (xp, xt)))) (sizes-val z ∷ [], (request-val request ∷ [], (sf ∷ [], (vptr bp op ∷ [], vt)))))
+        (WpFn 𝓤 H C Λ code.function (sizes-val z ∷ request-val request ∷ sf ∷ vptr bp op ∷ table-val x0 ∷ table-val x1 ∷ table-val x2 ∷ table-val x3 ∷ table-val x4 ∷ table-val x5 ∷ table-val x6 ∷
+        table-val x7 ∷ table-val x8 ∷ table-val x9 ∷ table-val x10 ∷ table-val x11 ∷ table-val x12 ∷ table-val x13 ∷ table-val x14 ∷ table-val x15 ∷ []) Post)
     walk =
-        qed W ((‵ (flft κ0 q0) ⊛ (‵ (flft κ1 q1) ⊛ (‵ (flft κ2 q2) ⊛ (‵ (flft κ3 q3) ⊛ (‵ (flft κ4 q4) ⊛ (‵ (flft κ5 q5) ⊛ (‵ (flft κ6 q6) ⊛ (‵ (flft κ7 q7) ⊛ (‵ (flft κ8 q8) ⊛ (‵ (flft κ9 q9) ⊛ (‵ (flft κ10 q10) ⊛ (‵ (flft κ11 q11) ⊛ (‵ (flft κ12 q12) ⊛ (‵ (flft κ13 q13) ⊛ (‵ (flft κ14 q14) ⊛ (‵ (flft κ15 q15) ⊛ (‵ (flft κ16 q16) ⊛ (‵ (flft κ17 q17) ⊛ ‵ ftrue)))))))))))))))))) ∷ ‵ (owns (Z ∷ Q ∷ MutSlice (named 0) κ0 F ∷ MutRef (named 1) κ1 P ∷ MutSlice (named 2) κ2 u32 ∷ MutSlice (named 3) κ3 u32 ∷ MutSlice (named 4) κ4 u16 ∷ MutSlice (named 5) κ5 u16 ∷ MutSlice (named 6) κ6 u16 ∷ MutSlice (named 7) κ7 u32 ∷ MutSlice (named 8) κ8 u16 ∷ MutSlice (named 9) κ9 u16 ∷ MutSlice (named 10) κ10 u16 ∷ MutSlice (named 11) κ11 u8 ∷ MutSlice (named 12) κ12 u8 ∷ MutSlice (named 13) κ13 u32 ∷ MutSlice (named 14) κ14 u8 ∷ MutSlice (named 15) κ15 u8 ∷ MutSlice (named 16) κ16 u16 ∷ MutSlice (named 17) κ17 u16 ∷ []) (z, (request, (xf γf, (xp, (x0, (x1, (x2, (x3, (x4, (x5, (x6, (x7, (x8, (x9, (x10, (x11, (x12, (x13, (x14, (x15, tt)))))))))))))))))))) (sizes-val z ∷ [], (request-val request ∷ [], (sf ∷ [], (vptr bp op ∷ [], (table-val x0 ∷ [], (table-val x1 ∷ [], (table-val x2 ∷ [], (table-val x3 ∷ [], (table-val x4 ∷ [], (table-val x5 ∷ [], (table-val x6 ∷ [], (table-val x7 ∷ [], (table-val x8 ∷ [], (table-val x9 ∷ [], (table-val x10 ∷ [], (table-val x11 ∷ [], (table-val x12 ∷ [], (table-val x13 ∷ [], (table-val x14 ∷ [], (table-val x15 ∷ [], tt))))))))))))))))))))) ∷ []) ∵
+        qed W ((‵ (flft κ0 q0) ⊛ (‵ (flft κ1 q1) ⊛ tokens)) ∷ ‵ (owns (Z ∷ Q ∷ MutSlice (named 0) κ0 F ∷ MutRef (named 1) κ1 P ∷ MutSlice (named 2) κ2 u32 ∷ MutSlice (named 3) κ3 u32 ∷ MutSlice
+        (named 4) κ4 u16 ∷ MutSlice (named 5) κ5 u16 ∷ MutSlice (named 6) κ6 u16 ∷ MutSlice (named 7) κ7 u32 ∷ MutSlice (named 8) κ8 u16 ∷ MutSlice (named 9) κ9 u16 ∷ MutSlice (named 10) κ10 u16 ∷
+        MutSlice (named 11) κ11 u8 ∷ MutSlice (named 12) κ12 u8 ∷ MutSlice (named 13) κ13 u32 ∷ MutSlice (named 14) κ14 u8 ∷ MutSlice (named 15) κ15 u8 ∷ MutSlice (named 16) κ16 u16 ∷ MutSlice
+        (named 17) κ17 u16 ∷ []) (z, (request, (xf γf, (xp, xt)))) (sizes-val z ∷ [], (request-val request ∷ [], (sf ∷ [], (vptr bp op ∷ [], vt))))) ∷ []) ∵
         split ! $ move ! (1 ∷ []) $ split ! $ move ! (3 ∷ []) $ fsplit ! $ drop ! $ fsplit ! $ drop ! $ fsplit ! $ move ! (1 ∷ []) $ fsplit ! $ keep ! (2 ∷ 5 ∷ 0 ∷ 3 ∷ 1 ∷ 4 ∷ []) $
         -- [what frames owns; its token; what pool owns; its token; what the slices own; their tokens]
         enter ! C Λ code.function (sizes-val z ∷ request-val request ∷ sf ∷ vptr bp op ∷ table-val x0 ∷ table-val x1 ∷ table-val x2 ∷ table-val x3 ∷ table-val x4 ∷ table-val x5 ∷ table-val x6 ∷ table-val x7 ∷ table-val x8 ∷ table-val x9 ∷ table-val x10 ∷ table-val x11 ∷ table-val x12 ∷ table-val x13 ∷ table-val x14 ∷ table-val x15 ∷ []) _ $
-        alloc1 ! (λ l0. alloc1 ! (λ l1. alloc1 ! (λ l2. alloc1 ! (λ l3. alloc1 ! (λ l4. alloc1 ! (λ l5. alloc1 ! (λ l6. alloc1 ! (λ l7. alloc1 ! (λ l8. alloc1 ! (λ l9. alloc1 ! (λ l10. alloc1 ! (λ l11. alloc1 ! (λ l12. alloc1 ! (λ l13. alloc1 ! (λ l14. alloc1 ! (λ l15. alloc1 ! (λ l16. alloc1 ! (λ l17. alloc1 ! (λ l18. alloc1 ! (λ l19. alloc1 ! (λ l20. alloc1 ! (λ l21. alloc1 ! (λ l22. alloc1 ! (λ l23. alloc1 ! (λ l24. alloc1 ! (λ l25. alloc1 ! (λ l26. alloc1 ! (λ l27. alloc1 ! (λ l28. alloc1 ! (λ l29. alloc1 ! (λ l30. alloc1 ! (λ l31. alloc1 ! (λ l32. alloc1 ! (λ l33. alloc1 ! (λ l34. alloc1 ! (λ l35. alloc1 ! (λ l36. alloc1 ! (λ l37. alloc1 ! (λ l38. alloc1 ! (λ l39. alloc1 ! (λ l40. alloc1 ! (λ l41. alloc1 ! (λ l42. alloc1 ! (λ l43. alloc1 ! (λ l44. alloc1 ! (λ l45. alloc1 ! (λ l46. alloc1 ! (λ l47. alloc1 ! (λ l48. alloc1 ! (λ l49. alloc1 ! (λ l50. alloc1 ! (λ l51. alloc1 ! (λ l52. alloc1 ! (λ l53. alloc1 ! (λ l54. alloc1 ! (λ l55. alloc1 ! (λ l56. alloc1 ! (λ l57. alloc1 ! (λ l58. alloc1 ! (λ l59. alloc1 ! (λ l60. alloc1 ! (λ l61. alloc1 ! (λ l62. alloc1 ! (λ l63. alloc0 ! $ params1 ! $
-        pass1 ! (init ! 124 refl (typed-sizes 𝓤 H A W z is-z)) $ pass1 ! (init ! 122 refl (typed-request 𝓤 H A W request is-req)) $ pass1 ! (init ! 120 refl (tt, (tt, (record { fits = roomf .0 }, tt)))) $ pass1 ! (init ! 118 refl (tt, tt)) $ pass1 ! (init ! 116 refl (tt, (tt, (record { fits = room0 .0 }, tt)))) $ pass1 ! (init ! 114 refl (tt, (tt, (record { fits = room1 .0 }, tt)))) $ pass1 ! (init ! 112 refl (tt, (tt, (record { fits = room2 .0 }, tt)))) $ pass1 ! (init ! 110 refl (tt, (tt, (record { fits = room3 .0 }, tt)))) $ pass1 ! (init ! 108 refl (tt, (tt, (record { fits = room4 .0 }, tt)))) $ pass1 ! (init ! 106 refl (tt, (tt, (record { fits = room5 .0 }, tt)))) $ pass1 ! (init ! 104 refl (tt, (tt, (record { fits = room6 .0 }, tt)))) $ pass1 ! (init ! 102 refl (tt, (tt, (record { fits = room7 .0 }, tt)))) $ pass1 ! (init ! 100 refl (tt, (tt, (record { fits = room8 .0 }, tt)))) $ pass1 ! (init ! 98 refl (tt, (tt, (record { fits = room9 .0 }, tt)))) $ pass1 ! (init ! 96 refl (tt, (tt, (record { fits = room10 .0 }, tt)))) $ pass1 ! (init ! 94 refl (tt, (tt, (record { fits = room11 .0 }, tt)))) $ pass1 ! (init ! 92 refl (tt, (tt, (record { fits = room12 .0 }, tt)))) $ pass1 ! (init ! 90 refl (tt, (tt, (record { fits = room13 .0 }, tt)))) $ pass1 ! (init ! 88 refl (tt, (tt, (record { fits = room14 .0 }, tt)))) $ pass1 ! (init ! 86 refl (tt, (tt, (record { fits = room15 .0 }, tt)))) $ pass0 ! $
+        alloc1 ! (λ l0. alloc1 ! (λ l1. alloc1 ! (λ l2. alloc1 ! (λ l3. alloc1 ! (λ l4. alloc1 ! (λ l5. alloc1 ! (λ l6. alloc1 ! (λ l7. alloc1 ! (λ l8. alloc1 ! (λ l9. alloc1 ! (λ l10.
+        alloc1 ! (λ l11. alloc1 ! (λ l12. alloc1 ! (λ l13. alloc1 ! (λ l14. alloc1 ! (λ l15. alloc1 ! (λ l16. alloc1 ! (λ l17. alloc1 ! (λ l18. alloc1 ! (λ l19. alloc1 ! (λ l20. alloc1 ! (λ l21.
+        alloc1 ! (λ l22. alloc1 ! (λ l23. alloc1 ! (λ l24. alloc1 ! (λ l25. alloc1 ! (λ l26. alloc1 ! (λ l27. alloc1 ! (λ l28. alloc1 ! (λ l29. alloc1 ! (λ l30. alloc1 ! (λ l31. alloc1 ! (λ l32.
+        alloc1 ! (λ l33. alloc1 ! (λ l34. alloc1 ! (λ l35. alloc1 ! (λ l36. alloc1 ! (λ l37. alloc1 ! (λ l38. alloc1 ! (λ l39. alloc1 ! (λ l40. alloc1 ! (λ l41. alloc1 ! (λ l42. alloc1 ! (λ l43.
+        alloc1 ! (λ l44. alloc1 ! (λ l45. alloc1 ! (λ l46. alloc1 ! (λ l47. alloc1 ! (λ l48. alloc1 ! (λ l49. alloc1 ! (λ l50. alloc1 ! (λ l51. alloc1 ! (λ l52. alloc1 ! (λ l53. alloc1 ! (λ l54.
+        alloc1 ! (λ l55. alloc1 ! (λ l56. alloc1 ! (λ l57. alloc1 ! (λ l58. alloc1 ! (λ l59. alloc1 ! (λ l60. alloc1 ! (λ l61. alloc1 ! (λ l62. alloc1 ! (λ l63. alloc0 ! $ params1 ! $
+        pass1 ! (init ! 124 refl (typed-sizes 𝓤 H A W z is-z)) $ pass1 ! (init ! 122 refl (typed-request 𝓤 H A W request is-req)) $ pass1 ! (init ! 120 refl
+        (tt, (tt, (record { fits = roomf .0 }, tt)))) $ pass1 ! (init ! 118 refl (tt, tt)) $ pass1 ! (init ! 116 refl (tt, (tt, (record { fits = room0 .0 }, tt)))) $ pass1 ! (init ! 114 refl
+        (tt, (tt, (record { fits = room1 .0 }, tt)))) $ pass1 ! (init ! 112 refl (tt, (tt, (record { fits = room2 .0 }, tt)))) $ pass1 ! (init ! 110 refl
+        (tt, (tt, (record { fits = room3 .0 }, tt)))) $ pass1 ! (init ! 108 refl (tt, (tt, (record { fits = room4 .0 }, tt)))) $ pass1 ! (init ! 106 refl
+        (tt, (tt, (record { fits = room5 .0 }, tt)))) $ pass1 ! (init ! 104 refl (tt, (tt, (record { fits = room6 .0 }, tt)))) $ pass1 ! (init ! 102 refl
+        (tt, (tt, (record { fits = room7 .0 }, tt)))) $ pass1 ! (init ! 100 refl (tt, (tt, (record { fits = room8 .0 }, tt)))) $ pass1 ! (init ! 98 refl (tt, (tt, (record { fits = room9 .0 }, tt)))) $
+        pass1 ! (init ! 96 refl (tt, (tt, (record { fits = room10 .0 }, tt)))) $ pass1 ! (init ! 94 refl (tt, (tt, (record { fits = room11 .0 }, tt)))) $ pass1 ! (init ! 92 refl
+        (tt, (tt, (record { fits = room12 .0 }, tt)))) $ pass1 ! (init ! 90 refl (tt, (tt, (record { fits = room13 .0 }, tt)))) $ pass1 ! (init ! 88 refl
+        (tt, (tt, (record { fits = room14 .0 }, tt)))) $ pass1 ! (init ! 86 refl (tt, (tt, (record { fits = room15 .0 }, tt)))) $ pass0 ! $
         -- [_63 at 0; …; _i at 2 · (63 − i); …; what frames owns; …]
         assigns ! (of-opd ! (load ! (from ! (fld ! refl (stop !))) (look-in ! 120 (sub ! 1 refl (whole !))))) (from ! (stop !)) (init ! 84 refl (tt, record { fits = roomf .0 })) $
         reborrows ! 120 76 74 refl (sub ! 0 refl (whole !)) refl (tt, tt) refl refl (sub ! 1 refl (whole !)) refl (tt, (tt, (record { fits = roomf .0 }, tt))) $
@@ -217,8 +296,15 @@ module _ {M : Type 1} (𝓤 : URA M) (H : Heap 𝓤) (A : Atoms 𝓤) (W : Given
         reborrows ! 92 16 14 refl (sub ! 0 refl (whole !)) refl (tt, tt) refl refl (sub ! 1 refl (whole !)) refl (tt, (tt, (record { fits = room15 .0 }, tt))) $
         -- the work
         move ! (135 ∷ 134 ∷ []) $ use2 W (raw (Core 𝓤 H A at-mem run .pre (to-core v t))) (goes-core v t is-a was) $
-        calls-at ! fm (Core 𝓤 H A at-mem run) known-core (to-core v t) (and-then ! (load ! (from ! (stop !)) (look ! 131 refl)) (and-then ! (load ! (from ! (stop !)) (look ! 129 refl)) (and-then ! (load ! (from ! (stop !)) (look ! 91 refl)) (and-then ! (load ! (from ! (stop !)) (look ! 89 refl)) (and-then ! (load ! (from ! (stop !)) (look ! 87 refl)) (and-then ! (load ! (from ! (stop !)) (look ! 75 refl)) (and-then ! (load ! (from ! (stop !)) (look ! 71 refl)) (and-then ! (load ! (from ! (stop !)) (look ! 67 refl)) (and-then ! (load ! (from ! (stop !)) (look ! 63 refl)) (and-then ! (load ! (from ! (stop !)) (look ! 59 refl)) (and-then ! (load ! (from ! (stop !)) (look ! 55 refl)) (and-then ! (load ! (from ! (stop !)) (look ! 51 refl)) (and-then ! (load ! (from ! (stop !)) (look ! 47 refl)) (and-then ! (load ! (from ! (stop !)) (look ! 43 refl)) (and-then ! (load ! (from ! (stop !)) (look ! 39 refl)) (and-then ! (load ! (from ! (stop !)) (look ! 35 refl)) (and-then ! (load ! (from ! (stop !)) (look ! 31 refl)) (and-then ! (load ! (from ! (stop !)) (look ! 27 refl)) (and-then ! (load ! (from ! (stop !)) (look ! 23 refl)) (and-then ! (load ! (from ! (stop !)) (look ! 19 refl)) (and-then ! (load ! (from ! (stop !)) (look ! 15 refl)) (no-more !)))))))))))))))))))))) (λ w.
-        use1 W (later (some (λ (out : Applied). ((‵ (flft κ2 q2) ⊛ (‵ (flft κ3 q3) ⊛ (‵ (flft κ4 q4) ⊛ (‵ (flft κ5 q5) ⊛ (‵ (flft κ6 q6) ⊛ (‵ (flft κ7 q7) ⊛ (‵ (flft κ8 q8) ⊛ (‵ (flft κ9 q9) ⊛ (‵ (flft κ10 q10) ⊛ (‵ (flft κ11 q11) ⊛ (‵ (flft κ12 q12) ⊛ (‵ (flft κ13 q13) ⊛ (‵ (flft κ14 q14) ⊛ (‵ (flft κ15 q15) ⊛ (‵ (flft κ16 q16) ⊛ (‵ (flft κ17 q17) ⊛ ‵ ftrue)))))))))))))))) ⊛ ‵ (O .own out (w ∷ []))) ⊛ raw (ensured 𝓤 H A core.ended (core.clauses 𝓤 H A at-mem run) (κ2, (κ3, (κ4, (κ5, (κ6, (κ7, (κ8, (κ9, (κ10, (κ11, (κ12, (κ13, (κ14, (κ15, (κ16, (κ17, tt)))))))))))))))) (z, (request, (n, (loaded ys, (p, (x0, (x1, (x2, (x3, (x4, (x5, (x6, (x7, (x8, (x9, (x10, (x11, (x12, (x13, (x14, (x15, tt))))))))))))))))))))) tt out)))) (id⊢ 𝓤 _) $ await ! tt $ pick ! (λ out.
+        calls-at ! fm (Core 𝓤 H A at-mem run) known-core (to-core v t) (and-then ! (load ! (from ! (stop !)) (look ! 131 refl)) (and-then ! (load ! (from ! (stop !)) (look ! 129 refl))
+        (and-then ! (load ! (from ! (stop !)) (look ! 91 refl)) (and-then ! (load ! (from ! (stop !)) (look ! 89 refl)) (and-then ! (load ! (from ! (stop !)) (look ! 87 refl))
+        (and-then ! (load ! (from ! (stop !)) (look ! 75 refl)) (and-then ! (load ! (from ! (stop !)) (look ! 71 refl)) (and-then ! (load ! (from ! (stop !)) (look ! 67 refl))
+        (and-then ! (load ! (from ! (stop !)) (look ! 63 refl)) (and-then ! (load ! (from ! (stop !)) (look ! 59 refl)) (and-then ! (load ! (from ! (stop !)) (look ! 55 refl))
+        (and-then ! (load ! (from ! (stop !)) (look ! 51 refl)) (and-then ! (load ! (from ! (stop !)) (look ! 47 refl)) (and-then ! (load ! (from ! (stop !)) (look ! 43 refl))
+        (and-then ! (load ! (from ! (stop !)) (look ! 39 refl)) (and-then ! (load ! (from ! (stop !)) (look ! 35 refl)) (and-then ! (load ! (from ! (stop !)) (look ! 31 refl))
+        (and-then ! (load ! (from ! (stop !)) (look ! 27 refl)) (and-then ! (load ! (from ! (stop !)) (look ! 23 refl)) (and-then ! (load ! (from ! (stop !)) (look ! 19 refl))
+        (and-then ! (load ! (from ! (stop !)) (look ! 15 refl)) (no-more !)))))))))))))))))))))) (λ w.
+        use1 W (later (some (λ (out : Applied). (tokens ⊛ ‵ (O .own out (w ∷ []))) ⊛ raw (ensured 𝓤 H A core.ended (core.clauses 𝓤 H A at-mem run) κt (z, (request, (n, (loaded ys, (p, xt))))) tt out)))) (id⊢ 𝓤 _) $ await ! tt $ pick ! (λ out.
         split ! $ move ! (1 ∷ []) $ use1 W (some (λ (ms : Lasts). given (Left out ms) (‵ (Fin ms)))) (core-of out) $ pick ! (λ ms. learn ! (λ e₁.
         move ! (1 ∷ []) $ split ! $ move ! (1 ∷ []) $ peeks ! O (Is O) (shows 𝓤 H A O) out (w ∷ []) (λ is-o. drop ! $
         -- [the slices' tokens; their last lists; pool; its token; …]
@@ -240,8 +326,25 @@ module _ {M : Type 1} (𝓤 : URA M) (H : Heap 𝓤) (A : Atoms 𝓤) (W : Given
         land ! (from ! (stop !)) (store ! 14 refl (nothing-lawful 𝓤 H A W .typed r₃ (u₁ ∷ []) is-u₁ .0)) $
         assigns ! (of-opd ! (load ! (from ! (fld ! {d = 520} refl (stop !))) (look-in ! 86 (sub ! 2 {d = 520} refl (whole !))))) (from ! (stop !)) (init ! 134 refl (typed-answer 𝓤 H A W out (fields out w is-o .1 .1))) $
         returns ! (look ! 134 refl) $
-        forget ! 134 refl $ forget ! 132 refl $ forget ! 130 refl $ forget ! 128 refl $ forget ! 126 refl $ forget ! 124 refl $ forget ! 122 refl $ forget ! 120 refl $ forget ! 118 refl $ forget ! 116 refl $ forget ! 114 refl $ forget ! 112 refl $ forget ! 110 refl $ forget ! 108 refl $ forget ! 106 refl $ forget ! 104 refl $ forget ! 102 refl $ forget ! 100 refl $ forget ! 98 refl $ forget ! 96 refl $ forget ! 94 refl $ forget ! 92 refl $ forget ! 90 refl $ forget ! 88 refl $ forget ! 86 refl $ forget ! 84 refl $ forget ! 82 refl $ forget ! 80 refl $ forget ! 78 refl $ forget ! 76 refl $ forget ! 74 refl $ forget ! 72 refl $ forget ! 70 refl $ forget ! 68 refl $ forget ! 66 refl $ forget ! 64 refl $ forget ! 62 refl $ forget ! 60 refl $ forget ! 58 refl $ forget ! 56 refl $ forget ! 54 refl $ forget ! 52 refl $ forget ! 50 refl $ forget ! 48 refl $ forget ! 46 refl $ forget ! 44 refl $ forget ! 42 refl $ forget ! 40 refl $ forget ! 38 refl $ forget ! 36 refl $ forget ! 34 refl $ forget ! 32 refl $ forget ! 30 refl $ forget ! 28 refl $ forget ! 26 refl $ forget ! 24 refl $ forget ! 22 refl $ forget ! 20 refl $ forget ! 18 refl $ forget ! 16 refl $ forget ! 14 refl $ forget ! 12 refl $ forget ! 10 refl $ forget ! 8 refl $
-        move ! (134 ∷ 135 ∷ []) $ free1 ! $ move ! (132 ∷ 133 ∷ []) $ free1 ! $ move ! (130 ∷ 131 ∷ []) $ free1 ! $ move ! (128 ∷ 129 ∷ []) $ free1 ! $ move ! (126 ∷ 127 ∷ []) $ free1 ! $ move ! (124 ∷ 125 ∷ []) $ free1 ! $ move ! (122 ∷ 123 ∷ []) $ free1 ! $ move ! (120 ∷ 121 ∷ []) $ free1 ! $ move ! (118 ∷ 119 ∷ []) $ free1 ! $ move ! (116 ∷ 117 ∷ []) $ free1 ! $ move ! (114 ∷ 115 ∷ []) $ free1 ! $ move ! (112 ∷ 113 ∷ []) $ free1 ! $ move ! (110 ∷ 111 ∷ []) $ free1 ! $ move ! (108 ∷ 109 ∷ []) $ free1 ! $ move ! (106 ∷ 107 ∷ []) $ free1 ! $ move ! (104 ∷ 105 ∷ []) $ free1 ! $ move ! (102 ∷ 103 ∷ []) $ free1 ! $ move ! (100 ∷ 101 ∷ []) $ free1 ! $ move ! (98 ∷ 99 ∷ []) $ free1 ! $ move ! (96 ∷ 97 ∷ []) $ free1 ! $ move ! (94 ∷ 95 ∷ []) $ free1 ! $ move ! (92 ∷ 93 ∷ []) $ free1 ! $ move ! (90 ∷ 91 ∷ []) $ free1 ! $ move ! (88 ∷ 89 ∷ []) $ free1 ! $ move ! (86 ∷ 87 ∷ []) $ free1 ! $ move ! (84 ∷ 85 ∷ []) $ free1 ! $ move ! (82 ∷ 83 ∷ []) $ free1 ! $ move ! (80 ∷ 81 ∷ []) $ free1 ! $ move ! (78 ∷ 79 ∷ []) $ free1 ! $ move ! (76 ∷ 77 ∷ []) $ free1 ! $ move ! (74 ∷ 75 ∷ []) $ free1 ! $ move ! (72 ∷ 73 ∷ []) $ free1 ! $ move ! (70 ∷ 71 ∷ []) $ free1 ! $ move ! (68 ∷ 69 ∷ []) $ free1 ! $ move ! (66 ∷ 67 ∷ []) $ free1 ! $ move ! (64 ∷ 65 ∷ []) $ free1 ! $ move ! (62 ∷ 63 ∷ []) $ free1 ! $ move ! (60 ∷ 61 ∷ []) $ free1 ! $ move ! (58 ∷ 59 ∷ []) $ free1 ! $ move ! (56 ∷ 57 ∷ []) $ free1 ! $ move ! (54 ∷ 55 ∷ []) $ free1 ! $ move ! (52 ∷ 53 ∷ []) $ free1 ! $ move ! (50 ∷ 51 ∷ []) $ free1 ! $ move ! (48 ∷ 49 ∷ []) $ free1 ! $ move ! (46 ∷ 47 ∷ []) $ free1 ! $ move ! (44 ∷ 45 ∷ []) $ free1 ! $ move ! (42 ∷ 43 ∷ []) $ free1 ! $ move ! (40 ∷ 41 ∷ []) $ free1 ! $ move ! (38 ∷ 39 ∷ []) $ free1 ! $ move ! (36 ∷ 37 ∷ []) $ free1 ! $ move ! (34 ∷ 35 ∷ []) $ free1 ! $ move ! (32 ∷ 33 ∷ []) $ free1 ! $ move ! (30 ∷ 31 ∷ []) $ free1 ! $ move ! (28 ∷ 29 ∷ []) $ free1 ! $ move ! (26 ∷ 27 ∷ []) $ free1 ! $ move ! (24 ∷ 25 ∷ []) $ free1 ! $ move ! (22 ∷ 23 ∷ []) $ free1 ! $ move ! (20 ∷ 21 ∷ []) $ free1 ! $ move ! (18 ∷ 19 ∷ []) $ free1 ! $ move ! (16 ∷ 17 ∷ []) $ free1 ! $ move ! (14 ∷ 15 ∷ []) $ free1 ! $ move ! (12 ∷ 13 ∷ []) $ free1 ! $ move ! (10 ∷ 11 ∷ []) $ free1 ! $ move ! (8 ∷ 9 ∷ []) $ free1 ! $ free0 ! $
+        forget ! 134 refl $ forget ! 132 refl $ forget ! 130 refl $ forget ! 128 refl $ forget ! 126 refl $ forget ! 124 refl $ forget ! 122 refl $ forget ! 120 refl $ forget ! 118 refl $
+        forget ! 116 refl $ forget ! 114 refl $ forget ! 112 refl $ forget ! 110 refl $ forget ! 108 refl $ forget ! 106 refl $ forget ! 104 refl $ forget ! 102 refl $ forget ! 100 refl $
+        forget ! 98 refl $ forget ! 96 refl $ forget ! 94 refl $ forget ! 92 refl $ forget ! 90 refl $ forget ! 88 refl $ forget ! 86 refl $ forget ! 84 refl $ forget ! 82 refl $ forget ! 80 refl $
+        forget ! 78 refl $ forget ! 76 refl $ forget ! 74 refl $ forget ! 72 refl $ forget ! 70 refl $ forget ! 68 refl $ forget ! 66 refl $ forget ! 64 refl $ forget ! 62 refl $ forget ! 60 refl $
+        forget ! 58 refl $ forget ! 56 refl $ forget ! 54 refl $ forget ! 52 refl $ forget ! 50 refl $ forget ! 48 refl $ forget ! 46 refl $ forget ! 44 refl $ forget ! 42 refl $ forget ! 40 refl $
+        forget ! 38 refl $ forget ! 36 refl $ forget ! 34 refl $ forget ! 32 refl $ forget ! 30 refl $ forget ! 28 refl $ forget ! 26 refl $ forget ! 24 refl $ forget ! 22 refl $ forget ! 20 refl $
+        forget ! 18 refl $ forget ! 16 refl $ forget ! 14 refl $ forget ! 12 refl $ forget ! 10 refl $ forget ! 8 refl $
+        move ! (134 ∷ 135 ∷ []) $ free1 ! $ move ! (132 ∷ 133 ∷ []) $ free1 ! $ move ! (130 ∷ 131 ∷ []) $ free1 ! $ move ! (128 ∷ 129 ∷ []) $ free1 ! $ move ! (126 ∷ 127 ∷ []) $ free1 ! $
+        move ! (124 ∷ 125 ∷ []) $ free1 ! $ move ! (122 ∷ 123 ∷ []) $ free1 ! $ move ! (120 ∷ 121 ∷ []) $ free1 ! $ move ! (118 ∷ 119 ∷ []) $ free1 ! $ move ! (116 ∷ 117 ∷ []) $ free1 ! $
+        move ! (114 ∷ 115 ∷ []) $ free1 ! $ move ! (112 ∷ 113 ∷ []) $ free1 ! $ move ! (110 ∷ 111 ∷ []) $ free1 ! $ move ! (108 ∷ 109 ∷ []) $ free1 ! $ move ! (106 ∷ 107 ∷ []) $ free1 ! $
+        move ! (104 ∷ 105 ∷ []) $ free1 ! $ move ! (102 ∷ 103 ∷ []) $ free1 ! $ move ! (100 ∷ 101 ∷ []) $ free1 ! $ move ! (98 ∷ 99 ∷ []) $ free1 ! $ move ! (96 ∷ 97 ∷ []) $ free1 ! $ move ! (94 ∷
+        95 ∷ []) $ free1 ! $ move ! (92 ∷ 93 ∷ []) $ free1 ! $ move ! (90 ∷ 91 ∷ []) $ free1 ! $ move ! (88 ∷ 89 ∷ []) $ free1 ! $ move ! (86 ∷ 87 ∷ []) $ free1 ! $ move ! (84 ∷ 85 ∷ []) $ free1 ! $
+        move ! (82 ∷ 83 ∷ []) $ free1 ! $ move ! (80 ∷ 81 ∷ []) $ free1 ! $ move ! (78 ∷ 79 ∷ []) $ free1 ! $ move ! (76 ∷ 77 ∷ []) $ free1 ! $ move ! (74 ∷ 75 ∷ []) $ free1 ! $ move ! (72 ∷ 73 ∷
+        []) $ free1 ! $ move ! (70 ∷ 71 ∷ []) $ free1 ! $ move ! (68 ∷ 69 ∷ []) $ free1 ! $ move ! (66 ∷ 67 ∷ []) $ free1 ! $ move ! (64 ∷ 65 ∷ []) $ free1 ! $ move ! (62 ∷ 63 ∷ []) $ free1 ! $
+        move ! (60 ∷ 61 ∷ []) $ free1 ! $ move ! (58 ∷ 59 ∷ []) $ free1 ! $ move ! (56 ∷ 57 ∷ []) $ free1 ! $ move ! (54 ∷ 55 ∷ []) $ free1 ! $ move ! (52 ∷ 53 ∷ []) $ free1 ! $ move ! (50 ∷ 51 ∷
+        []) $ free1 ! $ move ! (48 ∷ 49 ∷ []) $ free1 ! $ move ! (46 ∷ 47 ∷ []) $ free1 ! $ move ! (44 ∷ 45 ∷ []) $ free1 ! $ move ! (42 ∷ 43 ∷ []) $ free1 ! $ move ! (40 ∷ 41 ∷ []) $ free1 ! $
+        move ! (38 ∷ 39 ∷ []) $ free1 ! $ move ! (36 ∷ 37 ∷ []) $ free1 ! $ move ! (34 ∷ 35 ∷ []) $ free1 ! $ move ! (32 ∷ 33 ∷ []) $ free1 ! $ move ! (30 ∷ 31 ∷ []) $ free1 ! $ move ! (28 ∷ 29 ∷
+        []) $ free1 ! $ move ! (26 ∷ 27 ∷ []) $ free1 ! $ move ! (24 ∷ 25 ∷ []) $ free1 ! $ move ! (22 ∷ 23 ∷ []) $ free1 ! $ move ! (20 ∷ 21 ∷ []) $ free1 ! $ move ! (18 ∷ 19 ∷ []) $ free1 ! $
+        move ! (16 ∷ 17 ∷ []) $ free1 ! $ move ! (14 ∷ 15 ∷ []) $ free1 ! $ move ! (12 ∷ 13 ∷ []) $ free1 ! $ move ! (10 ∷ 11 ∷ []) $ free1 ! $ move ! (8 ∷ 9 ∷ []) $ free1 ! $ free0 ! $
         move ! (2 ∷ []) $ split ! $ move ! (2 ∷ []) $ split ! $ keep ! (2 ∷ 0 ∷ 6 ∷ 5 ∷ 4 ∷ 7 ∷ []) $ by ! (exits out zs ms e₂ e₁ (fields out w is-o)))))))))))))))))))))))))))))))))))))))))))))))))))))))))))))))))))))))))))))))))))))))))))
 
 module _ {M : Type 1} (𝓤 : URA M) (H : Heap 𝓤) (A : Atoms 𝓤) (W : Given 𝓤 H A) (at-mem : Memory → SProp 𝓤) (run : Routine → Fun 𝓤) where
@@ -249,18 +352,34 @@ module _ {M : Type 1} (𝓤 : URA M) (H : Heap 𝓤) (A : Atoms 𝓤) (W : Given
       → Walks 𝓤 H A fn.ended stayed (WpFn 𝓤 H C Λ code.function) (fn.clauses 𝓤 H A at-mem run)
   walks C Λ fm known-load known-core known-save known-take known-deposit = walked 𝓤 H A fn.ended stayed (fn.clauses 𝓤 H A at-mem run) (WpFn 𝓤 H C Λ code.function)
       (λ κs. (sizes-vals, (request-vals, (slice-vals, (ptr-vals, (slice-vals, (slice-vals, (slice-vals, (slice-vals, (slice-vals, (slice-vals, (slice-vals, (slice-vals, (slice-vals, (slice-vals, (slice-vals, (slice-vals, (slice-vals, (slice-vals, (slice-vals, (slice-vals, tt)))))))))))))))))))))
-      (λ κs. (sizes-tells, (request-tells, (mut-slice-tells (named 0) (κs .0) F, (mut-tells (named 1) (κs .1 .0) P, (mut-slice-tells (named 2) (κs .1 .1 .0) u32, (mut-slice-tells (named 3) (κs .1 .1 .1 .0) u32, (mut-slice-tells (named 4) (κs .1 .1 .1 .1 .0) u16, (mut-slice-tells (named 5) (κs .1 .1 .1 .1 .1 .0) u16, (mut-slice-tells (named 6) (κs .1 .1 .1 .1 .1 .1 .0) u16, (mut-slice-tells (named 7) (κs .1 .1 .1 .1 .1 .1 .1 .0) u32, (mut-slice-tells (named 8) (κs .1 .1 .1 .1 .1 .1 .1 .1 .0) u16, (mut-slice-tells (named 9) (κs .1 .1 .1 .1 .1 .1 .1 .1 .1 .0) u16, (mut-slice-tells (named 10) (κs .1 .1 .1 .1 .1 .1 .1 .1 .1 .1 .0) u16, (mut-slice-tells (named 11) (κs .1 .1 .1 .1 .1 .1 .1 .1 .1 .1 .1 .0) u8, (mut-slice-tells (named 12) (κs .1 .1 .1 .1 .1 .1 .1 .1 .1 .1 .1 .1 .0) u8, (mut-slice-tells (named 13) (κs .1 .1 .1 .1 .1 .1 .1 .1 .1 .1 .1 .1 .1 .0) u32, (mut-slice-tells (named 14) (κs .1 .1 .1 .1 .1 .1 .1 .1 .1 .1 .1 .1 .1 .1 .0) u8, (mut-slice-tells (named 15) (κs .1 .1 .1 .1 .1 .1 .1 .1 .1 .1 .1 .1 .1 .1 .1 .0) u8, (mut-slice-tells (named 16) (κs .1 .1 .1 .1 .1 .1 .1 .1 .1 .1 .1 .1 .1 .1 .1 .1 .0) u16, (mut-slice-tells (named 17) (κs .1 .1 .1 .1 .1 .1 .1 .1 .1 .1 .1 .1 .1 .1 .1 .1 .1 .0) u16, tt)))))))))))))))))))))
+      (λ (κ0, (κ1, (κ2, (κ3, (κ4, (κ5, (κ6, (κ7, (κ8, (κ9, (κ10, (κ11, (κ12, (κ13, (κ14, (κ15, (κ16, (κ17, _)))))))))))))))))).
+      (sizes-tells, (request-tells, (mut 0 κ0 F, (mut-tells (named 1) κ1 P, (mut 2 κ2 u32, (mut 3 κ3 u32, (mut 4 κ4 u16, (mut 5 κ5 u16, (mut 6 κ6 u16, (mut 7 κ7 u32, (mut 8 κ8 u16, (mut 9 κ9 u16, (mut 10 κ10 u16, (mut 11 κ11 u8, (mut 12 κ12 u8, (mut 13 κ13 u32, (mut 14 κ14 u8, (mut 15 κ15 u8, (mut 16 κ16 u16, (mut 17 κ17 u16, tt)))))))))))))))))))))
       (λ κs qs bounds a g are. via 𝓤 _ (fst∗ 𝓤 _ (emp 𝓤))
-      (walk 𝓤 H A W at-mem run (κs .0) (qs .0) (κs .1 .0) (qs .1 .0) (κs .1 .1 .0) (qs .1 .1 .0) (κs .1 .1 .1 .0) (qs .1 .1 .1 .0) (κs .1 .1 .1 .1 .0) (qs .1 .1 .1 .1 .0) (κs .1 .1 .1 .1 .1 .0) (qs .1 .1 .1 .1 .1 .0) (κs .1 .1 .1 .1 .1 .1 .0) (qs .1 .1 .1 .1 .1 .1 .0) (κs .1 .1 .1 .1 .1 .1 .1 .0) (qs .1 .1 .1 .1 .1 .1 .1 .0) (κs .1 .1 .1 .1 .1 .1 .1 .1 .0) (qs .1 .1 .1 .1 .1 .1 .1 .1 .0) (κs .1 .1 .1 .1 .1 .1 .1 .1 .1 .0) (qs .1 .1 .1 .1 .1 .1 .1 .1 .1 .0) (κs .1 .1 .1 .1 .1 .1 .1 .1 .1 .1 .0) (qs .1 .1 .1 .1 .1 .1 .1 .1 .1 .1 .0) (κs .1 .1 .1 .1 .1 .1 .1 .1 .1 .1 .1 .0) (qs .1 .1 .1 .1 .1 .1 .1 .1 .1 .1 .1 .0) (κs .1 .1 .1 .1 .1 .1 .1 .1 .1 .1 .1 .1 .0) (qs .1 .1 .1 .1 .1 .1 .1 .1 .1 .1 .1 .1 .0) (κs .1 .1 .1 .1 .1 .1 .1 .1 .1 .1 .1 .1 .1 .0) (qs .1 .1 .1 .1 .1 .1 .1 .1 .1 .1 .1 .1 .1 .0) (κs .1 .1 .1 .1 .1 .1 .1 .1 .1 .1 .1 .1 .1 .1 .0) (qs .1 .1 .1 .1 .1 .1 .1 .1 .1 .1 .1 .1 .1 .1 .0) (κs .1 .1 .1 .1 .1 .1 .1 .1 .1 .1 .1 .1 .1 .1 .1 .0) (qs .1 .1 .1 .1 .1 .1 .1 .1 .1 .1 .1 .1 .1 .1 .1 .0) (κs .1 .1 .1 .1 .1 .1 .1 .1 .1 .1 .1 .1 .1 .1 .1 .1 .0) (qs .1 .1 .1 .1 .1 .1 .1 .1 .1 .1 .1 .1 .1 .1 .1 .1 .0) (κs .1 .1 .1 .1 .1 .1 .1 .1 .1 .1 .1 .1 .1 .1 .1 .1 .1 .0) (qs .1 .1 .1 .1 .1 .1 .1 .1 .1 .1 .1 .1 .1 .1 .1 .1 .1 .0) (a .0) (a .1 .0)
+      (walk 𝓤 H A W at-mem run (κs .0) (qs .0) (κs .1 .0) (qs .1 .0) (κs .1 .1 .0) (qs .1 .1 .0) (κs .1 .1 .1 .0) (qs .1 .1 .1 .0) (κs .1 .1 .1 .1 .0) (qs .1 .1 .1 .1 .0) (κs .1 .1 .1 .1 .1 .0)
+      (qs .1 .1 .1 .1 .1 .0) (κs .1 .1 .1 .1 .1 .1 .0) (qs .1 .1 .1 .1 .1 .1 .0) (κs .1 .1 .1 .1 .1 .1 .1 .0) (qs .1 .1 .1 .1 .1 .1 .1 .0) (κs .1 .1 .1 .1 .1 .1 .1 .1 .0)
+      (qs .1 .1 .1 .1 .1 .1 .1 .1 .0) (κs .1 .1 .1 .1 .1 .1 .1 .1 .1 .0) (qs .1 .1 .1 .1 .1 .1 .1 .1 .1 .0) (κs .1 .1 .1 .1 .1 .1 .1 .1 .1 .1 .0) (qs .1 .1 .1 .1 .1 .1 .1 .1 .1 .1 .0)
+      (κs .1 .1 .1 .1 .1 .1 .1 .1 .1 .1 .1 .0) (qs .1 .1 .1 .1 .1 .1 .1 .1 .1 .1 .1 .0) (κs .1 .1 .1 .1 .1 .1 .1 .1 .1 .1 .1 .1 .0) (qs .1 .1 .1 .1 .1 .1 .1 .1 .1 .1 .1 .1 .0)
+      (κs .1 .1 .1 .1 .1 .1 .1 .1 .1 .1 .1 .1 .1 .0) (qs .1 .1 .1 .1 .1 .1 .1 .1 .1 .1 .1 .1 .1 .0) (κs .1 .1 .1 .1 .1 .1 .1 .1 .1 .1 .1 .1 .1 .1 .0) (qs .1 .1 .1 .1 .1 .1 .1 .1 .1 .1 .1 .1 .1 .1 .0)
+      (κs .1 .1 .1 .1 .1 .1 .1 .1 .1 .1 .1 .1 .1 .1 .1 .0) (qs .1 .1 .1 .1 .1 .1 .1 .1 .1 .1 .1 .1 .1 .1 .1 .0) (κs .1 .1 .1 .1 .1 .1 .1 .1 .1 .1 .1 .1 .1 .1 .1 .1 .0)
+      (qs .1 .1 .1 .1 .1 .1 .1 .1 .1 .1 .1 .1 .1 .1 .1 .1 .0) (κs .1 .1 .1 .1 .1 .1 .1 .1 .1 .1 .1 .1 .1 .1 .1 .1 .1 .0) (qs .1 .1 .1 .1 .1 .1 .1 .1 .1 .1 .1 .1 .1 .1 .1 .1 .1 .0) (a .0) (a .1 .0)
       (a .1 .1 .0 .ptr .0) (a .1 .1 .0 .ptr .1) (a .1 .1 .0 .name) (a .1 .1 .0 .now) (are .1 .1 .0 .0 .1) (a .1 .1 .1 .0 .ptr .0) (a .1 .1 .1 .0 .ptr .1) (a .1 .1 .1 .0 .name) (a .1 .1 .1 .0 .now)
-      (a .1 .1 .1 .1 .0) (are .1 .1 .1 .1 .0 .0 .1) (a .1 .1 .1 .1 .1 .0) (are .1 .1 .1 .1 .1 .0 .0 .1) (a .1 .1 .1 .1 .1 .1 .0) (are .1 .1 .1 .1 .1 .1 .0 .0 .1) (a .1 .1 .1 .1 .1 .1 .1 .0) (are .1 .1 .1 .1 .1 .1 .1 .0 .0 .1) (a .1 .1 .1 .1 .1 .1 .1 .1 .0) (are .1 .1 .1 .1 .1 .1 .1 .1 .0 .0 .1) (a .1 .1 .1 .1 .1 .1 .1 .1 .1 .0) (are .1 .1 .1 .1 .1 .1 .1 .1 .1 .0 .0 .1) (a .1 .1 .1 .1 .1 .1 .1 .1 .1 .1 .0) (are .1 .1 .1 .1 .1 .1 .1 .1 .1 .1 .0 .0 .1) (a .1 .1 .1 .1 .1 .1 .1 .1 .1 .1 .1 .0) (are .1 .1 .1 .1 .1 .1 .1 .1 .1 .1 .1 .0 .0 .1) (a .1 .1 .1 .1 .1 .1 .1 .1 .1 .1 .1 .1 .0) (are .1 .1 .1 .1 .1 .1 .1 .1 .1 .1 .1 .1 .0 .0 .1) (a .1 .1 .1 .1 .1 .1 .1 .1 .1 .1 .1 .1 .1 .0) (are .1 .1 .1 .1 .1 .1 .1 .1 .1 .1 .1 .1 .1 .0 .0 .1) (a .1 .1 .1 .1 .1 .1 .1 .1 .1 .1 .1 .1 .1 .1 .0) (are .1 .1 .1 .1 .1 .1 .1 .1 .1 .1 .1 .1 .1 .1 .0 .0 .1) (a .1 .1 .1 .1 .1 .1 .1 .1 .1 .1 .1 .1 .1 .1 .1 .0) (are .1 .1 .1 .1 .1 .1 .1 .1 .1 .1 .1 .1 .1 .1 .1 .0 .0 .1) (a .1 .1 .1 .1 .1 .1 .1 .1 .1 .1 .1 .1 .1 .1 .1 .1 .0) (are .1 .1 .1 .1 .1 .1 .1 .1 .1 .1 .1 .1 .1 .1 .1 .1 .0 .0 .1) (a .1 .1 .1 .1 .1 .1 .1 .1 .1 .1 .1 .1 .1 .1 .1 .1 .1 .0) (are .1 .1 .1 .1 .1 .1 .1 .1 .1 .1 .1 .1 .1 .1 .1 .1 .1 .0 .0 .1) (a .1 .1 .1 .1 .1 .1 .1 .1 .1 .1 .1 .1 .1 .1 .1 .1 .1 .1 .0) (are .1 .1 .1 .1 .1 .1 .1 .1 .1 .1 .1 .1 .1 .1 .1 .1 .1 .1 .0 .0 .1) (a .1 .1 .1 .1 .1 .1 .1 .1 .1 .1 .1 .1 .1 .1 .1 .1 .1 .1 .1 .0) (are .1 .1 .1 .1 .1 .1 .1 .1 .1 .1 .1 .1 .1 .1 .1 .1 .1 .1 .1 .0 .0 .1) (are .0) (are .1 .0) C Λ fm known-load known-core known-save known-take known-deposit))
+      (a .1 .1 .1 .1 .0) (are .1 .1 .1 .1 .0 .0 .1) (a .1 .1 .1 .1 .1 .0) (are .1 .1 .1 .1 .1 .0 .0 .1) (a .1 .1 .1 .1 .1 .1 .0) (are .1 .1 .1 .1 .1 .1 .0 .0 .1) (a .1 .1 .1 .1 .1 .1 .1 .0)
+      (are .1 .1 .1 .1 .1 .1 .1 .0 .0 .1) (a .1 .1 .1 .1 .1 .1 .1 .1 .0) (are .1 .1 .1 .1 .1 .1 .1 .1 .0 .0 .1) (a .1 .1 .1 .1 .1 .1 .1 .1 .1 .0) (are .1 .1 .1 .1 .1 .1 .1 .1 .1 .0 .0 .1)
+      (a .1 .1 .1 .1 .1 .1 .1 .1 .1 .1 .0) (are .1 .1 .1 .1 .1 .1 .1 .1 .1 .1 .0 .0 .1) (a .1 .1 .1 .1 .1 .1 .1 .1 .1 .1 .1 .0) (are .1 .1 .1 .1 .1 .1 .1 .1 .1 .1 .1 .0 .0 .1)
+      (a .1 .1 .1 .1 .1 .1 .1 .1 .1 .1 .1 .1 .0) (are .1 .1 .1 .1 .1 .1 .1 .1 .1 .1 .1 .1 .0 .0 .1) (a .1 .1 .1 .1 .1 .1 .1 .1 .1 .1 .1 .1 .1 .0) (are .1 .1 .1 .1 .1 .1 .1 .1 .1 .1 .1 .1 .1 .0 .0 .1)
+      (a .1 .1 .1 .1 .1 .1 .1 .1 .1 .1 .1 .1 .1 .1 .0) (are .1 .1 .1 .1 .1 .1 .1 .1 .1 .1 .1 .1 .1 .1 .0 .0 .1) (a .1 .1 .1 .1 .1 .1 .1 .1 .1 .1 .1 .1 .1 .1 .1 .0)
+      (are .1 .1 .1 .1 .1 .1 .1 .1 .1 .1 .1 .1 .1 .1 .1 .0 .0 .1) (a .1 .1 .1 .1 .1 .1 .1 .1 .1 .1 .1 .1 .1 .1 .1 .1 .0) (are .1 .1 .1 .1 .1 .1 .1 .1 .1 .1 .1 .1 .1 .1 .1 .1 .0 .0 .1)
+      (a .1 .1 .1 .1 .1 .1 .1 .1 .1 .1 .1 .1 .1 .1 .1 .1 .1 .0) (are .1 .1 .1 .1 .1 .1 .1 .1 .1 .1 .1 .1 .1 .1 .1 .1 .1 .0 .0 .1) (a .1 .1 .1 .1 .1 .1 .1 .1 .1 .1 .1 .1 .1 .1 .1 .1 .1 .1 .0)
+      (are .1 .1 .1 .1 .1 .1 .1 .1 .1 .1 .1 .1 .1 .1 .1 .1 .1 .1 .0 .0 .1) (a .1 .1 .1 .1 .1 .1 .1 .1 .1 .1 .1 .1 .1 .1 .1 .1 .1 .1 .1 .0)
+      (are .1 .1 .1 .1 .1 .1 .1 .1 .1 .1 .1 .1 .1 .1 .1 .1 .1 .1 .1 .0 .0 .1) (are .0) (are .1 .0) C Λ fm known-load known-core known-save known-take known-deposit))
 
 meets : {M : Type 1} (𝓤 : URA M) (H : Heap 𝓤) (A : Atoms 𝓤) → Given 𝓤 H A → (at-mem : Memory → SProp 𝓤) (run : Routine → Fun 𝓤) (𝓣 : Tables 𝓤 H)
     → Triple 𝓤 (𝓣 .C #load) (Load 𝓤 H A at-mem run) → Triple 𝓤 (𝓣 .C #core) (Core 𝓤 H A at-mem run) → Triple 𝓤 (𝓣 .C #save) (Save 𝓤 H A at-mem run) → Triple 𝓤 (𝓣 .C #take) (Take 𝓤 H A at-mem run) → Triple 𝓤 (𝓣 .C #deposit) (Deposit 𝓤 H A at-mem run)
     → Meets 𝓤 H A fn.signature (WpFn 𝓤 H (𝓣 .C) (𝓣 .Λ) code.function) (fn.spec 𝓤 H A at-mem run)
 meets 𝓤 H A W at-mem run 𝓣 known-load known-core known-save known-take known-deposit =
+    let v = goes-value 𝓤 H A W 18 in let g = goes-gave 𝓤 H A W 18 in
     walk-meets 𝓤 H A fn.ended stayed W
-    (goes-dropped 𝓤 H A W 18 (plain (λ _. Z)) yes (λ κs x f. refl), (goes-dropped 𝓤 H A W 18 (plain (λ _. Q)) yes (λ κs x f. refl), (goes-gave-slice 𝓤 H A W 18 0 tt (plain (λ _. F)), (goes-gave-ref 𝓤 H A W 18 1 tt (plain (λ _. P)), (goes-gave-slice 𝓤 H A W 18 2 tt (plain (λ _. u32)), (goes-gave-slice 𝓤 H A W 18 3 tt (plain (λ _. u32)), (goes-gave-slice 𝓤 H A W 18 4 tt (plain (λ _. u16)), (goes-gave-slice 𝓤 H A W 18 5 tt (plain (λ _. u16)), (goes-gave-slice 𝓤 H A W 18 6 tt (plain (λ _. u16)), (goes-gave-slice 𝓤 H A W 18 7 tt (plain (λ _. u32)), (goes-gave-slice 𝓤 H A W 18 8 tt (plain (λ _. u16)), (goes-gave-slice 𝓤 H A W 18 9 tt (plain (λ _. u16)), (goes-gave-slice 𝓤 H A W 18 10 tt (plain (λ _. u16)), (goes-gave-slice 𝓤 H A W 18 11 tt (plain (λ _. u8)), (goes-gave-slice 𝓤 H A W 18 12 tt (plain (λ _. u8)), (goes-gave-slice 𝓤 H A W 18 13 tt (plain (λ _. u32)), (goes-gave-slice 𝓤 H A W 18 14 tt (plain (λ _. u8)), (goes-gave-slice 𝓤 H A W 18 15 tt (plain (λ _. u8)), (goes-gave-slice 𝓤 H A W 18 16 tt (plain (λ _. u16)), (goes-gave-slice 𝓤 H A W 18 17 tt (plain (λ _. u16)), tt)))))))))))))))))))) (fn.clauses 𝓤 H A at-mem run)
+    (v Z (λ κs x f. refl), (v Q (λ κs x f. refl), (g 0 tt F, (goes-gave-ref 𝓤 H A W 18 1 tt (plain (λ _. P)), (g 2 tt u32, (g 3 tt u32, (g 4 tt u16, (g 5 tt u16, (g 6 tt u16, (g 7 tt u32, (g 8 tt u16, (g 9 tt u16, (g 10 tt u16, (g 11 tt u8, (g 12 tt u8, (g 13 tt u32, (g 14 tt u8, (g 15 tt u8, (g 16 tt u16, (g 17 tt u16, tt)))))))))))))))))))) (fn.clauses 𝓤 H A at-mem run)
     (WpFn 𝓤 H (𝓣 .C) (𝓣 .Λ) code.function) (WpFn-mono 𝓤 H (W .laws) 𝓣 code.function) (walks 𝓤 H A W at-mem run (𝓣 .C) (𝓣 .Λ) (fmOf 𝓤 H (W .laws) 𝓣) known-load known-core known-save known-take known-deposit)
 
 pub keeper-apply-spec : {M : Type 1} → stated.statement M

@@ -8,7 +8,7 @@ use Rattle.tables.specs.Rule.{Holds}
 use Rattle.tables.specs.Turn.{learn}
 use Rattle.model.specs.declared.frame.Frame.{Frame}
 use Rattle.model.specs.State.{State}
-use Rattle.model.specs.Lent.{stateOf}
+use Rattle.model.specs.Lent.{given}
 use Rattle.model.specs.Step.{allFit}
 use Rattle.model.specs.Calls.{framesOf, length-frames}
 use Rattle.calls.specs.Frames.{fit-taken, ruled-taken}
@@ -18,7 +18,14 @@ use Rattle.calls.proofs.common.common.Tie as tie
 
 -- the state by its frames
 abbrev at : tie.Start → List Frame → State
-at s l = let a = s .args in stateOf l (a .pool) (a .records .now) (a .numbers .now) (a .accounts .now) (a .maps .now) (a .limits .now) (a .frame-words .now) (a .free-queue .now) (a .removal-list .now) (a .addresses .now) (a .states .now) (a .owners .now) (a .free-map .now) (a .active .now) (a .updating .now) (a .images .now) (a .used .now)
+at s l =
+    let a = s .args in
+    given l (a .pool) (a .records) (a .numbers) (a .accounts) (a .maps) (a .limits) (a .frame-words) (a .free-queue) (a .removal-list)
+    (a .addresses) (a .states) (a .owners) (a .free-map) (a .active) (a .updating) (a .images) (a .used)
+
+-- from question 1 back to the start
+abbrev start : tie.After-all-fit → tie.Start
+start q = search
 
 abbrev lent : tie.Start → State
 lent s = at s (framesOf (s .args .frames) (s .args .lent))
@@ -28,28 +35,28 @@ long s = s .good .1 .1 .0 .1 .0 .1
 
 returns : tie.Need-returns
 returns c =
-    let s = c .before .before .before .before .before .before .before .before .before .before .before .before .before .before .before .before .before .before in
+    let s = start (c .before) in
     let a = s .args in
     common-unfit (a .sizes) (lent s)
     (sym (c .if1 .left) ∙ c .before .all-fit .ensures (framesOf (a .frames) (a .lent)) (a .pool) (length-frames (a .frames) (a .lent)))
 
-fitted : (c : tie.Then1) → (let s = c .before .before .before .before .before .before .before .before .before .before .before .before .before .before .before .before .before .before in Holds (allFit (s .args .sizes) (lent s)))
+fitted : (c : tie.Then1) → (let s = start (c .before) in Holds (allFit (s .args .sizes) (lent s)))
 fitted c =
-    let s = c .before .before .before .before .before .before .before .before .before .before .before .before .before .before .before .before .before .before in
+    let s = start (c .before) in
     let a = s .args in
     learn (allFit (a .sizes) (lent s))
     (sym (c .if1 .taken) ∙ c .before .all-fit .ensures (framesOf (a .frames) (a .lent)) (a .pool) (length-frames (a .frames) (a .lent)))
 
 all-rules-requires : tie.Need-all-rules-requires
 all-rules-requires c κs =
-    let s = c .before .before .before .before .before .before .before .before .before .before .before .before .before .before .before .before .before .before in
+    let s = start (c .before) in
     let a = s .args in
     fit-taken (a .sizes) (at s) (λ l. refl) (a .frames) (a .lent) (fitted c) (long s)
 
 returns-2 : tie.Need-returns-2
 returns-2 c =
     let k = c .before .before in
-    let s = k .before .before .before .before .before .before .before .before .before .before .before .before .before .before .before .before .before .before in
+    let s = start (k .before) in
     let a = s .args in
     common-told (a .sizes) (lent s) false (fitted k)
     (ruled-taken (a .sizes) (at s) (λ l. refl) (a .frames) (a .lent) (fitted k) (long s) false (sym (c .if2 .left) ∙ c .before .all-rules .ensures))
@@ -57,7 +64,7 @@ returns-2 c =
 returns-3 : tie.Need-returns-3
 returns-3 c =
     let k = c .before .before in
-    let s = k .before .before .before .before .before .before .before .before .before .before .before .before .before .before .before .before .before .before in
+    let s = start (k .before) in
     let a = s .args in
     common-told (a .sizes) (lent s) true (fitted k)
     (ruled-taken (a .sizes) (at s) (λ l. refl) (a .frames) (a .lent) (fitted k) (long s) true (sym (c .if2 .taken) ∙ c .before .all-rules .ensures))

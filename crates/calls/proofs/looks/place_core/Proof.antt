@@ -9,7 +9,7 @@ use Rattle.tables.specs.Rule.{Holds}
 use Rattle.model.specs.declared.frame.Frame.{Frame}
 use Rattle.model.specs.State.{State}
 use Rattle.model.specs.Rules.{allRules}
-use Rattle.model.specs.Lent.{stateOf}
+use Rattle.model.specs.Lent.{given}
 use Rattle.model.specs.Step.{allFit}
 use Rattle.model.specs.Fit.{fit}
 use Rattle.model.specs.Calls.{framesOf}
@@ -21,7 +21,14 @@ use Rattle.calls.proofs.looks.place_core.Tie as tie
 
 -- the state by its frames
 abbrev at : tie.Start → List Frame → State
-at s l = let a = s .args in stateOf l (a .pool) (a .records .now) (a .numbers .now) (a .accounts .now) (a .maps .now) (a .limits .now) (a .frame-words .now) (a .free-queue .now) (a .removal-list .now) (a .addresses .now) (a .states .now) (a .owners .now) (a .free-map .now) (a .active .now) (a .updating .now) (a .images .now) (a .used .now)
+at s l =
+    let a = s .args in
+    given l (a .pool) (a .records) (a .numbers) (a .accounts) (a .maps) (a .limits) (a .frame-words) (a .free-queue) (a .removal-list)
+    (a .addresses) (a .states) (a .owners) (a .free-map) (a .active) (a .updating) (a .images) (a .used)
+
+-- from questions 1 and 2 back to the start
+abbrev start : tie.After-common → tie.Start
+start q = search
 
 abbrev lent : tie.Start → State
 lent s = at s (framesOf (s .args .frames) (s .args .lent))
@@ -32,25 +39,25 @@ first s f = lent-first (s .args .sizes) (at s) (λ l. refl) (s .args .frames) (s
 
 returns : tie.Need-returns
 returns c =
-    let s = c .before .before .before .before .before .before .before .before .before .before .before .before .before .before .before .before .before .before in
+    let s = start (c .before) in
     let a = s .args in
     (unfit-part (a .sizes) (lent s) (a .slot) (a .page) (c .before .common .result) (c .before .common .ensures) (c .if1 .taken), omega arith)
 
-given : (c : tie.Else1) → (let s = c .before .before .before .before .before .before .before .before .before .before .before .before .before .before .before .before .before .before in Holds (allFit (s .args .sizes) (lent s)) × Holds (allRules (s .args .sizes) (lent s)))
-given c = let s = c .before .before .before .before .before .before .before .before .before .before .before .before .before .before .before .before .before .before in common-gives (s .args .sizes) (lent s) (sym (c .before .common .ensures) ∙ c .if1 .left)
+passed : (c : tie.Else1) → (let s = start (c .before) in Holds (allFit (s .args .sizes) (lent s)) × Holds (allRules (s .args .sizes) (lent s)))
+passed c = let s = start (c .before) in common-gives (s .args .sizes) (lent s) (sym (c .before .common .ensures) ∙ c .if1 .left)
 
 place-requires : tie.Need-place-requires
 place-requires c κs =
-    let s = c .before .before .before .before .before .before .before .before .before .before .before .before .before .before .before .before .before .before in
-    let g = given c in
+    let s = start (c .before) in
+    let g = passed c in
     seats (s .args .sizes) (lent s) (g .0) (g .1) (take (s .args .sizes .frames) (s .args .frames)) (first s (g .0))
 
 returns-2 : tie.Need-returns-2
 returns-2 c =
     let k = c .before in
-    let s = k .before .before .before .before .before .before .before .before .before .before .before .before .before .before .before .before .before .before in
+    let s = start (k .before) in
     let a = s .args in
-    let g = given k in
+    let g = passed k in
     let w : length (a .frame-words .now) ≡ a .sizes .frames * a .sizes .words = fit (a .sizes) (lent s) (g .0) .memory .words in (
       placed-part (a .sizes) (lent s) (a .slot) (a .page) (take (a .sizes .frames) (a .frames)) (first s (g .0)) (sym (k .before .common .ensures) ∙ k .if1 .left) (c .place .result) (c .place .ensures .0),
       omega (arith, w, c .place .ensures .1),

@@ -135,11 +135,13 @@ module _ {M : Type 1} (𝓤 : URA M) (H : Heap 𝓤) (A : Atoms 𝓤) (W : Given
     -- what no turn touches
     abbrev Rest : List (Item 𝓤)
     Rest = ‵ (fobor κ q (Held F n b o γ)) ∷ ‵ (fobs γ (codedHoleys F .code (heres F ys))) ∷ ‵ (fauth γ (codedHoleys F .code (heres F ys))) ∷ ‵ (froom tyUnit l₀ 0) ∷ ‵ (fat fullShare ty64 l₂ 0 (mach64 fs)) ∷ ‵ (fat fullShare word l₆ 0 (vint w64 n))
-        ∷ ‵ (fdies tyUnit l₀) ∷ ‵ (fdies slice l₁) ∷ ‵ (fdies ty64 l₂) ∷ ‵ (fdies ty64 l₃) ∷ ‵ (fdies word l₄) ∷ ‵ (fdies word l₅) ∷ ‵ (fdies word l₆) ∷ ‵ (fdies tyBool l₇) ∷ ‵ (fdies word l₈) ∷ ‵ (fdies tyPtr l₉) ∷ ‵ (fdies tyPtr l₁₀) ∷ ‵ (fdies T′.mir l₁₁) ∷ ‵ (fdies word l₁₂) ∷ ‵ (fdies tyPtr l₁₃) ∷ []
+        ∷ ‵ (fdies tyUnit l₀) ∷ ‵ (fdies slice l₁) ∷ ‵ (fdies ty64 l₂) ∷ ‵ (fdies ty64 l₃) ∷ ‵ (fdies word l₄) ∷ ‵ (fdies word l₅) ∷ ‵ (fdies word l₆) ∷ ‵ (fdies tyBool l₇) ∷ ‵ (fdies word l₈) ∷ ‵
+        (fdies tyPtr l₉) ∷ ‵ (fdies tyPtr l₁₀) ∷ ‵ (fdies T′.mir l₁₁) ∷ ‵ (fdies word l₁₂) ∷ ‵ (fdies tyPtr l₁₃) ∷ []
 
     -- [the slice's frames]; i; the array's frames; _1; _4; _7; _8; _9; _10; _11; _12; _13; …
     abbrev Tail : ℕ → List (Item 𝓤)
-    Tail i = ‵ (fat fullShare word l₅ 0 (vint w64 i)) ∷ ‵ (row F fullShare fs l₃ 0) ∷ ‵ (fat fullShare slice l₁ 0 s) ∷ ‵ (fat fullShare word l₄ 0 (vint w64 m)) ∷ ‵ (froom tyBool l₇ 0) ∷ ‵ (froom word l₈ 0) ∷ ‵ (froom tyPtr l₉ 0) ∷ ‵ (froom tyPtr l₁₀ 0) ∷ ‵ (froom T′.mir l₁₁ 0) ∷ ‵ (froom word l₁₂ 0) ∷ ‵ (froom tyPtr l₁₃ 0) ∷ Rest
+    Tail i = ‵ (fat fullShare word l₅ 0 (vint w64 i)) ∷ ‵ (row F fullShare fs l₃ 0) ∷ ‵ (fat fullShare slice l₁ 0 s) ∷ ‵ (fat fullShare word l₄ 0 (vint w64 m)) ∷ ‵ (froom tyBool l₇ 0) ∷ ‵
+        (froom word l₈ 0) ∷ ‵ (froom tyPtr l₉ 0) ∷ ‵ (froom tyPtr l₁₀ 0) ∷ ‵ (froom T′.mir l₁₁ 0) ∷ ‵ (froom word l₁₂ 0) ∷ ‵ (froom tyPtr l₁₃ 0) ∷ Rest
 
     abbrev At : ℕ → List (Item 𝓤)
     At i = ‵ (row F fullShare (zs i) b o) ∷ Tail i
@@ -206,7 +208,9 @@ module _ {M : Type 1} (𝓤 : URA M) (H : Heap 𝓤) (A : Atoms 𝓤) (W : Given
         -- [_3; obs; the borrow; the token; _5; _1; _4; _7; …; _13; _0; _2; _6; what frees each]
         assigns ! (of-opd ! (unit-lit !)) (from ! (stop !)) (init ! 14 refl (tt, tt)) $
         returns ! (look ! 14 refl) $ forget ! 0 refl $ forget ! 4 refl $ forget ! 5 refl $ forget ! 6 refl $ forget ! 7 refl $ forget ! 14 refl $ forget ! 15 refl $ forget ! 16 refl $
-        move ! (14 ∷ 17 ∷ []) $ free1 ! $ move ! (5 ∷ 16 ∷ []) $ free1 ! $ move ! (13 ∷ 15 ∷ []) $ free1 ! $ move ! (0 ∷ 14 ∷ []) $ free1 ! $ move ! (4 ∷ 13 ∷ []) $ free1 ! $ move ! (3 ∷ 12 ∷ []) $ free1 ! $ move ! (10 ∷ 11 ∷ []) $ free1 ! $ move ! (3 ∷ 10 ∷ []) $ free1 ! $ move ! (3 ∷ 9 ∷ []) $ free1 ! $ move ! (3 ∷ 8 ∷ []) $ free1 ! $ move ! (3 ∷ 7 ∷ []) $ free1 ! $ move ! (3 ∷ 6 ∷ []) $ free1 ! $ move ! (3 ∷ 5 ∷ []) $ free1 ! $ move ! (3 ∷ 4 ∷ []) $ free1 ! $ free0 ! $
+        move ! (14 ∷ 17 ∷ []) $ free1 ! $ move ! (5 ∷ 16 ∷ []) $ free1 ! $ move ! (13 ∷ 15 ∷ []) $ free1 ! $ move ! (0 ∷ 14 ∷ []) $ free1 ! $ move ! (4 ∷ 13 ∷ []) $ free1 ! $ move ! (3 ∷ 12 ∷ []) $
+        free1 ! $ move ! (10 ∷ 11 ∷ []) $ free1 ! $ move ! (3 ∷ 10 ∷ []) $ free1 ! $ move ! (3 ∷ 9 ∷ []) $ free1 ! $ move ! (3 ∷ 8 ∷ []) $ free1 ! $ move ! (3 ∷ 7 ∷ []) $ free1 ! $ move ! (3 ∷ 6 ∷
+        []) $ free1 ! $ move ! (3 ∷ 5 ∷ []) $ free1 ! $ move ! (3 ∷ 4 ∷ []) $ free1 ! $ free0 ! $
         keep ! (0 ∷ 1 ∷ 2 ∷ []) $ by ! exits
 
     turns : (t : ℕ) → Sq W (Inv t) (runs C Λ En mir.turn-1 (anyQ (afterTurn 𝓤 H (Below 𝓤 H A _<_ Inv t) Left)))

@@ -14,13 +14,17 @@ use Rattle.pages.specs.Faults.{awayAsked, supplyAsked}
 use Rattle.pages.proofs.fault.ask_fault.Statement.{statement}
 use Rattle.pages.proofs.fault.ask_fault.Tie as tie
 
+-- from the first questions back to the start
+abbrev start : tie.After-ask-slot → tie.Start
+start k = search
+
 returns : tie.Need-returns
 returns c = let n = c .before .ask-slot .ensures in n ∙ sym (also-no _ _ (λ e. c .if1 .taken (n ∙ e)))
 
 page-of-requires : tie.Need-page-of-requires
 page-of-requires c κs =
     let k = c .before in
-    let s = k .before .before .before .before .before .before .before .before .before in
+    let s = start k in
     let t = all-yes 0 (slotAsked (s .args .in-range) (s .args .slot) (s .args .numbers .now) (s .args .active .now)) tt (sym (k .ask-slot .ensures) ∙ c .if1 .left) in
     let r = s .pre .1 (T→true _ (t .0)) in
     (s .pre .0 .sizes, r .0, r .1)
@@ -28,7 +32,7 @@ page-of-requires c κs =
 ask-away-requires : tie.Need-ask-away-requires
 ask-away-requires c κs =
     let k = c .before .before in
-    let s = k .before .before .before .before .before .before .before .before .before in
+    let s = start k in
     let t = all-yes 0 (slotAsked (s .args .in-range) (s .args .slot) (s .args .numbers .now) (s .args .active .now)) tt (sym (k .ask-slot .ensures) ∙ c .before .if1 .left) in
     let r = s .pre .1 (T→true _ (t .0)) in
     (s .pre .0, rw (c .page-of .ensures) (page-most (s .args .sizes) (s .pre .0 .sizes) (s .args .slot) (s .args .page) (r .0) (r .1)))
@@ -38,7 +42,7 @@ returns-2 c =
     let w = c .before in
     let i = w .before in
     let k = i .before .before in
-    let a = k .before .before .before .before .before .before .before .before .before .args in
+    let a = start k .args in
     let n = w .ask-away .ensures ∙ ap (λ (j : ℕ). firstNo (awayAsked (a .sizes) (take (a .sizes .frames) (a .frames)) j)) (i .page-of .ensures) in
     n ∙ sym (also-no (awayAsked (a .sizes) (take (a .sizes .frames) (a .frames)) (pageOf (a .sizes) (a .slot) (a .page))) _ (λ e. c .if2 .taken (n ∙ e)))
     ∙ sym (also-yes 0 (slotAsked (a .in-range) (a .slot) (a .numbers .now) (a .active .now)) _ tt (sym (k .ask-slot .ensures) ∙ i .before .if1 .left))
@@ -51,7 +55,7 @@ returns-3 c =
     let w = q .before .before in
     let i = w .before in
     let k = i .before .before in
-    let a = k .before .before .before .before .before .before .before .before .before .args in
+    let a = start k .args in
     let ej = i .page-of .ensures in
     let eu = u .at162 .ensures ∙ ap (at (a .used .now)) (q .at16 .ensures) in
     let el = l .at163 .ensures ∙ ap (at (a .limits .now)) (q .at16 .ensures) in

@@ -15,7 +15,11 @@ use Rattle.pages.proofs.fault.fault.Tie as tie
 
 -- ── the places ──
 abbrev start : tie.After-ask-fault → tie.Start
-start k = k .before .before .before .before .before .before .before .before .before .before .before .before .before .before .before .before .before .before .before
+start k = search
+
+-- the words of the limits
+abbrev limited : tie.After-ask-fault → tie.After-shared-slice-known3
+limited k = search
 
 -- from the account that pays, back to the way, the frame and the page of the code, and to its questions
 abbrev way : tie.After-at16 → tie.After-way-of
@@ -38,7 +42,7 @@ abbrev held : tie.After-hold → tie.After-at16
 held d = d .before .before .before .before .before
 
 abbrev served : tie.After-serve → tie.After-hold
-served v = v .before .before .before .before .before .before .before .before .before .before .before
+served v = search
 
 abbrev popped : tie.After-pop → tie.After-serve
 popped o = o .before .before .before .before .before .before
@@ -57,7 +61,7 @@ needs-served : (x : tie.After-at16) → (let a = from x .args in (queued x .firs
 needs-served x = let a = from x .args in serve-needs (a .sizes) (a .free-queue .now) (a .removal-list .now) (queued x .first .result) (from x .pre .1) (fault-some (asked (passed x .before)) (passed x .if1 .left)) (queued x .first .ensures)
 
 ask-fault-requires : tie.Need-ask-fault-requires
-ask-fault-requires c κs = let s = c .before .before .before .before .before .before .before .before .before .before .before .before .before .before .before .before .before .before in (s .pre .0, λ e. page-range (s .args .sizes) (s .args .slot) (s .args .page) e)
+ask-fault-requires c κs = let s : tie.Start = search in (s .pre .0, λ e. page-range (s .args .sizes) (s .args .slot) (s .args .page) e)
 
 returns : tie.Need-returns
 returns c = let q = asked (c .before) in (fault-no q (c .if1 .taken), fault-none q (c .if1 .taken))
@@ -73,7 +77,8 @@ hold-requires c κs =
 
 serve-requires : tie.Need-serve-requires
 serve-requires c κs =
-    let x = held (c .before .before .before .before .before .before .before .before .before .before) in
+    let d : tie.After-hold = search in
+    let x = held d in
     let s = from x in
     let r = range (passed x) in
     let n = needs-served x in
@@ -87,7 +92,7 @@ charge-requires c κs h =
     let x = held (served (popped (c .before .before .before))) in
     let a = from x .args in
     let u = fault-quota (asked (passed x .before)) (passed x .if1 .left) (paged x .page-of .ensures) (way x .way-of .ensures) (queued x .first .ensures) h in
-    rw (x .at16 .ensures) (omega (arith, u, passed x .before .before .before .before .before .before .before .before .before .before .before .before .before .before .before .before .before .shared-slice-known3 .given (at (a .accounts .now) (a .slot))))
+    rw (x .at16 .ensures) (omega (arith, u, limited (passed x .before) .shared-slice-known3 .given (at (a .accounts .now) (a .slot))))
 
 cast-t61 : tie.Need-cast-t61
 cast-t61 c = let x = held (served (popped (charged (c .before .before)))) in omega (arith, needs-served x .0, from x .pre .0 .sizes .frames-most)
@@ -108,12 +113,12 @@ returns-2 c =
 
 pub fault-spec : {M : Type 1} → statement M
 fault-spec = tie.close (tie.spec ask-fault-requires (λ c. refl) (λ c. refl) (λ c. refl) (λ c. refl) returns page-of-requires (λ c κs. search needs) (λ c κs. search needs) (λ c κs. search needs) (λ c. search needs) hold-requires serve-requires pop-requires charge-requires cast-t61
-    (λ c. c .before .before .before .before .before .before .before .before .before .before .before .before .serve .kept .1 .1 .1 .1 .1 .0)
-    (λ c. c .before .before .before .before .before .before .pop .kept .0)
-    (λ c. c .before .before .before .before .before .before .before .before .before .before .before .before .serve .kept .1 .1 .1 .1 .1 .1 .0)
-    (λ c. c .before .before .before .before .before .before .before .before .before .before .before .before .before .before .before .before .before .before .before .before .before .before .before .hold .kept .1 .1 .1 .1 .1 .0)
-    (λ c. c .before .before .before .before .before .before .before .before .before .before .before .before .before .before .before .before .before .before .before .before .before .before .before .hold .kept .1 .1 .1 .1 .1 .1 .0)
-    (λ c. c .before .before .before .before .before .before .before .before .before .before .before .before .before .before .before .before .before .before .before .before .before .before .before .hold .kept .1 .1 .1 .1 .1 .1 .1 .0)
-    (λ c. c .before .before .before .before .before .before .before .before .before .before .before .before .before .before .before .before .before .before .before .before .before .before .before .hold .kept .1 .1 .1 .1 .1 .1 .1 .1 .0)
+    (λ c. let w : tie.After-serve = search in w .serve .kept .1 .1 .1 .1 .1 .0)
+    (λ c. let w : tie.After-pop = search in w .pop .kept .0)
+    (λ c. let w : tie.After-serve = search in w .serve .kept .1 .1 .1 .1 .1 .1 .0)
+    (λ c. let w : tie.After-hold = search in w .hold .kept .1 .1 .1 .1 .1 .0)
+    (λ c. let w : tie.After-hold = search in w .hold .kept .1 .1 .1 .1 .1 .1 .0)
+    (λ c. let w : tie.After-hold = search in w .hold .kept .1 .1 .1 .1 .1 .1 .1 .0)
+    (λ c. let w : tie.After-hold = search in w .hold .kept .1 .1 .1 .1 .1 .1 .1 .1 .0)
     (λ c. c .before .before .charge .kept .1 .1 .0)
     returns-2)

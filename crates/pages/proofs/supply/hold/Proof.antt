@@ -1,87 +1,96 @@
 -- `hold` meets its contract: the record that the free map tells is the one of the definition, and it is free.
 use borrow.Author.Needs.{needs}
-use mathlib.Core.Path.{ap, sym, _∙_}
+use mathlib.Core.Path.{_≡_, ap, sym, _∙_}
 use native.Mathlib.Omega.{arith}
 use native.Mathlib.Nat.{mod-lt}
 use native.Mathlib.Numerals.{add-one}
-use Prim.Native.Nat.{ℕ, suc, _+_, _-_, _%_}
+use Prim.Native.Nat.{ℕ, suc, _+_, _-_, _%_, _<_}
 use lib.ListN.{set}
+use Rattle.tables.specs.Base.{at}
 use Rattle.tables.specs.Laws.{if-yes, if-no}
 use Rattle.model.specs.Lines.{NULLED}
+use Rattle.model.specs.Parts.{pick}
 use Rattle.pages.specs.Faults.{cleared}
 use Rattle.pages.proofs.Holding.{chosen-told, chosen-below, chosen-inside, chosen-on, chosen-may}
 use Rattle.pages.proofs.supply.hold.Statement.{statement}
 use Rattle.pages.proofs.supply.hold.Tie as tie
 
+-- ── the places ──
+abbrev from : tie.Else1 → tie.Start
+from e = search
+
+abbrev none : tie.After-pick → tie.Else1
+none k = search
+
+abbrev picked : tie.After-put16 → tie.After-pick
+picked p = search
+
+-- ── the record ──
+chosen : (k : tie.After-pick) → (let a = from (none k) .args in k .pick .result ≡ pick (a .sizes) (at (a .states .now)) (a .pool .hand))
+chosen k = let s = from (none k) in let a = s .args in k .pick .ensures ∙ chosen-told (a .sizes) (a .pool) (a .states .now) (a .free-map .now) (s .pre .0) (s .pre .2)
+
+most : (k : tie.After-pick) → k .pick .result < 4096
+most k = let s = from (none k) in let a = s .args in omega (arith, chosen k, chosen-below (a .sizes) (a .pool) (a .states .now) (a .free-map .now) (s .pre .0) (s .pre .2), s .pre .0 .records-most)
+
 returns : tie.Need-returns
 returns c =
-    let a = c .before .before .before .before .before .args in
+    let s : tie.Start = search in
+    let a = s .args in
     let w = c .if1 .taken in (
       sym (if-no (a .way) 0 _ (a .pool) w),
       (sym (if-no (a .way) 0 _ (a .addresses .now) w), (sym (if-no (a .way) 0 _ (a .states .now) w), (sym (if-no (a .way) 0 _ (a .owners .now) w), sym (if-no (a .way) 0 _ (a .free-map .now) w)))),
     )
 
 add-put16 : tie.Need-add-put16
-add-put16 c =
-    let k = c .before in
-    let s = k .before .before .before .before .before .before .before .before in
-    let a = s .args in
-    omega (arith, k .pick .ensures ∙ chosen-told (a .sizes) (a .pool) (a .states .now) (a .free-map .now) (s .pre .0) (s .pre .2), chosen-below (a .sizes) (a .pool) (a .states .now) (a .free-map .now) (s .pre .0) (s .pre .2), s .pre .0 .records-most)
+add-put16 c = let k : tie.After-pick = search in omega (arith, most k)
 
 cast-put16 : tie.Need-cast-put16
-cast-put16 c =
-    let k = c .before in
-    let s = k .before .before .before .before .before .before .before .before in
-    let a = s .args in
-    omega (arith, k .pick .ensures ∙ chosen-told (a .sizes) (a .pool) (a .states .now) (a .free-map .now) (s .pre .0) (s .pre .2), chosen-below (a .sizes) (a .pool) (a .states .now) (a .free-map .now) (s .pre .0) (s .pre .2), s .pre .0 .records-most)
+cast-put16 c = let k : tie.After-pick = search in omega (arith, most k)
 
 move-record-requires : tie.Need-move-record-requires
 move-record-requires c κs =
-    let k = c .before .before .before .before .before in
-    let e = k .before .before .before in
-    let s = e .before .before .before .before .before in
+    let k : tie.After-pick = search in
+    let e = none k in
+    let s = from e in
     let a = s .args in
-    let q = k .pick .ensures ∙ chosen-told (a .sizes) (a .pool) (a .states .now) (a .free-map .now) (s .pre .0) (s .pre .2) in
-    rw q (chosen-may (a .sizes) (a .pool) (a .states .now) (a .free-map .now) (s .pre .0) (s .pre .2) (s .pre .3 (e .if1 .left)))
+    rw (chosen k) (chosen-may (a .sizes) (a .pool) (a .states .now) (a .free-map .now) (s .pre .0) (s .pre .2) (s .pre .3 (e .if1 .left)))
 
 clear-mark-requires : tie.Need-clear-mark-requires
 clear-mark-requires c κs =
-    let k = c .before .before .before .before .before .before .before .before .before .before .before .before .before in
-    let e = k .before .before .before in
-    let s = e .before .before .before .before .before in
+    let p : tie.After-put16 = search in
+    let k = picked p in
+    let e = none k in
+    let s = from e in
     let a = s .args in
-    let q = k .pick .ensures ∙ chosen-told (a .sizes) (a .pool) (a .states .now) (a .free-map .now) (s .pre .0) (s .pre .2) in
-    (rw q (chosen-inside (a .sizes) (a .pool) (a .states .now) (a .free-map .now) (s .pre .0) (s .pre .2)), rw q (chosen-on (a .sizes) (a .pool) (a .states .now) (a .free-map .now) (s .pre .0) (s .pre .2) (s .pre .3 (e .if1 .left))))
+    (rw (chosen k) (chosen-inside (a .sizes) (a .pool) (a .states .now) (a .free-map .now) (s .pre .0) (s .pre .2)), rw (chosen k) (chosen-on (a .sizes) (a .pool) (a .states .now) (a .free-map .now) (s .pre .0) (s .pre .2) (s .pre .3 (e .if1 .left))))
 
 add-t14 : tie.Need-add-t14
-add-t14 c =
-    let k = c .before .before .before .before .before .before .before .before .before .before .before .before .before .before .before .before in
-    let s = k .before .before .before .before .before .before .before .before in
-    let a = s .args in
-    omega (arith, k .pick .ensures ∙ chosen-told (a .sizes) (a .pool) (a .states .now) (a .free-map .now) (s .pre .0) (s .pre .2), chosen-below (a .sizes) (a .pool) (a .states .now) (a .free-map .now) (s .pre .0) (s .pre .2), s .pre .0 .records-most)
+add-t14 c = let p : tie.After-put16 = search in omega (arith, most (picked p))
 
 cast-t27 : tie.Need-cast-t27
 cast-t27 c =
-    let s = c .before .before .before .before .before .before .before .before .before .before .before .before .before .before .before .before .before .before .before .before .before .before .before .before .before in
-    omega (arith, mod-lt (c .before .before .before .before .before .before .before .before .before .before .before .before .before .before .before .before .before .pick .result + 1) (s .pre .0 .records), s .pre .0 .records-most)
+    let p : tie.After-put16 = search in
+    let k = picked p in
+    let s = from (none k) in
+    omega (arith, mod-lt (k .pick .result + 1) (s .pre .0 .records), s .pre .0 .records-most)
 
 sub-t28 : tie.Need-sub-t28
 sub-t28 c =
-    let e = c .before .before .before .before .before .before .before .before .before .before .before .before .before .before .before .before .before .before .before .before .before in
-    e .before .before .before .before .before .pre .3 (e .if1 .left)
+    let p : tie.After-put16 = search in
+    let e = none (picked p) in
+    from e .pre .3 (e .if1 .left)
 
 returns-2 : tie.Need-returns-2
 returns-2 c =
-    let x = c .before .before .before .before in
+    let x : tie.After-clear-mark = search in
     let o = x .before .before .before .before in
     let m = o .before .before .before .before in
     let p = m .before .before .before .before in
-    let k = p .before .before in
-    let e = k .before .before .before in
-    let s = e .before .before .before .before .before in
-    let a = s .args in
+    let k = picked p in
+    let e = none k in
+    let a = from e .args in
     let w = e .if1 .left in
-    let q = k .pick .ensures ∙ chosen-told (a .sizes) (a .pool) (a .states .now) (a .free-map .now) (s .pre .0) (s .pre .2) in (
+    let q = chosen k in (
       ap (λ (n : ℕ). record { hand = n % a .sizes .records; free = a .pool .free - 1 }) (add-one (k .pick .result) ∙ ap suc q) ∙ sym (if-yes (a .way) 0 _ (a .pool) w),
       (
         p .put16 .ensures ∙ ap (set (a .addresses .now) (a .page)) (add-one (k .pick .result) ∙ ap suc q) ∙ sym (if-yes (a .way) 0 _ (a .addresses .now) w),
@@ -96,4 +105,7 @@ returns-2 c =
     )
 
 pub hold-spec : {M : Type 1} → statement M
-hold-spec = tie.close (tie.spec returns (λ c. search needs) (λ c κs. search needs) add-put16 cast-put16 (λ c κs. search needs) move-record-requires (λ c. search needs) (λ c κs. search needs) clear-mark-requires add-t14 (λ c. search needs) cast-t27 sub-t28 (λ c. search needs) (λ c. search needs) (λ c. search needs) (λ c. search needs) returns-2)
+hold-spec =
+    tie.close
+    (tie.spec returns (λ c. search needs) (λ c κs. search needs) add-put16 cast-put16 (λ c κs. search needs) move-record-requires (λ c. search needs) (λ c κs. search needs) clear-mark-requires
+    add-t14 (λ c. search needs) cast-t27 sub-t28 (λ c. search needs) (λ c. search needs) (λ c. search needs) (λ c. search needs) returns-2)
