@@ -17,6 +17,7 @@ pub both : {xs ys zs front back : List ℕ} {i m r : ℕ} → Wrote xs ys i fron
 both {xs} {ys} {zs} {front} {back} {i} {m} {r} v w = record {
   buffer = w .buffer ∙ (rw (v .buffer, v .end, sets-append xs i front back) refl);
   end = w .end ∙ (rw (v .end, length-append front back) (omega arith));
+  fits = omega (arith, w .fits, v .size);
   size = w .size ∙ v .size;
 }
 

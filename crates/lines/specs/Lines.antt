@@ -2,7 +2,7 @@
 -- tag (hexadecimal), answer (0 or refusal), result (0 unless named above), all but the tag decimal."
 use mathlib.Core.Path.{_≡_, refl}
 use mathlib.Core.List.{List, [], _∷_, _++_}
-use Prim.Native.Nat.{ℕ, _+_, _/_, _%_}
+use Prim.Native.Nat.{ℕ, _+_, _/_, _%_, _≤_}
 use lib.Dec.{ltb}
 use lib.ListN.{length}
 use lib.Seq.{sets}
@@ -39,6 +39,7 @@ badField offset = text "bad field at " ++ decimal offset ++ text "\n"
 pub record Wrote (before after : List ℕ) (place : ℕ) (bytes : List ℕ) (r : ℕ) : Type 0 where
   pub buffer : after ≡ sets before place bytes
   pub end : r ≡ place + length bytes
+  pub fits : r ≤ length before
   pub size : length after ≡ length before
 
 -- the lines of the paper's worked example

@@ -47,7 +47,7 @@ returns c =
     let s : tie.Start Inv-loop μ-loop = search in
     let l : tie.At-loop Inv-loop μ-loop = search in
     let all : take (l .loop .k) (s .args .bytes .now) ≡ s .args .bytes .now = take-all (l .loop .k) (s .args .bytes .now) (omega arith) in
-    record { buffer = rw all at (l .loop .inv .2); end = omega arith; size = l .loop .inv .1 }
+    record { buffer = rw all at (l .loop .inv .2); end = omega arith; fits = omega arith; size = l .loop .inv .1 }
 
 pub text-spec : {M : Type 1} → statement M
 text-spec =
