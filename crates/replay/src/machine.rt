@@ -64,7 +64,9 @@ pub fn carry(
     images: &mut [u16; 6],
     used: &mut [u16; 1],
 ) -> Applied
-    ensures { λ r. ⌜ record { answer = r .answer; left = left (framesOf (r .frames) 2) (r .pool) records numbers accounts maps limits «frame_words» «free_queue» «removal_list» addresses states owners «free_map» active updating images used } ≡ carried (entered (framesOf (held .frames) 2) (held .pool) records numbers accounts maps limits «frame_words» «free_queue» «removal_list» addresses states owners «free_map» active updating images used) asked ⌝ }
+    ensures { λ r.
+        ⌜ record { answer = r .answer; left = left (framesOf (r .frames) 2) (r .pool) records numbers accounts maps limits «frame_words» «free_queue» «removal_list» addresses states owners «free_map» active updating images used }
+        ≡ carried (entered (framesOf (held .frames) 2) (held .pool) records numbers accounts maps limits «frame_words» «free_queue» «removal_list» addresses states owners «free_map» active updating images used) asked ⌝ }
 {
     let frames = held.frames;
     let pool = held.pool;
@@ -135,7 +137,9 @@ pub fn start(
     images: &mut [u16; 6],
     used: &mut [u16; 1],
 ) -> Applied
-    ensures { λ r. ⌜ record { answer = r .answer; left = left (framesOf (r .frames) 2) (r .pool) records numbers accounts maps limits «frame_words» «free_queue» «removal_list» addresses states owners «free_map» active updating images used } ≡ startedFrom (entered (framesOf (replicate 64 noFrame) 2) noPool records numbers accounts maps limits «frame_words» «free_queue» «removal_list» addresses states owners «free_map» active updating images used) ⌝ }
+    ensures { λ r.
+        ⌜ record { answer = r .answer; left = left (framesOf (r .frames) 2) (r .pool) records numbers accounts maps limits «frame_words» «free_queue» «removal_list» addresses states owners «free_map» active updating images used }
+        ≡ startedFrom (entered (framesOf (replicate 64 noFrame) 2) noPool records numbers accounts maps limits «frame_words» «free_queue» «removal_list» addresses states owners «free_map» active updating images used) ⌝ }
 {
     calls::format(sizes(), records, numbers, accounts, maps, limits);
     carry(

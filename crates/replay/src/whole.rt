@@ -46,7 +46,11 @@ pub fn whole_fields(
 ) -> Done
     requires { ⌜ 4096 ≤ length (now out) ⌝ }
     ensures { λ r. ⌜ isWhole (fieldAt (now (input .entry)) (r .place)) && room (r .size) (r .n) ≡ false ⌝ }
-    ensures { λ r. ⌜ Ran (now (input .entry)) (now (out .entry)) (now (out .exit)) from count (entered (framesOf (before .frames) 2) (before .pool) records numbers accounts maps limits «frame_words» «free_queue» «removal_list» addresses states owners «free_map» active updating images used) (r .place) (r .size) (r .n) (left (framesOf (r .held .frames) 2) (r .held .pool) records numbers accounts maps limits «frame_words» «free_queue» «removal_list» addresses states owners «free_map» active updating images used) ⌝ }
+    ensures { λ r.
+        ⌜ Ran (now (input .entry)) (now (out .entry)) (now (out .exit)) from count
+        (entered (framesOf (before .frames) 2) (before .pool) records numbers accounts maps limits «frame_words» «free_queue» «removal_list» addresses states owners «free_map» active updating images used)
+        (r .place) (r .size) (r .n)
+        (left (framesOf (r .held .frames) 2) (r .held .pool) records numbers accounts maps limits «frame_words» «free_queue» «removal_list» addresses states owners «free_map» active updating images used) ⌝ }
 {
     let mut held = before;
     let mut place = from;
