@@ -1,10 +1,16 @@
 // The input in pieces: what has come and is not used yet stands in a buffer.
 ghost use mathlib.Core.Path.{_≡_};
-ghost use Prim.Native.Nat.{_≤_};
-ghost use lib.ListN.{length};
+ghost use mathlib.Core.Bool.{false};
+ghost use mathlib.Core.List.{_++_};
+ghost use Prim.Native.Nat.{_-_, _≤_};
+ghost use lib.ListN.{length, take, drop};
+ghost use Rattle.fields.specs.Fields.{fieldAt};
+ghost use Rattle.replay.specs.Input.{past as Input·past, Refilled, cut as Input·cut, room, stepOf, follows};
 use fields::Field;
 use libc::STDIN_FILENO;
 use model::request::Request;
+
+const CUT: u32 = 16;
 
 // Where the reader stands: the next field at `place` of the buffer's first `filled` bytes, and at `offset` of the whole input.
 pub struct Reader {
@@ -14,25 +20,10 @@ pub struct Reader {
     pub ended: bool,
 }
 
-// What comes next.
-pub enum Next {
-    Event(Request),
-    Cut,
-    End,
-    Bad,
-}
-
-// What stands at the reader's place, and the reader past it; `more`: not all of it has come yet.
-pub struct Got {
-    pub next: Next,
-    pub more: bool,
-    pub reader: Reader,
-}
-
 impl Reader {
     // At the start of the input, nothing read yet.
     pub fn new() -> Self
-        ensures { λ r. ⌜ (r .place ≡ 0) × (r .filled ≡ 0) ⌝ }
+        ensures { λ r. ⌜ r ≡ record { place = 0; filled = 0; offset = 0; ended = false } ⌝ }
     {
         Self {
             place: 0,
@@ -42,16 +33,15 @@ impl Reader {
         }
     }
 
-    // Past a field that ends at `to`.
-    fn past(self, to: usize) -> Self
-        requires { ⌜ to ≤ self .filled ⌝ }
-        ensures { λ r. ⌜ (r .place ≤ r .filled) × (r .filled ≡ self .filled) ⌝ }
+    // Past what ends at `to`.
+    pub fn past(self, to: usize) -> Self
+        requires { ⌜ self .place ≤ to ⌝ }
+        ensures { λ r. ⌜ r ≡ Input·past self to ⌝ }
     {
-        let step = if self.place < to { to - self.place } else { 0 };
         Self {
             place: to,
             filled: self.filled,
-            offset: std::num::wrapping_add_u64(self.offset, step as u64),
+            offset: std::num::wrapping_add_u64(self.offset, (to - self.place) as u64),
             ended: self.ended,
         }
     }
@@ -60,6 +50,7 @@ impl Reader {
 // The bytes from `from` up to `end` go to the front.
 fn shift(buffer: &mut [u8], from: usize, end: usize)
     requires { ⌜ (from ≤ end) × (end ≤ length (now buffer)) ⌝ }
+    ensures { λ _. ⌜ now (buffer .exit) ≡ take (end - from) (drop from (now (buffer .entry))) ++ drop (end - from) (now (buffer .entry)) ⌝ }
 {
     let mut k = from;
     while k < end {
@@ -69,9 +60,9 @@ fn shift(buffer: &mut [u8], from: usize, end: usize)
 }
 
 // Reads once behind what is left.
-fn refill(buffer: &mut [u8], reader: Reader) -> Reader
+pub fn refill(buffer: &mut [u8], reader: Reader) -> Reader
     requires { ⌜ (reader .place ≤ reader .filled) × (reader .filled ≤ length (now buffer)) ⌝ }
-    ensures { λ r. ⌜ (r .place ≤ r .filled) × (r .filled ≤ length (now (buffer .exit))) ⌝ }
+    ensures { λ r. ⌜ Refilled (now (buffer .entry)) (now (buffer .exit)) reader r ⌝ }
 {
     let from = reader.place;
     let end = reader.filled;
@@ -87,54 +78,80 @@ fn refill(buffer: &mut [u8], reader: Reader) -> Reader
     }
 }
 
-// The field at the reader's place.
-fn here(buffer: &[u8], reader: Reader) -> Got
-    requires { ⌜ (reader .place ≤ reader .filled) × (reader .filled ≤ length (now buffer)) ⌝ }
-    ensures { λ r. ⌜ (r .reader .place ≤ r .reader .filled) × (r .reader .filled ≤ length (now (buffer .entry))) ⌝ }
+// The request that stands for a cut and a restart; it has no values.
+pub fn cut() -> Request
+    ensures { λ r. ⌜ r ≡ Input·cut ⌝ }
 {
-    let filled = reader.filled;
-    let place = reader.place;
-    let waits = !reader.ended;
-    match fields::field_at(&buffer[..filled], place) {
-        Field::Whole { request, next } => Got {
-            next: Next::Event(request),
-            more: false,
-            reader: reader.past(next),
+    Request {
+        kind: CUT,
+        first: 0,
+        second: 0,
+        third: 0,
+        fourth: 0,
+    }
+}
+
+// What a field asks for, where the next one starts, and whether it is whole and its line has room.
+pub struct Step {
+    pub asked: Request,
+    pub next: usize,
+    pub whole: bool,
+}
+
+// The field at a place, where n events are done and their lines take `size` bytes.
+pub fn step_at(input: &[u8], place: usize, size: usize, n: u64) -> Step
+    ensures { λ r. ⌜ r ≡ stepOf (fieldAt (now (input .entry)) place) (room size n) ⌝ }
+{
+    let room = (size <= 4050) & (n < u64::MAX);
+    match fields::field_at(input, place) {
+        Field::End => Step {
+            asked: cut(),
+            next: 0,
+            whole: false,
         },
-        Field::Cut { next } => Got {
-            next: Next::Cut,
-            more: false,
-            reader: reader.past(next),
+        Field::Whole { request, next } => Step {
+            asked: request,
+            next,
+            whole: room,
         },
-        Field::End => Got {
-            next: Next::End,
-            more: waits,
-            reader,
+        Field::Cut { next } => Step {
+            asked: cut(),
+            next,
+            whole: room,
         },
-        Field::Short => Got {
-            next: Next::Bad,
-            more: waits,
-            reader,
+        Field::Short => Step {
+            asked: cut(),
+            next: 0,
+            whole: false,
         },
-        Field::Wrong => Got {
-            next: Next::Bad,
-            more: false,
-            reader,
+        Field::Wrong => Step {
+            asked: cut(),
+            next: 0,
+            whole: false,
         },
     }
 }
 
-// The next field, after as many reads as it takes.
-pub fn next_field(buffer: &mut [u8; 4096], reader: Reader) -> Got
-    requires { ⌜ (reader .place ≤ reader .filled) × (reader .filled ≤ 4096) ⌝ }
-    ensures { λ r. ⌜ (r .reader .place ≤ r .reader .filled) × (r .reader .filled ≤ 4096) ⌝ }
+// What comes next: a whole field, or more input, or the end, or a bad field.
+pub enum Next {
+    Again,
+    More,
+    Stop,
+    Bad,
+}
+
+// By the field at a place, where the input may have ended.
+pub fn next_at(input: &[u8], place: usize, ended: bool) -> Next
+    ensures { λ r. ⌜ r ≡ follows ended (fieldAt (now (input .entry)) place) ⌝ }
 {
-    let mut got = here(buffer, reader);
-    let mut turns = u64::MAX;
-    while turns > 0 && got.more {
-        let again = refill(buffer, got.reader);
-        got = here(buffer, again);
-        turns -= 1;
+    match fields::field_at(input, place) {
+        Field::End => if ended { Next::Stop } else { Next::More },
+        Field::Whole {
+            request: _,
+            next: _,
+        } => Next::Again,
+        Field::Cut { next: _ } => Next::Again,
+        Field::Short => if ended { Next::Bad } else { Next::More },
+        Field::Wrong => Next::Bad,
     }
-    got
 }

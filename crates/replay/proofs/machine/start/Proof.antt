@@ -1,0 +1,20 @@
+-- `start` meets its contract: format's disk, then the restart.
+use borrow.Author.Needs.{needs}
+use Rattle.replay.proofs.Carried.{by-start}
+use Rattle.replay.proofs.machine.start.Statement.{statement}
+use Rattle.replay.proofs.machine.start.Tie as tie
+
+-- the place before the call
+abbrev blanked : tie.After-carry-arg16 → tie.After-blank
+blanked c = search
+
+returns : tie.Need-returns
+returns c =
+    let b = blanked (c .before) in
+    let k = b .before in
+    let f = k .before in
+    let z = f .before .before .before .before .before .before in
+    by-start _ _ (z .sizes .ensures) (f .format .ensures) (k .cut .ensures) (rw (b .blank .ensures) at (c .carry .ensures))
+
+pub start-spec : {M : Type 1} → statement M
+start-spec = tie.close (tie.spec (λ c κs. search needs) (λ c κs. search needs) (λ c κs. search needs) (λ c κs. search needs) (λ c κs. search needs) returns)

@@ -1,0 +1,3 @@
+-- What the event program reads and prints.
+pub mod Input
+pub mod Output
