@@ -16,6 +16,7 @@ use Rattle.model.specs.declared.event.Event.the-variants as Event
 use Rattle.model.specs.declared.event.Page.the-variants as Page
 use Rattle.model.specs.Lines.{LIVE}
 use Rattle.model.specs.State.{State, files, pageOf, live, payer, framed}
+use Rattle.model.specs.Lent.{Table}
 use Rattle.model.specs.Parts.{pick}
 use Rattle.model.specs.Questions.{questions}
 use Rattle.model.specs.Own.{own}
@@ -77,3 +78,8 @@ pub record FaultLeft (z : Sizes) (st : State) (s p : ℕ) (fs : List Frame) (poo
   pub free : pool .free ≡ if (takes z st s p) (st .memory .held .pool .free - 1) (st .memory .held .pool .free)
   pub map-left : map ≡ if (takes z st s p) (cleared (st .memory .held .free-map) (taken z st s p)) (st .memory .held .free-map)
   pub used-left : used ≡ if (charges z st s p) (charged1 (st .memory .used) (payer (files st) s)) (st .memory .used)
+
+-- .. by bare names
+abbrev pub Left : Sizes → State → ℕ → ℕ → List Frame → Pool → Table → Table → Table → Table → Table → Table → Table → Table → Type 0
+Left z st s p fs pool words queue list addresses states owners map used =
+    FaultLeft z st s p fs pool (words .exit .now) (queue .exit .now) (list .exit .now) (addresses .exit .now) (states .exit .now) (owners .exit .now) (map .exit .now) (used .exit .now)

@@ -28,3 +28,9 @@ seenFault frames pool numbers accounts limits words queue list addresses states 
     (onCore (λ c. setFrames frames (setWords words (setFreeQueue queue (setRemovalList list c))))
     (onHeld (λ h. setAddresses addresses (setStates states (setOwners owners (setFreeMap map (setHand (pool .hand) (setFree (pool .free) h))))))
     (onSlots (setActive active) (setUsed used noState))))
+
+-- .. as it is passed them, by bare names
+abbrev pub enteredFault : List Frame → Pool → Table → Table → Table → Table → Table → Table → Table → Table → Table → Table → Table → Table → State
+enteredFault frames pool numbers accounts limits words queue list addresses states owners map active used =
+    seenFault frames pool (numbers .entry .now) (accounts .entry .now) (limits .entry .now) (words .entry .now) (queue .entry .now) (list .entry .now) (addresses .entry .now)
+    (states .entry .now) (owners .entry .now) (map .entry .now) (active .entry .now) (used .entry .now)

@@ -10,10 +10,10 @@ ghost use Rattle.model.specs.declared.event.Event.the-variants as Event;
 ghost use Rattle.model.specs.declared.event.Page.the-variants as Page;
 ghost use Rattle.model.specs.State.{pageOf};
 ghost use Rattle.model.specs.Own.{own};
-ghost use Rattle.pages.specs.Seen.{seenFault};
+ghost use Rattle.pages.specs.Seen.{enteredFault};
 ghost use Rattle.leaves.specs.Asks.{slotAsked};
 ghost use Rattle.pages.specs.Needs.{Seats, Pooled, Queued};
-ghost use Rattle.pages.specs.Faults.{awayAsked, supplyAsked, FaultLeft};
+ghost use Rattle.pages.specs.Faults.{awayAsked, supplyAsked, Left};
 use crate::asks::page_of;
 use crate::supply::ask_away;
 use crate::supply::ask_supply;
@@ -49,7 +49,8 @@ pub fn ask_fault(
     free_queue: &[u16],
 ) -> u32
     requires { ⌜ Seats sizes (take (sizes .frames) frames) × ((«in_range» ≡ true) → (slot < sizes .slots) × (page < sizes .pages)) ⌝ }
-    ensures { λ r. ⌜ r ≡ firstNo (slotAsked «in_range» slot (now (numbers .entry)) (now (active .entry)) also awayAsked sizes (take (sizes .frames) frames) (pageOf sizes slot page) also supplyAsked (pageOf sizes slot page) (now (addresses .entry)) (now (states .entry)) (at (now (used .entry)) (at (now (accounts .entry)) slot)) (at (now (limits .entry)) (at (now (accounts .entry)) slot)) free (now («free_queue» .entry))) ⌝ }
+    ensures { λ r. ⌜ r ≡ firstNo (slotAsked «in_range» slot (now (numbers .entry)) (now (active .entry)) also awayAsked sizes (take (sizes .frames) frames) (pageOf sizes slot page) also
+        supplyAsked (pageOf sizes slot page) (now (addresses .entry)) (now (states .entry)) (at (now (used .entry)) (at (now (accounts .entry)) slot)) (at (now (limits .entry)) (at (now (accounts .entry)) slot)) free (now («free_queue» .entry))) ⌝ }
 {
     let no = ask_slot(in_range, slot, numbers, active);
     if no != 0 {
@@ -87,8 +88,8 @@ pub fn fault(
     used: &mut [u16],
 ) -> Applied
     requires { ⌜ Seats sizes (take (sizes .frames) frames) × Queued sizes (now «free_queue») (now «removal_list») × (length (now words) ≡ sizes .frames * sizes .words) × Pooled sizes pool (now states) (now «free_map») ⌝ }
-    ensures answer { λ r. ⌜ r .answer ≡ own sizes (seenFault (take (sizes .frames) frames) pool (now (numbers .entry)) (now (accounts .entry)) (now (limits .entry)) (now (words .entry)) (now («free_queue» .entry)) (now («removal_list» .entry)) (now (addresses .entry)) (now (states .entry)) (now (owners .entry)) (now («free_map» .entry)) (now (active .entry)) (now (used .entry))) (Event.Page (Page.Fault slot page)) .answer ⌝ }
-    ensures left { λ r. ⌜ FaultLeft sizes (seenFault (take (sizes .frames) frames) pool (now (numbers .entry)) (now (accounts .entry)) (now (limits .entry)) (now (words .entry)) (now («free_queue» .entry)) (now («removal_list» .entry)) (now (addresses .entry)) (now (states .entry)) (now (owners .entry)) (now («free_map» .entry)) (now (active .entry)) (now (used .entry))) slot page (take (sizes .frames) (r .frames)) (r .pool) (now (words .exit)) (now («free_queue» .exit)) (now («removal_list» .exit)) (now (addresses .exit)) (now (states .exit)) (now (owners .exit)) (now («free_map» .exit)) (now (used .exit)) ⌝ }
+    ensures answer { λ r. ⌜ r .answer ≡ own sizes (enteredFault (take (sizes .frames) frames) pool numbers accounts limits words «free_queue» «removal_list» addresses states owners «free_map» active used) (Event.Page (Page.Fault slot page)) .answer ⌝ }
+    ensures left { λ r. ⌜ Left sizes (enteredFault (take (sizes .frames) frames) pool numbers accounts limits words «free_queue» «removal_list» addresses states owners «free_map» active used) slot page (take (sizes .frames) (r .frames)) (r .pool) words «free_queue» «removal_list» addresses states owners «free_map» used ⌝ }
 {
     let in_range = (slot < sizes.slots) & (page < sizes.pages);
     let refusal = ask_fault(

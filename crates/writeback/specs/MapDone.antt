@@ -12,7 +12,7 @@ use Rattle.model.specs.declared.event.Event.the-variants as Event
 use Rattle.model.specs.declared.event.Writeback.the-variants.{MapDone}
 use Rattle.model.specs.State.{State, allPages, freeCount}
 use Rattle.model.specs.Step.{Outcome}
-use Rattle.model.specs.Lent.{stateOf, noPool}
+use Rattle.model.specs.Lent.{Table, stateOf, noPool}
 use Rattle.leaves.specs.FreeMap.{freeMap}
 
 abbrev pub mapDone : ℕ → ℕ → Event
@@ -49,3 +49,12 @@ pub record MapLeft (o : Outcome State) (p : Pool) (a : Answer) (ms ss os fm us i
   pub free-map : fm ≡ o .left .memory .held .free-map
   pub updating : us ≡ o .left .memory .slots .updating
   pub images : is ≡ o .left .memory .slots .images
+
+-- what map done is passed and leaves, by bare names
+abbrev pub entered : Pool → Table → Table → Table → Table → Table → Table → Table → Table → State
+entered pool numbers maps states owners free-map active updating images =
+    seen pool (numbers .entry .now) (maps .entry .now) (states .entry .now) (owners .entry .now) (free-map .entry .now) (active .entry .now) (updating .entry .now) (images .entry .now)
+
+abbrev pub Left : Outcome State → Pool → Answer → Table → Table → Table → Table → Table → Table → Type 0
+Left o pool answer maps states owners free-map updating images =
+    MapLeft o pool answer (maps .exit .now) (states .exit .now) (owners .exit .now) (free-map .exit .now) (updating .exit .now) (images .exit .now)

@@ -7,7 +7,7 @@ ghost use Rattle.tables.specs.Rule.{same, non, each, named, test};
 ghost use Rattle.model.specs.Lines.{LEAVING};
 ghost use Rattle.model.specs.Questions.{questions};
 ghost use Rattle.model.specs.Own.{own};
-ghost use Rattle.writeback.specs.MapDone.{mapDone, asked, seen, MapReady, MapLeft};
+ghost use Rattle.writeback.specs.MapDone.{mapDone, asked, entered, MapReady, Left};
 use leaves::cells::at8;
 use leaves::cells::at16;
 use leaves::cells::at32;
@@ -99,7 +99,7 @@ pub fn map_done(
     images: &mut [u16],
 ) -> Freed
     requires { ⌜ MapReady sizes pool (now maps) (now states) (now owners) (now «free_map») (now images) ⌝ }
-    ensures { λ r. ⌜ MapLeft (own sizes (seen pool (now (numbers .entry)) (now (maps .entry)) (now (states .entry)) (now (owners .entry)) (now («free_map» .entry)) (now (active .entry)) (now (updating .entry)) (now (images .entry))) (mapDone slot good)) (r .pool) (r .answer) (now (maps .exit)) (now (states .exit)) (now (owners .exit)) (now («free_map» .exit)) (now (updating .exit)) (now (images .exit)) ⌝ }
+    ensures { λ r. ⌜ Left (own sizes (entered pool numbers maps states owners «free_map» active updating images) (mapDone slot good)) (r .pool) (r .answer) maps states owners «free_map» updating images ⌝ }
 {
     let refusal = ask_map_done(sizes, slot, good, numbers, states, active, updating, images);
     if refusal != 0 {
