@@ -75,19 +75,45 @@ static void deactivate(struct keeper *k, size_t slot)
     m->active.at[slot] = 0;
 }
 
+static int is_free(const struct keeper *k, size_t record)
+{
+    return k->memory.free_map.at[record / 32] >> (record % 32) & 1;
+}
+
 /* The first free record counting up from the hand. */
-static size_t pick(const struct keeper *k)
+static size_t pick_by_hand(const struct keeper *k)
 {
     size_t record = k->memory.pool->hand;
-    while (!(k->memory.free_map.at[record / 32] >> (record % 32) & 1))
+    while (!is_free(k, record))
         record = record + 1 == k->sizes.records ? 0 : record + 1;
     return record;
+}
+
+/* The free record nearest to one that is held, of two equally near the lower. */
+static size_t pick_near(const struct keeper *k, size_t held)
+{
+    for (size_t distance = 1;; distance++) {
+        if (distance <= held && is_free(k, held - distance))
+            return held - distance;
+        if (held + distance < k->sizes.records && is_free(k, held + distance))
+            return held + distance;
+    }
+}
+
+/* Near the closest lower page of the design that has a record, or by the hand. */
+static size_t pick(const struct keeper *k, size_t page)
+{
+    size_t first = page - page % k->sizes.pages;
+    while (page > first)
+        if (k->memory.addresses.at[--page] != 0)
+            return pick_near(k, k->memory.addresses.at[page] - 1u);
+    return pick_by_hand(k);
 }
 
 static void take_record(struct keeper *k, size_t page)
 {
     struct memory *m = &k->memory;
-    size_t record = pick(k);
+    size_t record = pick(k, page);
     m->free_map.at[record / 32] &= ~(UINT32_C(1) << (record % 32));
     m->pool->free--;
     m->pool->hand = (uint32_t)((record + 1) % k->sizes.records);

@@ -170,15 +170,15 @@ module _ (z : Sizes) (s p : ℕ) (st : State) (l : Ledger) (b : Before z st l (E
   -- the first free record is taken
   module _ (none : address i₀ ≡ 0) where
     abbrev r₀ : ℕ
-    r₀ = pick z state (st .memory .held .pool .hand)
+    r₀ = pick z address state (st .memory .held .pool .hand) i₀
 
     below : r₀ < z .records
-    below = pick-below z state (st .memory .held .pool .hand) (b .fit .sizes .records)
+    below = pick-below z address state (st .memory .held .pool .hand) i₀ (b .fit .sizes .records)
 
     free : state r₀ ≡ FREE
     unfolding freeCount
     free = let t = count-some (z .records) (λ r. eqb (state r) FREE) (elim (b .asked .1 .1 .1 .1 .1 .1 .0) [ inl x ↦ absurd (x none) | inr x ↦ rw (← b .ruled .counts .free) x ]) in
-        pick-free z state (st .memory .held .pool .hand) (t .0) (t .1) (b .ruled .counts .hand) (eqb→eq _ _ (t .2))
+        pick-free z address state (st .memory .held .pool .hand) i₀ (t .0) (t .1) (b .ruled .counts .hand) (eqb→eq _ _ (t .2))
 
     address-split : (i : ℕ) → Split (i ≡ i₀) (at (set (st .memory .held .addresses) i₀ (suc r₀)) i) (suc r₀) (address i)
     address-split i = split-set (st .memory .held .addresses) i₀ (suc r₀) i (rw (b .fit .memory .addresses) within)

@@ -153,10 +153,10 @@ module _ (z : Sizes) (st : State) (k : Kept z st) where
         r = taken z st s p
 
         was-free : at (held .states) r ≡ FREE
-        was-free = chosen-free z (held .pool) (held .states) (held .free-map) (k .fits .sizes) pooled-ready some
+        was-free = chosen-free z (held .pool) (held .addresses) (held .states) (held .free-map) (pageOf z s p) (k .fits .sizes) pooled-ready some
 
         below : r < z .records
-        below = chosen-below z (held .pool) (held .states) (held .free-map) (k .fits .sizes) pooled-ready
+        below = chosen-below z (held .pool) (held .addresses) (held .states) (held .free-map) (pageOf z s p) (k .fits .sizes) pooled-ready
 
         abbrev new : List ℕ
         new = set (held .states) r NULLED

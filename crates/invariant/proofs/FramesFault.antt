@@ -144,17 +144,17 @@ module _ (z : Sizes) (st : State) (f : Fit z st) (r : Ruled z st) where
         nulled = getD-set-same (st .memory .held .states) q NULLED 0 (rw (f .memory .states) lq)
 
   -- a free record is found where one is counted
-  found-free : 0 < st .memory .held .pool .free → files st .state (pick z (files st .state) (st .memory .held .pool .hand)) ≡ FREE
+  found-free : (i : ℕ) → 0 < st .memory .held .pool .free → files st .state (pick z (files st .address) (files st .state) (st .memory .held .pool .hand) i) ≡ FREE
   unfolding freeCount
-  found-free h =
+  found-free i h =
       let c = count-some (z .records) (λ q. eqb (files st .state q) FREE) (rw (r .counts .free) at h) in
-      pick-free z (files st .state) (st .memory .held .pool .hand) (c .0) (c .1) (r .counts .hand) (eqb→eq _ _ (c .2))
+      pick-free z (files st .address) (files st .state) (st .memory .held .pool .hand) i (c .0) (c .1) (r .counts .hand) (eqb→eq _ _ (c .2))
 
   pub fault-frames : (s p : ℕ) → Asked (questions z st (Event.Page (Fault s p))) → Framed z (Pages.fault z st s p)
   unfolding Pages.fault faultFrame
   fault-frames s p a = counted-framed z _ (if-elim (Framing z) (test (live (files st) i)) _ _ (λ t. begin-read some i fit active away (sound (live (files st) i) t))
       (λ t. if-elim (Framing z) (test (same (files st .address i) 0)) _ _
-      (λ u. serve-new some i fit active away (pick z (files st .state) (st .memory .held .pool .hand)) (pick-below z (files st .state) (st .memory .held .pool .hand) (f .sizes .records)) (taken (sound (same (files st .address i) 0) u)))
+      (λ u. serve-new some i fit active away (pick z (files st .address) (files st .state) (st .memory .held .pool .hand) i) (pick-below z (files st .address) (files st .state) (st .memory .held .pool .hand) i (f .sizes .records)) (taken (sound (same (files st .address i) 0) u)))
       (λ u. serve-held some i fit active away (λ l. T-not (test (live (files st) i)) t (complete (live (files st) i) l)) (λ e. T-not (test (same (files st .address i) 0)) u (complete (same (files st .address i) 0) e)))))
     where
       i : ℕ
@@ -172,5 +172,5 @@ module _ (z : Sizes) (st : State) (f : Fit z st) (r : Ruled z st) where
       some : 0 < size (st .memory .core .free-queue)
       some = a .1 .1 .1 .1 .1 .1 .1 .0
 
-      taken : files st .address i ≡ 0 → files st .state (pick z (files st .state) (st .memory .held .pool .hand)) ≡ FREE
-      taken e = elim (a .1 .1 .1 .1 .1 .1 .0) [ inl x ↦ absurd (x e) | inr x ↦ found-free x ]
+      taken : files st .address i ≡ 0 → files st .state (pick z (files st .address) (files st .state) (st .memory .held .pool .hand) i) ≡ FREE
+      taken e = elim (a .1 .1 .1 .1 .1 .1 .0) [ inl x ↦ absurd (x e) | inr x ↦ found-free i x ]

@@ -83,14 +83,14 @@ module _ (z : Sizes) (st : State) (f : Fit z st) (r : Ruled z st) where
       g = Pages.faultFrame st
 
       q : ℕ
-      q = pick z (v .state) (st .memory .held .pool .hand)
+      q = pick z (v .address) (v .state) (st .memory .held .pool .hand) i
 
       take : v .address i ≡ 0 → Done z st (Pages.takeRecord z st i q)
       take e = elim (a .1 .1 .1 .1 .1 .1 .0) [
         | inl n ↦ absurd (n e)
         | inr n ↦ let t = a-free-record n in
-            free-kept z st f r i q (page-below z (f .sizes .pages) s p (a .0 .0) (a .0 .1)) (pick-below z (v .state) (st .memory .held .pool .hand) (f .sizes .records))
-            (subst (λ (m : ℕ). v .active m ≡ 1) (sym (slot-of-page z (f .sizes .pages) s p (a .0 .1))) (a .1 .1 .0)) e (pick-free z (v .state) (st .memory .held .pool .hand) (t .0) (t .1) (r .counts .hand) (t .2))
+            free-kept z st f r i q (page-below z (f .sizes .pages) s p (a .0 .0) (a .0 .1)) (pick-below z (v .address) (v .state) (st .memory .held .pool .hand) i (f .sizes .records))
+            (subst (λ (m : ℕ). v .active m ≡ 1) (sym (slot-of-page z (f .sizes .pages) s p (a .0 .1))) (a .1 .1 .0)) e (pick-free z (v .address) (v .state) (st .memory .held .pool .hand) i (t .0) (t .1) (r .counts .hand) (t .2))
       ]
 
   pub fault-records : (s p : ℕ) → Asked (questions z st (Event.Page (Fault s p))) → Kept z (Pages.fault z st s p)

@@ -1,8 +1,8 @@
 -- The free map: a record's bit, what the map tells of the states, and the map once one record's state has changed.
-use mathlib.Core.Path.{_≡_, ap, sym, _∙_}
+use mathlib.Core.Path.{_≡_, refl, ap, sym, _∙_}
 use mathlib.Core.Bool.{Bool, _&&_}
 use mathlib.Core.List.{List}
-use Prim.Native.Nat.{ℕ, _+_, _-_, _*_, _/_, _%_, _^_, _<_}
+use Prim.Native.Nat.{ℕ, zero, suc, _+_, _-_, _*_, _/_, _%_, _^_, _<_, _≤_}
 use native.Mathlib.Omega.{arith}
 use lib.Dec.{eqb, ltb, eqb→eq}
 use lib.ListN.{length, set}
@@ -17,10 +17,17 @@ use Rattle.tables.specs.BitLaws.{bit-bits, bits-same, bits-set, bits-clear}
 use Rattle.model.specs.declared.sizes.Sizes.{Sizes}
 use Rattle.model.specs.Lines.{FREE}
 use Rattle.model.specs.State.{mapWords, freeWord}
+use Rattle.model.specs.Parts.{isFree}
 
 -- the states as the map tells them: FREE where the bit is on
 abbrev pub toldBy : List ℕ → ℕ → ℕ
 toldBy map r = 1 - bitOf map r
+
+-- a bit is on where the map tells FREE
+pub on-free : (b : ℕ) → b ≤ 1 → eqb b 1 ≡ eqb (1 - b) FREE
+on-free zero h = refl
+on-free (suc zero) h = refl
+on-free (suc (suc b)) h = absurd (omega arith)
 
 -- the free map of these states
 abbrev pub freeMap : Sizes → (ℕ → ℕ) → List ℕ
@@ -29,9 +36,6 @@ freeMap z state = tab (mapWords z) (freeWord z state) 0
 -- a map whose words agree with the states is that map
 pub free-map : (z : Sizes) (state : ℕ → ℕ) (map : List ℕ) → length map ≡ mapWords z → ((k : ℕ) → k < mapWords z → at map k ≡ freeWord z state k) → map ≡ freeMap z state
 free-map z state map e f = tab-entries (mapWords z) (freeWord z state) map e f
-
-abbrev pub isFree : Sizes → (ℕ → ℕ) → ℕ → Bool
-isFree z state r = ltb r (z .records) && eqb (state r) FREE
 
 module _ (z : Sizes) (r : ℕ) (inside : r < z .records) where
   pub word-inside : r / 32 < mapWords z

@@ -5,5 +5,6 @@ pub mod Counts
 pub mod FrameLaws
 pub mod FreeMap
 pub mod Freed
+pub mod Near
 pub mod Picks
 pub mod Released

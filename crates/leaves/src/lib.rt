@@ -4,6 +4,7 @@ pub mod asks; // the questions that begin every event about a slot
 pub mod cells; // one entry
 pub mod frames; // frames by value
 pub mod marks; // one bit a number
+pub mod near; // the choice of a record near another
 pub mod pool; // the choice of a free record
 pub mod queue; // the free queue and the removal list
 pub mod records; // leaving records become free

@@ -4,7 +4,7 @@ ghost use Prim.Native.Nat.{_-_, _*_, _<_, _≤_};
 ghost use lib.Dec.{eqb};
 ghost use lib.ListN.{length};
 ghost use Rattle.tables.specs.Base.{find};
-ghost use Rattle.model.specs.Parts.{pick};
+ghost use Rattle.model.specs.Parts.{byHand};
 ghost use Rattle.tables.specs.Marks.{bitOf};
 ghost use Rattle.leaves.specs.FreeMap.{toldBy};
 use model::sizes::Sizes;
@@ -30,9 +30,9 @@ fn find_free(map: &[u32], from: usize, to: usize) -> usize
 }
 
 // The first free record counting up from the hand; after the last comes 0.
-pub fn pick(sizes: Sizes, map: &[u32], hand: usize) -> usize
+pub fn by_hand(sizes: Sizes, map: &[u32], hand: usize) -> usize
     requires { ⌜ (sizes .records ≤ 32 * length (now map)) × (hand < sizes .records) × (sizes .records < 65536) ⌝ }
-    ensures { λ r. ⌜ r ≡ pick sizes (toldBy (now (map .entry))) hand ⌝ }
+    ensures { λ r. ⌜ r ≡ byHand sizes (toldBy (now (map .entry))) hand ⌝ }
 {
     let records = sizes.records;
     let high = find_free(map, hand, records);

@@ -11,6 +11,8 @@ pub mod Questions
 pub mod Parts
 pub mod Index
 pub mod Choice
+pub mod Nearest
+pub mod NearEdges
 pub mod Designs
 pub mod Pages
 pub mod Writeback

@@ -72,5 +72,5 @@ fault z st s p =
     let i = pageOf z s p in let f = faultFrame st in let v = files st in
     counted z
     (if (test (live v i)) (beginRead z st i f)
-    (if (test (same (v .address i) 0)) (serveZeros z (takeRecord z st i (pick z (v .state) (st .memory .held .pool .hand))) i f)
+    (if (test (same (v .address i) 0)) (serveZeros z (takeRecord z st i (pick z (v .address) (v .state) (st .memory .held .pool .hand) i)) i f)
     (serveZeros z st i f)))

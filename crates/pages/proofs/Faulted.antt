@@ -153,14 +153,14 @@ module _ {z : Sizes} {fs : List Frame} {pool : Pool} {numbers accounts limits wo
 
       pub fault-done : (pos : 0 < z .pages) (gs : List Frame) (pool' : Pool) (words' queue' list' addresses' states' owners' map' used' : List ℕ) (k : ℕ) → k ≡ at accounts s
           → gs ≡ set fs f (if (eqb w 2) (awaiting j) (fresh j))
-          → pool' ≡ if (eqb w 0) (record { hand = suc (pick z (at states) (pool .hand)) % z .records; free = pool .free - 1 }) pool
+          → pool' ≡ if (eqb w 0) (record { hand = suc (pick z (at addresses) (at states) (pool .hand) j) % z .records; free = pool .free - 1 }) pool
           → words' ≡ if (eqb w 2) words (setPart z f (λ x. 0) words)
           → queue' ≡ pop queue
           → list' ≡ if (eqb w 2) list (push-front list f)
-          → addresses' ≡ if (eqb w 0) (set addresses j (suc (pick z (at states) (pool .hand)))) addresses
-          → states' ≡ if (eqb w 0) (set states (pick z (at states) (pool .hand)) NULLED) states
-          → owners' ≡ if (eqb w 0) (set owners (pick z (at states) (pool .hand)) s) owners
-          → map' ≡ if (eqb w 0) (cleared map (pick z (at states) (pool .hand))) map
+          → addresses' ≡ if (eqb w 0) (set addresses j (suc (pick z (at addresses) (at states) (pool .hand) j))) addresses
+          → states' ≡ if (eqb w 0) (set states (pick z (at addresses) (at states) (pool .hand) j) NULLED) states
+          → owners' ≡ if (eqb w 0) (set owners (pick z (at addresses) (at states) (pool .hand) j) s) owners
+          → map' ≡ if (eqb w 0) (cleared map (pick z (at addresses) (at states) (pool .hand) j)) map
           → used' ≡ if (eqb w 2) used (charged1 used k)
           → FaultLeft z st s p (take (z .frames) gs) pool' words' queue' list' addresses' states' owners' map' used'
       unfolding carried payer
@@ -169,12 +169,12 @@ module _ {z : Sizes} {fs : List Frame} {pool : Pool} {numbers accounts limits wo
         words-left = ewo ∙ (λ t. if (eqb (its t) 2) words (setPart z (ef t) (λ x. 0) words)) ∙ sym (fault-words z st s p) ∙ (λ t. y t .left .memory .core .words);
         queue-left = eq ∙ sym (fault-queue z st s p) ∙ (λ t. y t .left .memory .core .free-queue);
         list-left = el ∙ (λ t. if (eqb (its t) 2) list (push-front list (ef t))) ∙ sym (fault-list z st s p) ∙ (λ t. y t .left .memory .core .removal-list);
-        addresses-left = ea ∙ (λ t. if (eqb (its t) 0) (set addresses (ej t) (suc (pick z (at states) (pool .hand)))) addresses) ∙ sym (fault-addresses z st s p) ∙ (λ t. y t .left .memory .held .addresses);
-        states-left = es ∙ (λ t. if (eqb (its t) 0) (set states (pick z (at states) (pool .hand)) NULLED) states) ∙ sym (fault-states z st s p) ∙ (λ t. y t .left .memory .held .states);
-        owners-left = eo ∙ (λ t. if (eqb (its t) 0) (set owners (pick z (at states) (pool .hand)) (slot t)) owners) ∙ sym (fault-owners z st s p) ∙ (λ t. y t .left .memory .held .owners);
-        hand = ap (λ (x : Pool). x .hand) ep ∙ if-pool (eqb w 0) _ pool ∙ (λ t. if (eqb (its t) 0) (suc (pick z (at states) (pool .hand)) % z .records) (pool .hand)) ∙ sym (fault-hand z st s p) ∙ (λ t. y t .left .memory .held .pool .hand);
+        addresses-left = ea ∙ (λ t. if (eqb (its t) 0) (set addresses (ej t) (suc (pick z (at addresses) (at states) (pool .hand) (ej t)))) addresses) ∙ sym (fault-addresses z st s p) ∙ (λ t. y t .left .memory .held .addresses);
+        states-left = es ∙ (λ t. if (eqb (its t) 0) (set states (pick z (at addresses) (at states) (pool .hand) (ej t)) NULLED) states) ∙ sym (fault-states z st s p) ∙ (λ t. y t .left .memory .held .states);
+        owners-left = eo ∙ (λ t. if (eqb (its t) 0) (set owners (pick z (at addresses) (at states) (pool .hand) (ej t)) (slot t)) owners) ∙ sym (fault-owners z st s p) ∙ (λ t. y t .left .memory .held .owners);
+        hand = ap (λ (x : Pool). x .hand) ep ∙ if-pool (eqb w 0) _ pool ∙ (λ t. if (eqb (its t) 0) (suc (pick z (at addresses) (at states) (pool .hand) (ej t)) % z .records) (pool .hand)) ∙ sym (fault-hand z st s p) ∙ (λ t. y t .left .memory .held .pool .hand);
         free = ap (λ (x : Pool). x .free) ep ∙ if-free (eqb w 0) _ pool ∙ (λ t. if (none t) (pool .free - 1) (pool .free)) ∙ if-also (goes z st s p) (test (same (at addresses i) 0)) (pool .free - 1) (pool .free) going;
-        map-left = em ∙ (λ t. if (none t) (cleared map (pick z (at states) (pool .hand))) map) ∙ if-also (goes z st s p) (test (same (at addresses i) 0)) (cleared map (pick z (at states) (pool .hand))) map going;
+        map-left = em ∙ (λ t. if (none t) (cleared map (pick z (at addresses) (at states) (pool .hand) (ej t))) map) ∙ if-also (goes z st s p) (test (same (at addresses i) 0)) (cleared map (pick z (at addresses) (at states) (pool .hand) i)) map going;
         used-left = eu ∙ (λ t. if (two t) used (charged1 used (ek t))) ∙ if-not (goes z st s p) (test (live (files st) i)) (charged1 used (at accounts s)) used going;
       }
         where

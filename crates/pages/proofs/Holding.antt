@@ -23,18 +23,18 @@ pub may-null : T (allowed FREE NULLED)
 unfolding allowed test any
 may-null = tt
 
-module _ (z : Sizes) (pool : Pool) (states map : List ℕ) (w : Within z) (po : Pooled z pool states map) where
+module _ (z : Sizes) (pool : Pool) (addresses states map : List ℕ) (i : ℕ) (w : Within z) (po : Pooled z pool states map) where
   abbrev pub chosen : ℕ
-  chosen = pick z (at states) (pool .hand)
+  chosen = pick z (at addresses) (at states) (pool .hand) i
 
   pub map-told : map ≡ freeMap z (at states)
   map-told = free-map z (at states) map (po .long) (po .bits)
 
-  pub chosen-told : pick z (toldBy map) (pool .hand) ≡ chosen
-  chosen-told = ap (λ (m : List ℕ). pick z (toldBy m) (pool .hand)) map-told ∙ pick-told z (at states) (pool .hand) (w .records)
+  pub chosen-told : pick z (at addresses) (toldBy map) (pool .hand) i ≡ chosen
+  chosen-told = ap (λ (m : List ℕ). pick z (at addresses) (toldBy m) (pool .hand) i) map-told ∙ pick-told z (at addresses) (at states) (pool .hand) i (w .records)
 
   pub chosen-below : chosen < z .records
-  chosen-below = pick-below z (at states) (pool .hand) (w .records)
+  chosen-below = pick-below z (at addresses) (at states) (pool .hand) i (w .records)
 
   pub chosen-inside : chosen / 32 < length map
   chosen-inside = rw (po .long) (word-inside z chosen chosen-below)
@@ -42,7 +42,7 @@ module _ (z : Sizes) (pool : Pool) (states map : List ℕ) (w : Within z) (po : 
   module _ (free : 0 < pool .free) where
     pub chosen-free : at states chosen ≡ FREE
     unfolding freeCount
-    chosen-free = let c = count-some (z .records) (λ q. eqb (at states q) FREE) (rw (po .free) at free) in pick-free z (at states) (pool .hand) (c .0) (c .1) (po .hand) (eqb→eq _ _ (c .2))
+    chosen-free = let c = count-some (z .records) (λ q. eqb (at states q) FREE) (rw (po .free) at free) in pick-free z (at addresses) (at states) (pool .hand) i (c .0) (c .1) (po .hand) (eqb→eq _ _ (c .2))
 
     pub chosen-on : bitOf map chosen ≡ 1
     chosen-on = ap (λ (m : List ℕ). bitOf m chosen) map-told ∙ bit-on z chosen chosen-below (at states) chosen-free

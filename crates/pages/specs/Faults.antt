@@ -55,7 +55,11 @@ module _ (z : Sizes) (st : State) (s p : ℕ) where
 
   -- the record taken
   abbrev pub taken : ℕ
-  taken = pick z (files st .state) (st .memory .held .pool .hand)
+  taken = pick z (files st .address) (files st .state) (st .memory .held .pool .hand) (pageOf z s p)
+
+-- .. as the contracts name it, by the addresses and states on entry
+abbrev pub chosen : Sizes → Pool → Table → Table → ℕ → ℕ
+chosen z pool addresses states i = pick z (at (addresses .entry .now)) (at (states .entry .now)) (pool .hand) i
 
 -- a record free no more
 abbrev pub cleared : List ℕ → ℕ → List ℕ

@@ -10,11 +10,11 @@ ghost use Rattle.tables.specs.Questions.{firstNo};
 ghost use Rattle.tables.specs.Rule.{Holds};
 ghost use Rattle.model.specs.declared.frame.Pool.{Pool};
 ghost use Rattle.model.specs.Lines.{NULLED};
-ghost use Rattle.model.specs.Parts.{pick, setPart};
+ghost use Rattle.model.specs.Parts.{setPart};
 ghost use Rattle.model.specs.Pages.{awaiting, fresh};
 ghost use Rattle.model.specs.Fit.{Within};
 ghost use Rattle.pages.specs.Needs.{Seats, Pooled};
-ghost use Rattle.pages.specs.Faults.{wayOf, awayAsked, supplyAsked, cleared, charged1};
+ghost use Rattle.pages.specs.Faults.{wayOf, awayAsked, supplyAsked, cleared, charged1, chosen};
 use leaves::cells::at8;
 use leaves::cells::at16;
 use leaves::cells::put8;
@@ -23,7 +23,7 @@ use leaves::frames::frame_at;
 use leaves::frames::frame_of;
 use leaves::frames::with_frame;
 use leaves::marks::clear_mark;
-use leaves::pool::pick;
+use leaves::near::pick;
 use leaves::queue::push_front;
 use leaves::states::move_record;
 use leaves::words::clear_part;
@@ -110,7 +110,7 @@ pub fn ask_supply(
     0
 }
 
-// A page with no address takes the first free record from the hand up; the hand then stands just past it.
+// A page with no address takes a free record, near its neighbour's or by the hand; the hand then stands just past it.
 pub fn hold(
     way: u8,
     sizes: Sizes,
@@ -122,17 +122,17 @@ pub fn hold(
     owners: &mut [u8],
     free_map: &mut [u32],
 ) -> Pool
-    requires { ⌜ Within sizes × (slot < 256) × Pooled sizes pool (now states) (now «free_map») × ((way ≡ 0) → 0 < pool .free) ⌝ }
-    ensures pool { λ r. ⌜ r ≡ if (eqb way 0) (record { hand = suc (pick sizes (at (now (states .entry))) (pool .hand)) % sizes .records; free = pool .free - 1 }) pool ⌝ }
-    ensures addresses { λ r. ⌜ now (addresses .exit) ≡ if (eqb way 0) (set (now (addresses .entry)) page (suc (pick sizes (at (now (states .entry))) (pool .hand)))) (now (addresses .entry)) ⌝ }
-    ensures states { λ r. ⌜ now (states .exit) ≡ if (eqb way 0) (set (now (states .entry)) (pick sizes (at (now (states .entry))) (pool .hand)) NULLED) (now (states .entry)) ⌝ }
-    ensures owners { λ r. ⌜ now (owners .exit) ≡ if (eqb way 0) (set (now (owners .entry)) (pick sizes (at (now (states .entry))) (pool .hand)) slot) (now (owners .entry)) ⌝ }
-    ensures map { λ r. ⌜ now («free_map» .exit) ≡ if (eqb way 0) (cleared (now («free_map» .entry)) (pick sizes (at (now (states .entry))) (pool .hand))) (now («free_map» .entry)) ⌝ }
+    requires { ⌜ Within sizes × (slot < 256) × (page < 65535) × Pooled sizes pool (now states) (now «free_map») × ((way ≡ 0) → 0 < pool .free) ⌝ }
+    ensures pool { λ r. ⌜ r ≡ if (eqb way 0) (record { hand = suc (chosen sizes pool addresses states page) % sizes .records; free = pool .free - 1 }) pool ⌝ }
+    ensures addresses { λ r. ⌜ now (addresses .exit) ≡ if (eqb way 0) (set (now (addresses .entry)) page (suc (chosen sizes pool addresses states page))) (now (addresses .entry)) ⌝ }
+    ensures states { λ r. ⌜ now (states .exit) ≡ if (eqb way 0) (set (now (states .entry)) (chosen sizes pool addresses states page) NULLED) (now (states .entry)) ⌝ }
+    ensures owners { λ r. ⌜ now (owners .exit) ≡ if (eqb way 0) (set (now (owners .entry)) (chosen sizes pool addresses states page) slot) (now (owners .entry)) ⌝ }
+    ensures map { λ r. ⌜ now («free_map» .exit) ≡ if (eqb way 0) (cleared (now («free_map» .entry)) (chosen sizes pool addresses states page)) (now («free_map» .entry)) ⌝ }
 {
     if way != 0 {
         return pool;
     }
-    let record = pick(sizes, free_map, pool.hand as usize);
+    let record = pick(sizes, addresses, free_map, pool.hand as usize, page);
     put16(addresses, page, (record + 1) as u16);
     move_record(states, record, NULLED);
     put8(owners, record, slot as u8);

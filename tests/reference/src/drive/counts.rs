@@ -1,6 +1,9 @@
 //! How often each kind was carried out, each refusal given, and each rule broken alone.
 
 use super::act::{Call, Outcome};
+use crate::event::Request;
+use crate::events::pages::{free_records, neighbour};
+use crate::keeper::Keeper;
 use std::collections::BTreeMap;
 use std::fmt;
 
@@ -33,10 +36,44 @@ pub struct Counts {
     pub alone: BTreeMap<&'static str, u64>,
     pub calls: u64,
     pub cuts: u64,
+    pub taken: Taken,
+}
+
+/// Records taken by faults, and among them: where a lower page of the design had a record, where a higher one had (the pages come out
+/// of order), and where two free records were equally near.
+#[derive(Debug, Default)]
+pub struct Taken {
+    pub all: u64,
+    pub near: u64,
+    pub out_of_order: u64,
+    pub ties: u64,
+}
+
+impl Taken {
+    /// Notes the records that a call gave to pages.
+    fn note(&mut self, before: &Keeper, after: &Keeper) {
+        let pages = 0..before.memory.addresses.len().min(after.memory.addresses.len());
+        for page in pages.filter(|&page| before.memory.addresses[page] == 0 && after.memory.addresses[page] != 0) {
+            let last = page - page % before.sizes.pages + before.sizes.pages;
+            self.all += 1;
+            self.out_of_order += before.memory.addresses[page + 1..last].iter().any(|&address| address != 0) as u64;
+            if let Some(near) = neighbour(before, page) {
+                let distances: Vec<usize> = free_records(before).map(|record| record.abs_diff(near)).collect();
+                let least = distances.iter().min();
+                self.near += 1;
+                self.ties += (distances.iter().filter(|distance| Some(*distance) == least).count() == 2) as u64;
+            }
+        }
+    }
+
+    /// Each of them is at least one in fifty.
+    pub fn rare(&self) -> bool {
+        [self.near, self.out_of_order, self.ties].into_iter().any(|count| count * 50 < self.all)
+    }
 }
 
 impl Counts {
-    pub fn count(&mut self, call: &Call, outcome: &Outcome) {
+    fn count(&mut self, call: &Call, outcome: &Outcome) {
         self.calls += 1;
         let kind = match call {
             Call::Format => 15,
@@ -47,6 +84,14 @@ impl Counts {
         match outcome.refusal() {
             0 => *self.carried_out.entry(KINDS[kind]).or_default() += 1,
             number => *self.refused.entry(number).or_default() += 1,
+        }
+    }
+
+    /// Counts a call, and the record that a fault took.
+    pub fn count_call(&mut self, call: &Call, outcome: &Outcome, before: &Keeper, after: &Keeper) {
+        self.count(call, outcome);
+        if matches!(call, Call::Apply(Request { kind: 5, .. })) && outcome.refusal() == 0 {
+            self.taken.note(before, after);
         }
     }
 
@@ -64,6 +109,7 @@ impl Counts {
 impl fmt::Display for Counts {
     fn fmt(&self, out: &mut fmt::Formatter) -> fmt::Result {
         writeln!(out, "{} calls, {} cuts", self.calls, self.cuts)?;
+        writeln!(out, "{:?}", self.taken)?;
         writeln!(out, "carried out: {:?}", self.carried_out)?;
         writeln!(out, "refused: {:?}", self.refused)?;
         writeln!(out, "rules that alone refused a damaged table:")?;

@@ -76,7 +76,7 @@ fn step(
     note(act.before, &before, counts);
     let outcomes = [0, 1].map(|side| act.call.make(&subjects[side], &mut keepers[side]));
     let sides = [0, 1].map(|side| Side { outcome: outcomes[side], after: &keepers[side] });
-    counts.count(&act.call, &outcomes[0]);
+    counts.count_call(&act.call, &outcomes[0], &before, &keepers[0]);
     compare(&before, &sides[0], &sides[1])?;
     promises(&act.call, &before, &sides[0])?;
     match undo {

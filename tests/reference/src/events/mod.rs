@@ -2,7 +2,7 @@
 
 mod claim;
 mod designs;
-mod pages;
+pub mod pages;
 mod transfers;
 
 use crate::event::Event;

@@ -28,13 +28,33 @@ pub fn fault(keeper: &mut Keeper, slot: usize, page: usize) -> u32 {
     frame as u32
 }
 
-/// Gives a page the first free record counting up from the hand, nulled.
+/// The record held by the closest lower page of the page's design that has one.
+pub fn neighbour(keeper: &Keeper, page: usize) -> Option<usize> {
+    let first = page - page % keeper.sizes.pages;
+    let held = keeper.memory.addresses[first..page].iter().rev().find(|&&address| address != 0);
+    held.map(|&address| address as usize - 1)
+}
+
+/// The free records by number.
+pub fn free_records(keeper: &Keeper) -> impl Iterator<Item = usize> + '_ {
+    (0..keeper.sizes.records).filter(|record| keeper.memory.free_map[record / 32] >> (record % 32) & 1 == 1)
+}
+
+/// The free record that a page takes: the nearest to its neighbour, of two equally near the lower; without a neighbour the first
+/// counting up from the hand.
+fn choose(keeper: &Keeper, page: usize) -> Option<usize> {
+    let hand = keeper.memory.pool.hand as usize;
+    match neighbour(keeper, page) {
+        Some(near) => free_records(keeper).min_by_key(|&record| (record.abs_diff(near), record)),
+        None => free_records(keeper).min_by_key(|&record| (record < hand, record)),
+    }
+}
+
+/// Gives a page a free record, nulled.
 fn take_record(keeper: &mut Keeper, slot: usize, page: usize) {
     let count = keeper.sizes.records;
+    let record = choose(keeper, page).expect("question 19");
     let memory = &mut keeper.memory;
-    let hand = memory.pool.hand as usize;
-    let free = |record: &usize| memory.free_map[record / 32] >> (record % 32) & 1 == 1;
-    let record = (hand..count).chain(0..hand).find(free).expect("question 19");
     memory.free_map[record / 32] &= !(1 << (record % 32));
     memory.pool.free -= 1;
     memory.pool.hand = ((record + 1) % count) as u32;

@@ -69,11 +69,15 @@ returns c = let q = asked (c .before) in (fault-no q (c .if1 .taken), fault-none
 page-of-requires : tie.Need-page-of-requires
 page-of-requires c κs = let r = range c in (start (c .before) .pre .0 .sizes, r .0, r .1)
 
+-- the page is below 65,535
+paged-most : (x : tie.After-at16) → paged x .page-of .result < 65535
+paged-most x = let s = from x in let r = range (passed x) in rw (paged x .page-of .ensures) (page-most (s .args .sizes) (s .pre .0 .sizes) (s .args .slot) (s .args .page) (r .0) (r .1))
+
 hold-requires : tie.Need-hold-requires
 hold-requires c κs =
     let x = c .before .before .before .before in
     let s = from x in
-    (s .pre .0 .sizes, omega (arith, range (passed x) .0, s .pre .0 .sizes .slots-most), s .pre .3, fault-record (asked (passed x .before)) (passed x .if1 .left) (paged x .page-of .ensures) (way x .way-of .ensures) (queued x .first .ensures))
+    (s .pre .0 .sizes, omega (arith, range (passed x) .0, s .pre .0 .sizes .slots-most), paged-most x, s .pre .3, fault-record (asked (passed x .before)) (passed x .if1 .left) (paged x .page-of .ensures) (way x .way-of .ensures) (queued x .first .ensures))
 
 serve-requires : tie.Need-serve-requires
 serve-requires c κs =

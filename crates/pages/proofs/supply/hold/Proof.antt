@@ -26,11 +26,11 @@ abbrev picked : tie.After-put16 → tie.After-pick
 picked p = search
 
 -- ── the record ──
-chosen : (k : tie.After-pick) → (let a = from (none k) .args in k .pick .result ≡ pick (a .sizes) (at (a .states .now)) (a .pool .hand))
-chosen k = let s = from (none k) in let a = s .args in k .pick .ensures ∙ chosen-told (a .sizes) (a .pool) (a .states .now) (a .free-map .now) (s .pre .0) (s .pre .2)
+chosen : (k : tie.After-pick) → (let a = from (none k) .args in k .pick .result ≡ pick (a .sizes) (at (a .addresses .now)) (at (a .states .now)) (a .pool .hand) (a .page))
+chosen k = let s = from (none k) in let a = s .args in k .pick .ensures ∙ chosen-told (a .sizes) (a .pool) (a .addresses .now) (a .states .now) (a .free-map .now) (a .page) (s .pre .0) (s .pre .3)
 
 most : (k : tie.After-pick) → k .pick .result < 4096
-most k = let s = from (none k) in let a = s .args in omega (arith, chosen k, chosen-below (a .sizes) (a .pool) (a .states .now) (a .free-map .now) (s .pre .0) (s .pre .2), s .pre .0 .records-most)
+most k = let s = from (none k) in let a = s .args in omega (arith, chosen k, chosen-below (a .sizes) (a .pool) (a .addresses .now) (a .states .now) (a .free-map .now) (a .page) (s .pre .0) (s .pre .3), s .pre .0 .records-most)
 
 returns : tie.Need-returns
 returns c =
@@ -53,7 +53,7 @@ move-record-requires c κs =
     let e = none k in
     let s = from e in
     let a = s .args in
-    rw (chosen k) (chosen-may (a .sizes) (a .pool) (a .states .now) (a .free-map .now) (s .pre .0) (s .pre .2) (s .pre .3 (e .if1 .left)))
+    rw (chosen k) (chosen-may (a .sizes) (a .pool) (a .addresses .now) (a .states .now) (a .free-map .now) (a .page) (s .pre .0) (s .pre .3) (s .pre .4 (e .if1 .left)))
 
 clear-mark-requires : tie.Need-clear-mark-requires
 clear-mark-requires c κs =
@@ -62,23 +62,23 @@ clear-mark-requires c κs =
     let e = none k in
     let s = from e in
     let a = s .args in
-    (rw (chosen k) (chosen-inside (a .sizes) (a .pool) (a .states .now) (a .free-map .now) (s .pre .0) (s .pre .2)), rw (chosen k) (chosen-on (a .sizes) (a .pool) (a .states .now) (a .free-map .now) (s .pre .0) (s .pre .2) (s .pre .3 (e .if1 .left))))
+    (rw (chosen k) (chosen-inside (a .sizes) (a .pool) (a .addresses .now) (a .states .now) (a .free-map .now) (a .page) (s .pre .0) (s .pre .3)), rw (chosen k) (chosen-on (a .sizes) (a .pool) (a .addresses .now) (a .states .now) (a .free-map .now) (a .page) (s .pre .0) (s .pre .3) (s .pre .4 (e .if1 .left))))
 
-add-t14 : tie.Need-add-t14
-add-t14 c = let p : tie.After-put16 = search in omega (arith, most (picked p))
+add-t16 : tie.Need-add-t16
+add-t16 c = let p : tie.After-put16 = search in omega (arith, most (picked p))
 
-cast-t27 : tie.Need-cast-t27
-cast-t27 c =
+cast-t29 : tie.Need-cast-t29
+cast-t29 c =
     let p : tie.After-put16 = search in
     let k = picked p in
     let s = from (none k) in
     omega (arith, mod-lt (k .pick .result + 1) (s .pre .0 .records), s .pre .0 .records-most)
 
-sub-t28 : tie.Need-sub-t28
-sub-t28 c =
+sub-t30 : tie.Need-sub-t30
+sub-t30 c =
     let p : tie.After-put16 = search in
     let e = none (picked p) in
-    from e .pre .3 (e .if1 .left)
+    from e .pre .4 (e .if1 .left)
 
 returns-2 : tie.Need-returns-2
 returns-2 c =
@@ -108,4 +108,4 @@ pub hold-spec : {M : Type 1} → statement M
 hold-spec =
     tie.close
     (tie.spec returns (λ c. search needs) (λ c κs. search needs) add-put16 cast-put16 (λ c κs. search needs) move-record-requires (λ c. search needs) (λ c κs. search needs) clear-mark-requires
-    add-t14 (λ c. search needs) cast-t27 sub-t28 (λ c. search needs) (λ c. search needs) (λ c. search needs) (λ c. search needs) returns-2)
+    add-t16 (λ c. search needs) cast-t29 sub-t30 (λ c. search needs) (λ c. search needs) (λ c. search needs) (λ c. search needs) returns-2)
