@@ -1,8 +1,9 @@
 # make test: the gate. make replay: the event program on a readable example. make mutants: every wrong definition that a theorem must refuse.
+# make starts: the first sectors of the 600-record pack's records, one a line.
 # make docs: what the documents take from the code, and whatever repeats the lent tables. make bench: the keeper's speed beside the C port's and the reference's (docs/BENCHMARKS.md).
 # make plug: kills a weaver on a file disk, KILLS times, and checks every promise. make break: a wrong definition, WRONG, refused before your eyes.
 # make timeline: a list of events, LIST, as one HTML file to look at. make misses: the misses of a list of page uses, TRACE, for 1 to 64 frames. (docs/TESTS.md; what these are made of is tested, not proved.)
-.PHONY: test replay mutants docs bench plug break misses timeline
+.PHONY: test replay starts mutants docs bench plug break misses timeline
 LIST = examples/two-mills.txt
 LIBRARY = target/staticlib/libkeeper.a
 KILLS = 2000
@@ -19,6 +20,11 @@ replay:
 
 break:
 	@python3 tools/break.py $(WRONG)
+
+starts:
+	@mkdir -p target
+	@rt check starts > target/starts.log 2>&1 || { cat target/starts.log; false; }
+	@target/bin/starts
 
 mutants:
 	python3 tests/mutants/run.py

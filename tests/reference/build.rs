@@ -30,17 +30,18 @@ fn main() {
     run(&mut archive);
     println!("cargo:rerun-if-changed={}", bench.display());
     println!("cargo:rustc-link-search=native={}", out.display());
-    proved();
+    proved("keeper");
+    proved("sectors");
 }
 
-/// The proved keeper's static library, made by `rt staticlib keeper`: its test and the benchmark are compiled only where it is there.
-fn proved() {
+/// A proved static library, made by `rt staticlib NAME`: what links it is compiled only where it is there.
+fn proved(name: &str) {
     let folder = Path::new(env!("CARGO_MANIFEST_DIR")).join("../../target/staticlib");
-    let archive = folder.join("libkeeper.a");
-    println!("cargo:rustc-check-cfg=cfg(keeper)");
+    let archive = folder.join(format!("lib{name}.a"));
+    println!("cargo:rustc-check-cfg=cfg({name})");
     println!("cargo:rerun-if-changed={}", archive.display());
     if archive.exists() {
-        println!("cargo:rustc-cfg=keeper");
+        println!("cargo:rustc-cfg={name}");
         println!("cargo:rustc-link-search=native={}", folder.display());
     }
 }
