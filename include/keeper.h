@@ -37,7 +37,7 @@ typedef struct {
     uint8_t used, modified, wired, initial, transfer;
 } KeeperFrame;
 
-/* The hand, where the search for a free record starts, and the count of free records. */
+/* The hand, where the search for a free record starts for a page without a neighbour, and the count of free records. */
 typedef struct {
     uint32_t hand, free;
 } KeeperPool;
@@ -129,20 +129,20 @@ enum {
     uint16_t accounts[S];        /* the slot's account */                                \
     uint16_t maps[(S) * (N)];    /* file maps: 0 for a page of zeros, else record + 1 */ \
     uint16_t limits[Q];          /* the account's limit, 0 to 65,535 pages */
-#define KEEPER_MEMORY_TABLES(W, R, F, S, N, Q)                                                                                   \
-    KeeperFrame frames[F];              /* the frames: page, switches, transfer */                                               \
-    uint32_t frame_words[(F) * (W)];    /* the frames' words */                                                                  \
-    uint16_t free_queue[F];             /* the free frames, a queue: frame + 1, packed at the front, then 0 */                   \
-    uint16_t removal_list[F];           /* the frames that a claim looks at, a queue; it looks at the front first */             \
-    uint16_t addresses[(S) * (N)];      /* the page's address: 0, or record + 1 */                                               \
-    uint8_t states[R];                  /* the record's state, 0 to 5 */                                                         \
-    uint8_t owners[R];                  /* the record's slot; 0 for a free record */                                             \
-    uint32_t free_map[((R) + 31) / 32]; /* one bit a record, on where it is free: bit r % 32 of word r / 32 */                   \
-    uint8_t active[S];                  /* the slot's active switch, 0 or 1 */                                                   \
-    uint8_t updating[S];                /* the slot's update-under-way switch, 0 or 1 */                                         \
-    uint16_t images[(S) * (N)];         /* map images: 0, or record + 1 */                                                       \
-    uint16_t used[Q];                   /* the account's used count */                                                           \
-    KeeperPool pool;                    /* the hand, where the search for a free record starts, and the count of free records */
+#define KEEPER_MEMORY_TABLES(W, R, F, S, N, Q)                                                                                                                  \
+    KeeperFrame frames[F];              /* the frames: page, switches, transfer */                                                                              \
+    uint32_t frame_words[(F) * (W)];    /* the frames' words */                                                                                                 \
+    uint16_t free_queue[F];             /* the free frames, a queue: frame + 1, packed at the front, then 0 */                                                  \
+    uint16_t removal_list[F];           /* the frames that a claim looks at, a queue; it looks at the front first */                                            \
+    uint16_t addresses[(S) * (N)];      /* the page's address: 0, or record + 1 */                                                                              \
+    uint8_t states[R];                  /* the record's state, 0 to 5 */                                                                                        \
+    uint8_t owners[R];                  /* the record's slot; 0 for a free record */                                                                            \
+    uint32_t free_map[((R) + 31) / 32]; /* one bit a record, on where it is free: bit r % 32 of word r / 32 */                                                  \
+    uint8_t active[S];                  /* the slot's active switch, 0 or 1 */                                                                                  \
+    uint8_t updating[S];                /* the slot's update-under-way switch, 0 or 1 */                                                                        \
+    uint16_t images[(S) * (N)];         /* map images: 0, or record + 1 */                                                                                      \
+    uint16_t used[Q];                   /* the account's used count */                                                                                          \
+    KeeperPool pool;                    /* the hand, where the search for a free record starts for a page without a neighbour, and the count of free records */
 
 /* A table as arguments, a pointer and a count of elements; and a struct's tables of numbers, in the order of the calls. */
 #define KEEPER_LEND(table) (table), sizeof(table) / sizeof *(table)

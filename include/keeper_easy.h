@@ -89,7 +89,7 @@ typedef struct {
     uint8_t *updating;      /* S: the slot's update-under-way switch, 0 or 1 */
     uint16_t *images;       /* S * N: map images: 0, or record + 1 */
     uint16_t *used;         /* Q: the account's used count */
-    KeeperPool *pool;       /* 1: the hand, where the search for a free record starts, and the count of free records */
+    KeeperPool *pool;       /* 1: the hand, where the search for a free record starts for a page without a neighbour, and the count of free records */
 } Keeper;
 
 /* Whether each size is 1 to its most. */

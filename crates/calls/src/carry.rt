@@ -2,8 +2,9 @@
 ghost use mathlib.Core.Path.{_≡_};
 ghost use lib.ListN.{take};
 ghost use Rattle.model.specs.Lent.{given, entered, left};
-ghost use Rattle.model.specs.Own.{own};
-ghost use Rattle.dispatch.specs.Kept.{Kept, leaves};
+ghost use Rattle.model.specs.Own.{own, leaves};
+ghost use Rattle.model.specs.Pool.{taken, deposited};
+ghost use Rattle.dispatch.specs.Kept.{Kept};
 use dispatch::design_event::design_event;
 use dispatch::page_event::page_event;
 use dispatch::writeback_event::writeback_event;
@@ -40,7 +41,7 @@ pub fn carry(
         (given (take (sizes .frames) frames) pool records numbers accounts maps limits
         «frame_words» «free_queue» «removal_list» addresses states owners «free_map» active updating images used) ⌝ }
     ensures { λ r. ⌜ leaves (r .answer)
-        (left (take (sizes .frames) (r .frames)) (r .pool) records numbers accounts maps limits
+        (left (take (sizes .frames) (r .frames)) (deposited (r .deposited) (taken sizes (r .taken) pool)) records numbers accounts maps limits
         «frame_words» «free_queue» «removal_list» addresses states owners «free_map» active updating images used)
         ≡ own sizes
         (entered (take (sizes .frames) frames) pool records numbers accounts maps limits
@@ -72,7 +73,8 @@ pub fn carry(
             );
             Applied {
                 frames,
-                pool,
+                taken: 0,
+                deposited: 0,
                 answer,
             }
         }

@@ -3,10 +3,12 @@ ghost use mathlib.Core.Path.{_≡_};
 ghost use Rattle.model.specs.Lent.{diskOf, entered, left};
 ghost use Rattle.model.specs.Calls.{framesOf, apply};
 ghost use Rattle.model.specs.Step.{restart, format};
-ghost use Rattle.dispatch.specs.Kept.{leaves};
+ghost use Rattle.model.specs.Own.{leaves};
+ghost use Rattle.model.specs.Pool.{taken, deposited};
 use crate::carry::carry;
 use crate::common::common;
 use model::applied::Applied;
+use model::applied::Pooled;
 use model::event::Answer;
 use model::frame::Frame;
 use model::frame::Pool;
@@ -49,7 +51,7 @@ pub fn apply_core(
     used: &mut [u16],
 ) -> Applied
     ensures { λ r. ⌜ leaves (r .answer)
-        (left (framesOf (r .frames) lent) (r .pool) records numbers accounts maps limits
+        (left (framesOf (r .frames) lent) (deposited (r .deposited) (taken sizes (r .taken) pool)) records numbers accounts maps limits
         «frame_words» «free_queue» «removal_list» addresses states owners «free_map» active updating images used)
         ≡ apply sizes
         (entered (framesOf frames lent) pool records numbers accounts maps limits
@@ -81,7 +83,8 @@ pub fn apply_core(
         let answer = Answer { refusal, result: 0 };
         return Applied {
             frames,
-            pool,
+            taken: 0,
+            deposited: 0,
             answer,
         };
     }
@@ -93,7 +96,8 @@ pub fn apply_core(
         };
         return Applied {
             frames,
-            pool,
+            taken: 0,
+            deposited: 0,
             answer,
         };
     };
@@ -143,7 +147,7 @@ pub fn restart_core(
     updating: &mut [u8],
     images: &mut [u16],
     used: &mut [u16],
-) -> Applied
+) -> Pooled
     ensures { λ r. ⌜ leaves (r .answer)
         (left (framesOf (r .frames) lent) (r .pool) records numbers accounts maps limits
         «frame_words» «free_queue» «removal_list» addresses states owners «free_map» active updating images used)
@@ -175,7 +179,7 @@ pub fn restart_core(
             refusal: 1,
             result: 0,
         };
-        return Applied {
+        return Pooled {
             frames,
             pool,
             answer,
@@ -186,7 +190,7 @@ pub fn restart_core(
             refusal: 2,
             result: 0,
         };
-        return Applied {
+        return Pooled {
             frames,
             pool,
             answer,

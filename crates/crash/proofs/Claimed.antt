@@ -7,12 +7,12 @@ use Prim.Native.Nat.{ℕ, suc, _+_, _*_, _%_, _<_, pred}
 use native.Mathlib.Omega.{arith}
 use native.Mathlib.Decide.{ℕ-discrete}
 use lib.Dec.{T, eqb, eqb→eq}
-use lib.ListN.{set, length}
+use lib.ListN.{set}
 use lib.Seq.{getD-set-same}
 use borrow.Author.Tests.{eq-eqb, ne-eqb}
 use Rattle.tables.specs.Base.{at, if}
 use Rattle.tables.specs.Laws.{T→true, and-intro, if-yes, if-no, eq→T, all-elim, all-intro, not-zero}
-use Rattle.tables.specs.Queue.{members, packed, times}
+use Rattle.tables.specs.Queue.{members, times}
 use Rattle.tables.specs.QueueLaws.{members-within}
 use Rattle.tables.specs.Store.{Split}
 use Rattle.model.specs.declared.frame.Frame.{Frame}
@@ -21,10 +21,10 @@ use Rattle.model.specs.declared.event.Writeback.the-variants.{Claim}
 use Rattle.model.specs.declared.event.Event.the-variants as Event
 use Rattle.model.specs.Lines.{NULLED, LIVE}
 use Rattle.model.specs.State.{State, noFrame, frameAt, NONE, WRITING, allPages}
-use Rattle.model.specs.Setters.{onCore, onHeld, setFrames, setRemovalList, setStates, setTransfer, counted}
+use Rattle.model.specs.Setters.{onCore, onHeld, setStates, setTransfer, counted}
 use Rattle.model.specs.Pages.{onFrame}
 use Rattle.model.specs.Writeback as Writeback
-use Rattle.model.specs.Writeback.{looking, zeros, recordIn, beginsWrite, freeFrame}
+use Rattle.model.specs.Writeback.{looked, looking, zeros, recordIn, beginsWrite, freeFrame}
 use Rattle.model.specs.Step.{carried}
 use Rattle.model.specs.Ledger.{Ledger, note, put, claimed, opened, voided, setLive}
 use Rattle.model.specs.Acts.{fed}
@@ -98,15 +98,12 @@ module _ (z : Sizes) (st : State) (l : Ledger) (b : Before z st l (Event.Writeba
   others-alike : (new : Frame) (g : ℕ) → ¬ (g ≡ f) → Alike (frameAt (set (looking z st .frames) f new) g) (fs g)
   others-alike new g e = alike-trans (other-frame (looking z st .frames) f new g e) (cooled g)
 
-  abbrev looked : State
-  looked = onCore (λ c. setFrames (looking z st .frames) (setRemovalList (packed (length (c .removal-list)) (looking z st .list)) c)) st
-
   -- ── the frame is freed ──
   module _ (states′ : List ℕ) (live′ : ℕ → Bool) (was : (r : ℕ) → at states′ r ≡ LIVE → state r ≡ LIVE)
       (stays : (i : ℕ) → i < allPages z → ¬ (i ≡ i₀) → (r : ℕ) → address i ≡ suc r → state r ≡ LIVE → at states′ r ≡ LIVE) (live : Lives z address (at states′) live′)
       (paged : (r : ℕ) → address i₀ ≡ suc r → at states′ r ≡ LIVE → (n : ℕ) → n < z .words → at (st .disk .records) (r * z .words + n) ≡ text i₀ n)
       (void : ((r : ℕ) → address i₀ ≡ suc r → ¬ (at states′ r ≡ LIVE)) → (n : ℕ) → n < z .words → text i₀ n ≡ 0) where
-    freed : Tied z (counted z (freeFrame f (onHeld (λ h. setStates states′ h) looked))) (setLive live′ l)
+    freed : Tied z (counted z (freeFrame f (onHeld (λ h. setStates states′ h) (looked z st)))) (setLive live′ l)
     unfolding counted freeFrame
     freed = one-frame z st l f noFrame _ _ _ _ _ _ _ (b .tied) (let m = b .tied .memory in record {
       within = hf;
@@ -136,26 +133,26 @@ module _ (z : Sizes) (st : State) (l : Ledger) (b : Before z st l (Event.Writeba
         was-away i d a = away-but z fs f i a (λ u. absurd (d (omega (arith, u, page))))
 
   -- unmodified: the page's words are its live record's, or zeros
-  unmodified : ¬ (old .modified ≡ 1) → Tied z (counted z (freeFrame f looked)) (note z l (claimed f 0))
+  unmodified : ¬ (old .modified ≡ 1) → Tied z (counted z (freeFrame f (looked z st))) (note z l (claimed f 0))
   unfolding note
   unmodified d = go (voided z l (l .pending .noted f .place))
     where
       clean : (r : ℕ) → address i₀ ≡ suc r → (n : ℕ) → n < z .words → at (st .memory .core .words) (f * z .words + n) ≡ if (eqb (state r) LIVE) (at (st .disk .records) (r * z .words + n)) 0
       clean r q n h = b .ruled .frames .clean f hf i₀ page still (omega (arith, d, b .ruled .frames .fit f hf .1 .1 .0)) r q n h
 
-      as-freed : (live′ : ℕ → Bool) → ((i : ℕ) → T (live′ i) → T (l .pages .live i)) → Tied z (counted z (freeFrame f looked)) (setLive live′ l)
+      as-freed : (live′ : ℕ → Bool) → ((i : ℕ) → T (live′ i) → T (l .pages .live i)) → Tied z (counted z (freeFrame f (looked z st))) (setLive live′ l)
       as-freed live′ less = freed (st .memory .held .states) live′ (λ r e. e) (λ i h e r q u. u) (λ i h t. b .tied .memory .lives i h (less i t))
           (λ r q e n h. sym (if-yes (state r) LIVE _ 0 e) ∙ sym (clean r q n h) ∙ said n h)
           (λ v n h. sym (said n h) ∙ clean r₀ held n h ∙ if-no (state r₀) LIVE _ 0 (v r₀ held))
 
-      go : (v : Bool) → Tied z (counted z (freeFrame f looked)) (if v (setLive (put (l .pages .live) (l .pending .noted f .place) false) l) l)
+      go : (v : Bool) → Tied z (counted z (freeFrame f (looked z st))) (if v (setLive (put (l .pages .live) (l .pending .noted f .place) false) l) l)
       go true = as-freed (put (l .pages .live) (l .pending .noted f .place) false) (λ i t. elim (split-put (l .pages .live) (l .pending .noted f .place) false i) [ inl x ↦ absurd (rw (x .1) at t) | inr x ↦ rw (x .1) at t ])
       go false = as-freed (l .pages .live) (λ i t. t)
 
   -- modified and all zeros: the page is nulled
-  nulled : old .modified ≡ 1 → T (zeros z st f) → Tied z (counted z (freeFrame f (onHeld (λ h. setStates (set (h .states) r₀ NULLED) h) looked))) (note z l (claimed f 0))
+  nulled : old .modified ≡ 1 → T (zeros z st f) → Tied z (counted z (freeFrame f (onHeld (λ h. setStates (set (h .states) r₀ NULLED) h) (looked z st)))) (note z l (claimed f 0))
   unfolding note zeros
-  nulled md zs = subst (λ (v : Bool). Tied z (counted z (freeFrame f (onHeld (λ h. setStates (set (h .states) r₀ NULLED) h) looked))) (if v (setLive (put (l .pages .live) (l .pending .noted f .place) false) l) l)) (sym is-void)
+  nulled md zs = subst (λ (v : Bool). Tied z (counted z (freeFrame f (onHeld (λ h. setStates (set (h .states) r₀ NULLED) h) (looked z st)))) (if v (setLive (put (l .pages .live) (l .pending .noted f .place) false) l) l)) (sym is-void)
       (freed (set (st .memory .held .states) r₀ NULLED) (put (l .pages .live) (l .pending .noted f .place) false) (λ r e. was r e .1) stays
       (λ i h t. elim (split-put (l .pages .live) (l .pending .noted f .place) false i) [
         | inl x ↦ absurd (rw (x .1) at t)
@@ -179,7 +176,7 @@ module _ (z : Sizes) (st : State) (l : Ledger) (b : Before z st l (Event.Writeba
       stays i h d r q e = elim (state-split r) [ inl x ↦ absurd (d (b .ruled .records .held-once i h i₀ within r₀ (q ∙ ap suc (x .0)) held)) | inr x ↦ x .1 ∙ e ]
 
   -- modified, and not all zeros: a write begins
-  begun : old .modified ≡ 1 → Tied z (counted z (onCore (λ c. onFrame f (setTransfer WRITING) c) looked)) (note z l (claimed f (suc r₀)))
+  begun : old .modified ≡ 1 → Tied z (counted z (onCore (λ c. onFrame f (setTransfer WRITING) c) (looked z st))) (note z l (claimed f (suc r₀)))
   unfolding counted note
   begun md = one-frame z st l f new _ _ _ _ _ _ _ (b .tied) (let m = b .tied .memory in record {
     within = hf;

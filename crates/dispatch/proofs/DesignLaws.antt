@@ -14,13 +14,13 @@ use Rattle.model.specs.Questions.{wouldStore}
 use Rattle.model.specs.Designs as Designs
 use Rattle.model.specs.Fit.{Within}
 use Rattle.model.specs.Step.{carried, result}
-use Rattle.model.specs.Own.{own}
+use Rattle.model.specs.Own.{own, leaves}
 use Rattle.designs.specs.Seen.{seenFiles, seenTurns}
 use Rattle.designs.specs.Needs.{Turning}
 use Rattle.designs.proofs.Kept.{after}
 use Rattle.designs.proofs.Filed.{limit-left, create-left, delete-left}
 use Rattle.designs.proofs.Turned.{activate-left, deactivate-left}
-use Rattle.dispatch.specs.Kept.{Kept, leaves}
+use Rattle.dispatch.specs.Kept.{Kept}
 use Rattle.dispatch.proofs.Outcomes.{own-by}
 
 module _ (z : Sizes) (st : State) (k : Kept z st) where

@@ -30,7 +30,7 @@ use Rattle.model.specs.Questions.{questions}
 use Rattle.model.specs.Pages as Pages
 use Rattle.model.specs.Lent.{stateOf, same-state}
 use Rattle.model.specs.Step.{Outcome, carried, result}
-use Rattle.model.specs.Own.{own, refusal}
+use Rattle.model.specs.Own.{own, refusal, leaves}
 use Rattle.model.specs.OwnLaws.{done, own-no, own-yes}
 use Rattle.model.specs.Ruled.{once-free}
 use Rattle.leaves.specs.Counts.{usedCounts, counts-more, counts-same, free-less}
@@ -39,7 +39,7 @@ use Rattle.pages.specs.Seen.{seenFault}
 use Rattle.pages.specs.Needs.{Seats, Queued, Pooled}
 use Rattle.pages.specs.Faults.{goes, taken, cleared, charged1, FaultLeft}
 use Rattle.pages.proofs.Holding.{chosen-free, chosen-below}
-use Rattle.dispatch.specs.Kept.{Kept, leaves}
+use Rattle.dispatch.specs.Kept.{Kept}
 use Rattle.dispatch.proofs.Charges.{within, framed-same, counts-alike, counts-active, used-table, map-table}
 use Rattle.dispatch.proofs.PageLaws.{served-ready}
 

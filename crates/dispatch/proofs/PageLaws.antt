@@ -16,10 +16,10 @@ use Rattle.model.specs.Parts.{frameOf}
 use Rattle.model.specs.Questions.{questions}
 use Rattle.model.specs.Pages as Pages
 use Rattle.model.specs.Step.{Outcome, outcome, carried, result}
-use Rattle.model.specs.Own.{own}
+use Rattle.model.specs.Own.{own, leaves}
 use Rattle.pages.specs.Seen.{seen}
 use Rattle.pages.specs.Needs.{Seats, RemovalList}
-use Rattle.dispatch.specs.Kept.{Kept, leaves}
+use Rattle.dispatch.specs.Kept.{Kept}
 
 module _ (z : Sizes) (st : State) where
   -- an event over these tables where n is the first question that fails

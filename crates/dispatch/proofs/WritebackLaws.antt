@@ -18,7 +18,7 @@ use Rattle.model.specs.Parts.{frameOf}
 use Rattle.model.specs.Writeback
 use Rattle.model.specs.Lent.{stateOf, same-state, noPool}
 use Rattle.model.specs.Step.{Outcome, outcome, carried, result}
-use Rattle.model.specs.Own.{own}
+use Rattle.model.specs.Own.{own, leaves}
 use Rattle.model.specs.OwnLaws.{outcome-no}
 use Rattle.writeback.specs.Claim.{claim, usedThen, ClaimLeft}
 use Rattle.writeback.specs.Done.{pageDone, DoneLeft}
@@ -30,7 +30,7 @@ use Rattle.writeback.proofs.ClaimLaws.{claim-left}
 use Rattle.writeback.proofs.DoneLaws.{page-done-left}
 use Rattle.writeback.proofs.Laws.{map-done-left, update-left}
 use Rattle.writeback.proofs.TruncateLaws.{truncate-left}
-use Rattle.dispatch.specs.Kept.{Kept, leaves}
+use Rattle.dispatch.specs.Kept.{Kept}
 use Rattle.dispatch.proofs.Outcomes.{own-by}
 
 -- ── a part of two states alike in each case ──

@@ -1,12 +1,11 @@
--- What an event is given once questions 1 and 2 said yes, and an outcome by its parts.
+-- What an event is given once questions 1 and 2 said yes.
 use Rattle.tables.specs.Rule.{Holds}
 use Rattle.model.specs.declared.sizes.Sizes.{Sizes}
-use Rattle.model.specs.declared.event.Answer.{Answer}
 use Rattle.model.specs.State.{State}
 use Rattle.model.specs.Rules.{allRules}
 use Rattle.model.specs.Ruled.{Ruled, ruled}
 use Rattle.model.specs.Fit.{Fit, fit}
-use Rattle.model.specs.Step.{Outcome, allFit}
+use Rattle.model.specs.Step.{allFit}
 
 pub record Kept (z : Sizes) (st : State) : Type 0 where
   pub fits : Fit z st
@@ -14,7 +13,3 @@ pub record Kept (z : Sizes) (st : State) : Type 0 where
 
 pub kept : (z : Sizes) (st : State) → Holds (allFit z st) → Holds (allRules z st) → Kept z st
 kept z st f r = record { fits = fit z st f; rules = ruled z st r }
-
--- the answer, and the state left
-abbrev pub leaves : Answer → State → Outcome State
-leaves answer left = record { answer = answer; left = left }

@@ -1,42 +1,47 @@
-// What an event hands back, put together with the frames or the pool that it leaves as they were.
+// What an event hands back, put together with the frames that it leaves as they were and with nothing taken or deposited.
 ghost use mathlib.Core.Path.{_≡_};
 use model::applied::Applied;
 use model::applied::Framed;
 use model::event::Answer;
 use model::frame::Frame;
-use model::frame::Pool;
 use writeback::map_done::Freed;
 
-pub fn with_pool(done: Framed, pool: Pool) -> Applied
-    ensures { λ r. ⌜ r ≡ record { frames = done .frames; pool = pool; answer = done .answer } ⌝ }
+// The pool stays.
+pub fn framed(done: Framed) -> Applied
+    ensures { λ r. ⌜ r ≡ record { frames = done .frames; taken = 0; deposited = 0; answer = done .answer } ⌝ }
 {
     let frames = done.frames;
     let answer = done.answer;
     Applied {
         frames,
-        pool,
+        taken: 0,
+        deposited: 0,
         answer,
     }
 }
 
-pub fn with_frames(done: Freed, frames: [Frame; 64]) -> Applied
-    ensures { λ r. ⌜ r ≡ record { frames = frames; pool = done .pool; answer = done .answer } ⌝ }
+// The frames stay.
+pub fn freed(done: Freed, frames: [Frame; 64]) -> Applied
+    ensures { λ r. ⌜ r ≡ record { frames = frames; taken = 0; deposited = done .deposited; answer = done .answer } ⌝ }
 {
-    let pool = done.pool;
+    let deposited = done.deposited;
     let answer = done.answer;
     Applied {
         frames,
-        pool,
+        taken: 0,
+        deposited,
         answer,
     }
 }
 
-pub fn with_both(answer: Answer, frames: [Frame; 64], pool: Pool) -> Applied
-    ensures { λ r. ⌜ r ≡ record { frames = frames; pool = pool; answer = answer } ⌝ }
+// Both stay.
+pub fn told(answer: Answer, frames: [Frame; 64]) -> Applied
+    ensures { λ r. ⌜ r ≡ record { frames = frames; taken = 0; deposited = 0; answer = answer } ⌝ }
 {
     Applied {
         frames,
-        pool,
+        taken: 0,
+        deposited: 0,
         answer,
     }
 }

@@ -3,9 +3,10 @@ ghost use mathlib.Core.Path.{_≡_};
 ghost use lib.ListN.{take};
 ghost use Rattle.model.specs.declared.event.Event.the-variants as Event;
 ghost use Rattle.model.specs.Lent.{given, entered, left};
-ghost use Rattle.model.specs.Own.{own};
-ghost use Rattle.dispatch.specs.Kept.{Kept, leaves};
-use crate::handed::with_pool;
+ghost use Rattle.model.specs.Own.{own, leaves};
+ghost use Rattle.model.specs.Pool.{taken, deposited};
+ghost use Rattle.dispatch.specs.Kept.{Kept};
+use crate::handed::framed;
 use model::applied::Applied;
 use model::event::Page;
 use model::frame::Frame;
@@ -43,7 +44,7 @@ pub fn page_event(
         (given (take (sizes .frames) frames) pool records numbers accounts maps limits
         «frame_words» «free_queue» «removal_list» addresses states owners «free_map» active updating images used) ⌝ }
     ensures { λ r. ⌜ leaves (r .answer)
-        (left (take (sizes .frames) (r .frames)) (r .pool) records numbers accounts maps limits
+        (left (take (sizes .frames) (r .frames)) (deposited (r .deposited) (taken sizes (r .taken) pool)) records numbers accounts maps limits
         «frame_words» «free_queue» «removal_list» addresses states owners «free_map» active updating images used)
         ≡ own sizes
         (entered (take (sizes .frames) frames) pool records numbers accounts maps limits
@@ -70,45 +71,37 @@ pub fn page_event(
             active,
             used,
         ),
-        Page::Read { slot, page, word } => with_pool(
-            read(
-                sizes,
-                slot,
-                page,
-                word,
-                frames,
-                numbers,
-                active,
-                frame_words,
-            ),
-            pool,
-        ),
+        Page::Read { slot, page, word } => framed(read(
+            sizes,
+            slot,
+            page,
+            word,
+            frames,
+            numbers,
+            active,
+            frame_words,
+        )),
         Page::Write {
             slot,
             page,
             word,
             value,
-        } => with_pool(
-            write(
-                sizes,
-                slot,
-                page,
-                word,
-                value,
-                frames,
-                numbers,
-                active,
-                frame_words,
-            ),
-            pool,
-        ),
-        Page::Wire { slot, page } => with_pool(
-            wire(sizes, slot, page, frames, numbers, active, removal_list),
-            pool,
-        ),
-        Page::Unwire { slot, page } => with_pool(
-            unwire(sizes, slot, page, frames, numbers, active, removal_list),
-            pool,
-        ),
+        } => framed(write(
+            sizes,
+            slot,
+            page,
+            word,
+            value,
+            frames,
+            numbers,
+            active,
+            frame_words,
+        )),
+        Page::Wire { slot, page } => {
+            framed(wire(sizes, slot, page, frames, numbers, active, removal_list))
+        }
+        Page::Unwire { slot, page } => {
+            framed(unwire(sizes, slot, page, frames, numbers, active, removal_list))
+        }
     }
 }

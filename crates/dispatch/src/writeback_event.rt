@@ -3,11 +3,12 @@ ghost use mathlib.Core.Path.{_≡_};
 ghost use lib.ListN.{take};
 ghost use Rattle.model.specs.declared.event.Event.the-variants as Event;
 ghost use Rattle.model.specs.Lent.{given, entered, left};
-ghost use Rattle.model.specs.Own.{own};
-ghost use Rattle.dispatch.specs.Kept.{Kept, leaves};
-use crate::handed::with_both;
-use crate::handed::with_frames;
-use crate::handed::with_pool;
+ghost use Rattle.model.specs.Own.{own, leaves};
+ghost use Rattle.model.specs.Pool.{taken, deposited};
+ghost use Rattle.dispatch.specs.Kept.{Kept};
+use crate::handed::framed;
+use crate::handed::freed;
+use crate::handed::told;
 use model::applied::Applied;
 use model::event::Writeback;
 use model::frame::Frame;
@@ -45,7 +46,7 @@ pub fn writeback_event(
         (given (take (sizes .frames) frames) pool records numbers accounts maps limits
         «frame_words» «free_queue» «removal_list» addresses states owners «free_map» active updating images used) ⌝ }
     ensures { λ r. ⌜ leaves (r .answer)
-        (left (take (sizes .frames) (r .frames)) (r .pool) records numbers accounts maps limits
+        (left (take (sizes .frames) (r .frames)) (deposited (r .deposited) (taken sizes (r .taken) pool)) records numbers accounts maps limits
         «frame_words» «free_queue» «removal_list» addresses states owners «free_map» active updating images used)
         ≡ own sizes
         (entered (take (sizes .frames) frames) pool records numbers accounts maps limits
@@ -53,38 +54,32 @@ pub fn writeback_event(
         (Event.Writeback event) ⌝ }
 {
     match event {
-        Writeback::Claim => with_pool(
-            claim(
-                sizes,
-                frames,
-                accounts,
-                frame_words,
-                free_queue,
-                removal_list,
-                addresses,
-                states,
-                used,
-            ),
-            pool,
-        ),
-        Writeback::Truncate { slot, count } => with_pool(
-            truncate(
-                sizes,
-                slot,
-                count,
-                frames,
-                numbers,
-                accounts,
-                free_queue,
-                removal_list,
-                addresses,
-                states,
-                active,
-                used,
-            ),
-            pool,
-        ),
-        Writeback::Update { slot } => with_both(
+        Writeback::Claim => framed(claim(
+            sizes,
+            frames,
+            accounts,
+            frame_words,
+            free_queue,
+            removal_list,
+            addresses,
+            states,
+            used,
+        )),
+        Writeback::Truncate { slot, count } => framed(truncate(
+            sizes,
+            slot,
+            count,
+            frames,
+            numbers,
+            accounts,
+            free_queue,
+            removal_list,
+            addresses,
+            states,
+            active,
+            used,
+        )),
+        Writeback::Update { slot } => told(
             update(
                 sizes,
                 slot,
@@ -98,29 +93,24 @@ pub fn writeback_event(
                 images,
             ),
             frames,
-            pool,
         ),
-        Writeback::PageDone { frame, good } => with_pool(
-            page_done(
-                sizes,
-                frame,
-                good,
-                frames,
-                records,
-                frame_words,
-                free_queue,
-                removal_list,
-                addresses,
-                states,
-            ),
-            pool,
-        ),
-        Writeback::MapDone { slot, good } => with_frames(
+        Writeback::PageDone { frame, good } => framed(page_done(
+            sizes,
+            frame,
+            good,
+            frames,
+            records,
+            frame_words,
+            free_queue,
+            removal_list,
+            addresses,
+            states,
+        )),
+        Writeback::MapDone { slot, good } => freed(
             map_done(
                 sizes,
                 slot,
                 good,
-                pool,
                 numbers,
                 maps,
                 states,

@@ -10,4 +10,6 @@ pub mod AnyLength
 pub mod Refused
 pub mod Callees
 pub mod Handed
+pub mod HandedAnew
 pub mod ByValue
+pub mod Pooling

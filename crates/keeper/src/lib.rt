@@ -4,12 +4,14 @@ ghost use mathlib.Core.Path.{_≡_};
 ghost use denote.Ref.{ptr};
 ghost use Rattle.model.specs.Lent.{diskOf, entered, left};
 ghost use Rattle.model.specs.Part.{wordAt};
+ghost use Rattle.model.specs.Own.{leaves};
 ghost use Rattle.model.specs.Calls.{apply};
 ghost use Rattle.model.specs.Step.{restart, format, look};
 ghost use Rattle.model.specs.Part.{partOf};
 use crate::frames::load;
 use crate::frames::save;
 use crate::pool::deposit;
+use crate::pool::renew;
 use crate::pool::take;
 use model::applied::Part;
 use model::event::Answer;
@@ -19,10 +21,10 @@ use model::request::Request;
 use model::sizes::Sizes;
 
 pub mod frames; // the lent frames as an array, and back
-pub mod pool; // the pool as a value, and back
+pub mod pool; // a record taken, records deposited
 
 // Every event, asked for by a request: its answer, and everything lent, are the definition's.
-// Shut out: a call that puts the pool back as it was; one that leaves the frames as they were.
+// Shut out: a call that takes no record out of the pool; one that leaves the frames as they were.
 #[no_mangle]
 pub extern "C" fn keeper_apply(
     sizes: Sizes,
@@ -46,24 +48,22 @@ pub extern "C" fn keeper_apply(
     images: &mut [u16],
     used: &mut [u16],
 ) -> Answer
-    ensures { λ r. ⌜ record {
-      answer = r;
-      left = left (now (frames .exit)) (now (pool .exit)) records numbers accounts maps limits
-          «frame_words» «free_queue» «removal_list» addresses states owners «free_map» active updating images used;
-    }
+    ensures { λ r. ⌜ leaves r
+        (left (now (frames .exit)) (now (pool .exit)) records numbers accounts maps limits
+        «frame_words» «free_queue» «removal_list» addresses states owners «free_map» active updating images used)
         ≡ apply sizes
         (entered (now (frames .entry)) (now (pool .entry)) records numbers accounts maps limits
         «frame_words» «free_queue» «removal_list» addresses states owners «free_map» active updating images used) request ⌝ }
 {
     let lent = frames.len();
     let values = load(frames);
-    let taken = take(pool);
+    let copy = *pool;
     let out = calls::apply_core(
         sizes,
         request,
         lent,
         values,
-        taken,
+        copy,
         records,
         numbers,
         accounts,
@@ -82,7 +82,8 @@ pub extern "C" fn keeper_apply(
         used,
     );
     save(frames, out.frames);
-    deposit(pool, out.pool);
+    take(pool, sizes, out.taken);
+    deposit(pool, out.deposited);
     out.answer
 }
 
@@ -110,25 +111,23 @@ pub extern "C" fn keeper_restart(
     images: &mut [u16],
     used: &mut [u16],
 ) -> Answer
-    ensures { λ r. ⌜ record {
-      answer = r;
-      left = left
-          (now (frames .exit))
-          (now (pool .exit)) records numbers accounts maps limits
-          «frame_words» «free_queue» «removal_list» addresses states owners «free_map» active updating images used;
-    }
+    ensures { λ r. ⌜ leaves r
+        (left
+        (now (frames .exit))
+        (now (pool .exit)) records numbers accounts maps limits
+        «frame_words» «free_queue» «removal_list» addresses states owners «free_map» active updating images used)
         ≡ restart sizes
         (entered (now (frames .entry)) (now (pool .entry)) records numbers accounts maps limits
         «frame_words» «free_queue» «removal_list» addresses states owners «free_map» active updating images used) ⌝ }
 {
     let lent = frames.len();
     let values = load(frames);
-    let taken = take(pool);
+    let copy = *pool;
     let fresh = calls::restart_core(
         sizes,
         lent,
         values,
-        taken,
+        copy,
         records,
         numbers,
         accounts,
@@ -147,7 +146,7 @@ pub extern "C" fn keeper_restart(
         used,
     );
     save(frames, fresh.frames);
-    deposit(pool, fresh.pool);
+    renew(pool, fresh.pool);
     fresh.answer
 }
 

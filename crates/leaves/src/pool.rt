@@ -1,12 +1,14 @@
-// The choice of a free record, by the map of one mark a record.
+// The pool: the choice of a free record, by the map of one mark a record; a record taken out, and records deposited, by value.
 ghost use mathlib.Core.Path.{_≡_};
-ghost use Prim.Native.Nat.{_-_, _*_, _<_, _≤_};
+ghost use Prim.Native.Nat.{_-_, _*_, _%_, _<_, _≤_};
 ghost use lib.Dec.{eqb};
 ghost use lib.ListN.{length};
 ghost use Rattle.tables.specs.Base.{find};
 ghost use Rattle.model.specs.Parts.{byHand};
+ghost use Rattle.model.specs.Pool.{taken, deposited};
 ghost use Rattle.tables.specs.Marks.{bitOf};
 ghost use Rattle.leaves.specs.FreeMap.{toldBy};
+use model::frame::Pool;
 use model::sizes::Sizes;
 
 // The first record from `from` up to `to` whose bit is on, or `to` where there is none.
@@ -40,4 +42,41 @@ pub fn by_hand(sizes: Sizes, map: &[u32], hand: usize) -> usize
         return high;
     }
     find_free(map, 0, hand)
+}
+
+// Record `n` - 1 is taken out, or none where `n` is 0: the hand then stands just past it, and one is free less.
+pub fn take(sizes: Sizes, n: u32, pool: Pool) -> Pool
+    ensures { λ r. ⌜ r ≡ taken sizes n pool ⌝ }
+{
+    if n == 0 {
+        return pool;
+    }
+    let hand = past(sizes.records, n);
+    let free = if pool.free == 0 { 0 } else { pool.free - 1 };
+    Pool { hand, free }
+}
+
+// After the last record comes 0.
+fn past(records: usize, n: u32) -> u32
+    ensures { λ r. ⌜ r ≡ n % records ⌝ }
+{
+    if records == 0 {
+        return n;
+    }
+    (n as usize % records) as u32
+}
+
+// `n` records are given back: so many are free more, as far as 32 bits hold; the hand stays.
+pub fn deposit(n: u32, pool: Pool) -> Pool
+    ensures { λ r. ⌜ r ≡ deposited n pool ⌝ }
+{
+    if n == 0 {
+        return pool;
+    }
+    let room = 4294967295 - pool.free;
+    let free = if n <= room { pool.free + n } else { 4294967295 };
+    Pool {
+        hand: pool.hand,
+        free,
+    }
 }

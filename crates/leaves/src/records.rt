@@ -1,6 +1,6 @@
 // A leaving record is given back to the free ones: its state, its slot and its bit of the free map.
 ghost use mathlib.Core.Path.{_≡_};
-ghost use Prim.Native.Nat.{_<_};
+ghost use Prim.Native.Nat.{_+_, _<_};
 ghost use lib.ListN.{length, set};
 ghost use Rattle.tables.specs.Base.{at};
 ghost use Rattle.model.specs.Lines.{FREE, LEAVING};
@@ -24,19 +24,18 @@ pub fn free_record(sizes: Sizes, states: &mut [u8], owners: &mut [u8], map: &mut
     put8(owners, r, 0);
 }
 
-// The slot's leaving records become free. The result is the count of free records then.
+// The slot's leaving records become free. The result is how many: so many free records more.
 pub fn free_leaving(
     sizes: Sizes,
     states: &mut [u8],
     owners: &mut [u8],
     map: &mut [u32],
     slot: usize,
-    free: u32,
 ) -> u32
-    requires { ⌜ (length (now owners) ≡ sizes .records) × (sizes .records < 4097) × (free ≡ freeCount sizes (at (now states))) × MapFits sizes (now states) (now map) ⌝ }
-    ensures { λ n. ⌜ Freed sizes slot (now (states .entry)) (now (owners .entry)) (now (states .exit)) (now (owners .exit)) (now (map .exit)) n ⌝ }
+    requires { ⌜ (length (now owners) ≡ sizes .records) × (sizes .records < 4097) × MapFits sizes (now states) (now map) ⌝ }
+    ensures { λ n. ⌜ Freed sizes slot (now (states .entry)) (now (owners .entry)) (now (states .exit)) (now (owners .exit)) (now (map .exit)) (freeCount sizes (at (now (states .entry))) + n) ⌝ }
 {
-    let mut count = free;
+    let mut count: u32 = 0;
     let mut r = 0;
     while r < states.len() {
         if states[r] == LEAVING && owners[r] as usize == slot {

@@ -13,6 +13,7 @@ pub mod Index
 pub mod Choice
 pub mod Nearest
 pub mod NearEdges
+pub mod Pool
 pub mod Designs
 pub mod Pages
 pub mod Writeback

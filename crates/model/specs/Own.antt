@@ -4,6 +4,7 @@ use Prim.Native.Nat.{ℕ}
 use Rattle.tables.specs.Questions.{Questions, ask, firstNo}
 use Rattle.tables.specs.Rule.{Rule, Holds, told, untold}
 use Rattle.model.specs.declared.sizes.Sizes.{Sizes}
+use Rattle.model.specs.declared.event.Answer.{Answer}
 use Rattle.model.specs.declared.event.Event.{Event}
 use Rattle.model.specs.State.{State}
 use Rattle.model.specs.Rules.{allRules}
@@ -12,6 +13,10 @@ use Rattle.model.specs.Step.{Outcome, outcome, allFit, answer, carried, 
 
 unfoldable pub own : Sizes → State → Event → Outcome State
 own z st e = outcome (firstNo (questions z st e)) (result z st e) st (carried z st e)
+
+-- the answer, and the state left
+abbrev pub leaves : Answer → State → Outcome State
+leaves answer left = record { answer = answer; left = left }
 
 -- refused by question n
 abbrev pub refusal : ℕ → State → Outcome State

@@ -32,7 +32,7 @@ module _ (z : Sizes) (st : State) where
   unfoldable pub serveZeros : ℕ → ℕ → State
   serveZeros i f = onCore (λ c. setFreeQueue (pop (c .free-queue)) (setRemovalList (push-front (c .removal-list) f) (onFrame f (λ g. fresh i) (setWords (setPart z f (λ w. 0) (c .words)) c)))) st
 
-  -- .. and a page with no address takes the first free record counting up from the hand; the hand then stands just past it.
+  -- .. and a page with no address takes a free record (`Parts.pick`). The hand then stands just past the record taken.
   unfoldable pub takeRecord : ℕ → ℕ → State
   takeRecord i r = onHeld (λ h. setAddresses (set (h .addresses) i (suc r)) (setStates (set (h .states) r NULLED) (setOwners (set (h .owners) r (slotOf z i)) (setHand (suc r % z .records) h)))) st
 

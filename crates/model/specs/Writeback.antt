@@ -55,7 +55,7 @@ module _ (z : Sizes) (st : State) where
   recordIn f = pred (files st .address (pred (frames st .frame f .page)))
 
   -- the frames and the list as the looks leave them
-  abbrev looked : State
+  abbrev pub looked : State
   looked = onCore (λ c. setFrames (looking .frames) (setRemovalList (packed (length (c .removal-list)) (looking .list)) c)) st
 
 -- A frame freed loses its page and switches; its words stay. It joins the free queue's end.

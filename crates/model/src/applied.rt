@@ -1,4 +1,4 @@
-// What comes back by value from the work of an event: the frames, 64 of them whatever F is, the pool, and the answer.
+// What comes back by value from the work of a call: the frames, 64 of them whatever F is, what was taken out of the pool and deposited in it, and the answer.
 ghost use mathlib.Core.Path.{_≡_};
 use crate::event::Answer;
 use crate::frame::Frame;
@@ -20,8 +20,16 @@ pub fn answered(frames: [Frame; 64], refusal: u32, result: u32) -> Framed
     }
 }
 
-// Of an event that changes the pool too.
+// Of an event that may change the pool too. taken: the record taken + 1, or 0 for none. deposited: how many records were given back.
 pub struct Applied {
+    pub frames: [Frame; 64],
+    pub taken: u32,
+    pub deposited: u32,
+    pub answer: Answer,
+}
+
+// Of a restart, which sets the pool anew.
+pub struct Pooled {
     pub frames: [Frame; 64],
     pub pool: Pool,
     pub answer: Answer,

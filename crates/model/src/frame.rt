@@ -43,7 +43,7 @@ pub fn no_frames() -> [Frame; 64]
     [none; 64]
 }
 
-// The hand, where the search for a free record starts, and the count of free records.
+// The hand, where the search for a free record starts for a page without a neighbour, and the count of free records.
 #[repr(C)]
 pub struct Pool {
     pub hand: u32,

@@ -25,6 +25,7 @@ use Rattle.model.specs.Lines.{NULLED}
 use Rattle.model.specs.State.{State, files, pageOf, slotOf, payer, live}
 use Rattle.model.specs.Index.{slot-of-page}
 use Rattle.model.specs.Parts.{pick, setPart}
+use Rattle.model.specs.Pool.{taken, taken-by}
 use Rattle.model.specs.Pages as Pages
 use Rattle.model.specs.Pages.{awaiting, fresh}
 use Rattle.model.specs.Questions.{questions}
@@ -95,7 +96,8 @@ module _ {z : Sizes} {fs : List Frame} {pool : Pool} {numbers accounts limits wo
     pub fault-no : _≡_ {A = Answer} (record { refusal = n; result = 0 }) (own z st e .answer)
     fault-no = λ t. o t .answer
 
-    pub fault-none : FaultLeft z st s p (take (z .frames) fs) pool words queue list addresses states owners map used
+    pub fault-none : FaultLeft z st s p (take (z .frames) fs) (taken z 0 pool) words queue list addresses states owners map used
+    unfolding taken
     fault-none = record {
       frames = λ t. o t .left .memory .core .frames;
       words-left = λ t. o t .left .memory .core .words;
@@ -151,9 +153,9 @@ module _ {z : Sizes} {fs : List Frame} {pool : Pool} {numbers accounts limits wo
       unfolding result Pages.faultFrame
       fault-yes = (λ t. record { refusal = 0; result = ef t }) ∙ (λ t. y t .answer)
 
-      pub fault-done : (pos : 0 < z .pages) (gs : List Frame) (pool' : Pool) (words' queue' list' addresses' states' owners' map' used' : List ℕ) (k : ℕ) → k ≡ at accounts s
+      pub fault-done : (pos : 0 < z .pages) (gs : List Frame) (t : ℕ) (words' queue' list' addresses' states' owners' map' used' : List ℕ) (k : ℕ) → k ≡ at accounts s
           → gs ≡ set fs f (if (eqb w 2) (awaiting j) (fresh j))
-          → pool' ≡ if (eqb w 0) (record { hand = suc (pick z (at addresses) (at states) (pool .hand) j) % z .records; free = pool .free - 1 }) pool
+          → t ≡ if (eqb w 0) (suc (pick z (at addresses) (at states) (pool .hand) j)) 0
           → words' ≡ if (eqb w 2) words (setPart z f (λ x. 0) words)
           → queue' ≡ pop queue
           → list' ≡ if (eqb w 2) list (push-front list f)
@@ -162,9 +164,9 @@ module _ {z : Sizes} {fs : List Frame} {pool : Pool} {numbers accounts limits wo
           → owners' ≡ if (eqb w 0) (set owners (pick z (at addresses) (at states) (pool .hand) j) s) owners
           → map' ≡ if (eqb w 0) (cleared map (pick z (at addresses) (at states) (pool .hand) j)) map
           → used' ≡ if (eqb w 2) used (charged1 used k)
-          → FaultLeft z st s p (take (z .frames) gs) pool' words' queue' list' addresses' states' owners' map' used'
+          → FaultLeft z st s p (take (z .frames) gs) (taken z t pool) words' queue' list' addresses' states' owners' map' used'
       unfolding carried payer
-      fault-done pos gs pool' words' queue' list' addresses' states' owners' map' used' k ek eg ep ewo eq el ea es eo em eu = record {
+      fault-done pos gs n′ words' queue' list' addresses' states' owners' map' used' k ek eg ep ewo eq el ea es eo em eu = record {
         frames = ap (take (z .frames)) eg ∙ take-frame (z .frames) fs f _ ∙ (λ t. set (take (z .frames) fs) (ef t) (if (eqb (its t) 2) (awaiting (ej t)) (fresh (ej t)))) ∙ sym (fault-frames z st s p) ∙ (λ t. y t .left .memory .core .frames);
         words-left = ewo ∙ (λ t. if (eqb (its t) 2) words (setPart z (ef t) (λ x. 0) words)) ∙ sym (fault-words z st s p) ∙ (λ t. y t .left .memory .core .words);
         queue-left = eq ∙ sym (fault-queue z st s p) ∙ (λ t. y t .left .memory .core .free-queue);
@@ -172,12 +174,15 @@ module _ {z : Sizes} {fs : List Frame} {pool : Pool} {numbers accounts limits wo
         addresses-left = ea ∙ (λ t. if (eqb (its t) 0) (set addresses (ej t) (suc (pick z (at addresses) (at states) (pool .hand) (ej t)))) addresses) ∙ sym (fault-addresses z st s p) ∙ (λ t. y t .left .memory .held .addresses);
         states-left = es ∙ (λ t. if (eqb (its t) 0) (set states (pick z (at addresses) (at states) (pool .hand) (ej t)) NULLED) states) ∙ sym (fault-states z st s p) ∙ (λ t. y t .left .memory .held .states);
         owners-left = eo ∙ (λ t. if (eqb (its t) 0) (set owners (pick z (at addresses) (at states) (pool .hand) (ej t)) (slot t)) owners) ∙ sym (fault-owners z st s p) ∙ (λ t. y t .left .memory .held .owners);
-        hand = ap (λ (x : Pool). x .hand) ep ∙ if-pool (eqb w 0) _ pool ∙ (λ t. if (eqb (its t) 0) (suc (pick z (at addresses) (at states) (pool .hand) (ej t)) % z .records) (pool .hand)) ∙ sym (fault-hand z st s p) ∙ (λ t. y t .left .memory .held .pool .hand);
-        free = ap (λ (x : Pool). x .free) ep ∙ if-free (eqb w 0) _ pool ∙ (λ t. if (none t) (pool .free - 1) (pool .free)) ∙ if-also (goes z st s p) (test (same (at addresses i) 0)) (pool .free - 1) (pool .free) going;
+        hand = ap (λ (x : Pool). x .hand) held ∙ if-pool (eqb w 0) _ pool ∙ (λ t. if (eqb (its t) 0) (suc (pick z (at addresses) (at states) (pool .hand) (ej t)) % z .records) (pool .hand)) ∙ sym (fault-hand z st s p) ∙ (λ t. y t .left .memory .held .pool .hand);
+        free = ap (λ (x : Pool). x .free) held ∙ if-free (eqb w 0) _ pool ∙ (λ t. if (none t) (pool .free - 1) (pool .free)) ∙ if-also (goes z st s p) (test (same (at addresses i) 0)) (pool .free - 1) (pool .free) going;
         map-left = em ∙ (λ t. if (none t) (cleared map (pick z (at addresses) (at states) (pool .hand) (ej t))) map) ∙ if-also (goes z st s p) (test (same (at addresses i) 0)) (cleared map (pick z (at addresses) (at states) (pool .hand) i)) map going;
         used-left = eu ∙ (λ t. if (two t) used (charged1 used (ek t))) ∙ if-not (goes z st s p) (test (live (files st) i)) (charged1 used (at accounts s)) used going;
       }
         where
+          held : taken z n′ pool ≡ if (eqb w 0) (record { hand = suc (pick z (at addresses) (at states) (pool .hand) j) % z .records; free = pool .free - 1 }) pool
+          held = ap (λ (x : ℕ). taken z x pool) ep ∙ taken-by z (pick z (at addresses) (at states) (pool .hand) j) pool (eqb w 0)
+
           slot : s ≡ slotOf z i
           slot = sym (slot-of-page z pos s p (fault-range .1))
 

@@ -9,6 +9,7 @@ ghost use Rattle.tables.specs.Also.{_also_};
 ghost use Rattle.model.specs.declared.event.Event.the-variants as Event;
 ghost use Rattle.model.specs.declared.event.Page.the-variants as Page;
 ghost use Rattle.model.specs.State.{pageOf};
+ghost use Rattle.model.specs.Pool.{taken};
 ghost use Rattle.model.specs.Own.{own};
 ghost use Rattle.pages.specs.Seen.{enteredFault};
 ghost use Rattle.leaves.specs.Asks.{slotAsked};
@@ -67,7 +68,7 @@ pub fn ask_fault(
     ask_supply(i, free, count, limit, addresses, states, free_queue)
 }
 
-// Result: the frame. The counts go up and down: used by one where the address is not live, free records where one is taken.
+// Result: the frame. The used count goes up by one where the address is not live; the record that a page with no address takes is told.
 pub fn fault(
     sizes: Sizes,
     slot: usize,
@@ -89,7 +90,8 @@ pub fn fault(
 ) -> Applied
     requires { ⌜ Seats sizes (take (sizes .frames) frames) × Queued sizes (now «free_queue») (now «removal_list») × (length (now words) ≡ sizes .frames * sizes .words) × Pooled sizes pool (now states) (now «free_map») ⌝ }
     ensures answer { λ r. ⌜ r .answer ≡ own sizes (enteredFault (take (sizes .frames) frames) pool numbers accounts limits words «free_queue» «removal_list» addresses states owners «free_map» active used) (Event.Page (Page.Fault slot page)) .answer ⌝ }
-    ensures left { λ r. ⌜ Left sizes (enteredFault (take (sizes .frames) frames) pool numbers accounts limits words «free_queue» «removal_list» addresses states owners «free_map» active used) slot page (take (sizes .frames) (r .frames)) (r .pool) words «free_queue» «removal_list» addresses states owners «free_map» used ⌝ }
+    ensures left { λ r. ⌜ Left sizes (enteredFault (take (sizes .frames) frames) pool numbers accounts limits words «free_queue» «removal_list» addresses states owners «free_map» active used) slot page (take (sizes .frames) (r .frames)) (taken sizes (r .taken) pool) words «free_queue» «removal_list» addresses states owners «free_map» used ⌝ }
+    ensures deposited { λ r. ⌜ r .deposited ≡ 0 ⌝ }
 {
     let in_range = (slot < sizes.slots) & (page < sizes.pages);
     let refusal = ask_fault(
@@ -111,7 +113,8 @@ pub fn fault(
     if refusal != 0 {
         return Applied {
             frames,
-            pool,
+            taken: 0,
+            deposited: 0,
             answer: Answer { refusal, result: 0 },
         };
     }
@@ -119,7 +122,7 @@ pub fn fault(
     let f = first(free_queue);
     let way = way_of(i, addresses, states);
     let payer = at16(accounts, slot) as usize;
-    let pool = hold(
+    let taken = hold(
         way,
         sizes,
         slot,
@@ -135,7 +138,8 @@ pub fn fault(
     charge(way, payer, used);
     Applied {
         frames,
-        pool,
+        taken,
+        deposited: 0,
         answer: Answer {
             refusal: 0,
             result: f as u32,

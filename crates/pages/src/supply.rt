@@ -1,14 +1,13 @@
 // What a fault asks and takes: quota, a record, a frame.
 ghost use mathlib.Core.Path.{_≡_};
 ghost use mathlib.Core.Bool.{true};
-ghost use Prim.Native.Nat.{suc, _+_, _-_, _*_, _%_, _<_};
+ghost use Prim.Native.Nat.{suc, _*_, _<_};
 ghost use lib.Dec.{eqb, ltb};
 ghost use lib.ListN.{length, take, set};
 ghost use Rattle.tables.specs.Base.{if, at};
 ghost use Rattle.tables.specs.Queue.{size, queue, push-front};
 ghost use Rattle.tables.specs.Questions.{firstNo};
 ghost use Rattle.tables.specs.Rule.{Holds};
-ghost use Rattle.model.specs.declared.frame.Pool.{Pool};
 ghost use Rattle.model.specs.Lines.{NULLED};
 ghost use Rattle.model.specs.Parts.{setPart};
 ghost use Rattle.model.specs.Pages.{awaiting, fresh};
@@ -110,7 +109,7 @@ pub fn ask_supply(
     0
 }
 
-// A page with no address takes a free record, near its neighbour's or by the hand; the hand then stands just past it.
+// A page with no address takes a free record, near its neighbour's or by the hand. The result is that record + 1, or 0 where none is taken.
 pub fn hold(
     way: u8,
     sizes: Sizes,
@@ -121,26 +120,24 @@ pub fn hold(
     states: &mut [u8],
     owners: &mut [u8],
     free_map: &mut [u32],
-) -> Pool
+) -> u32
     requires { ⌜ Within sizes × (slot < 256) × (page < 65535) × Pooled sizes pool (now states) (now «free_map») × ((way ≡ 0) → 0 < pool .free) ⌝ }
-    ensures pool { λ r. ⌜ r ≡ if (eqb way 0) (record { hand = suc (chosen sizes pool addresses states page) % sizes .records; free = pool .free - 1 }) pool ⌝ }
+    ensures taken { λ r. ⌜ r ≡ if (eqb way 0) (suc (chosen sizes pool addresses states page)) 0 ⌝ }
     ensures addresses { λ r. ⌜ now (addresses .exit) ≡ if (eqb way 0) (set (now (addresses .entry)) page (suc (chosen sizes pool addresses states page))) (now (addresses .entry)) ⌝ }
     ensures states { λ r. ⌜ now (states .exit) ≡ if (eqb way 0) (set (now (states .entry)) (chosen sizes pool addresses states page) NULLED) (now (states .entry)) ⌝ }
     ensures owners { λ r. ⌜ now (owners .exit) ≡ if (eqb way 0) (set (now (owners .entry)) (chosen sizes pool addresses states page) slot) (now (owners .entry)) ⌝ }
     ensures map { λ r. ⌜ now («free_map» .exit) ≡ if (eqb way 0) (cleared (now («free_map» .entry)) (chosen sizes pool addresses states page)) (now («free_map» .entry)) ⌝ }
 {
     if way != 0 {
-        return pool;
+        return 0;
     }
     let record = pick(sizes, addresses, free_map, pool.hand as usize, page);
-    put16(addresses, page, (record + 1) as u16);
+    let taken = record + 1;
+    put16(addresses, page, taken as u16);
     move_record(states, record, NULLED);
     put8(owners, record, slot as u8);
     clear_mark(free_map, record);
-    Pool {
-        hand: ((record + 1) % sizes.records) as u32,
-        free: pool.free - 1,
-    }
+    taken as u32
 }
 
 // A read begins for a live address; otherwise the frame is zeroed and stands at the removal list's front.

@@ -6,11 +6,11 @@ use native.Mathlib.Omega.{arith}
 use lib.ListN.{replicate}
 use Rattle.tables.specs.Base.{at}
 use Rattle.tables.specs.Rule.{Rule, same, each, Holds, test, alike, sound, complete}
-use Rattle.rules.proofs.Marked.{zeros}
+use Rattle.tables.specs.Laws.{at-zeros}
 
 -- a table of zeros
 pub all-zero : (n : ℕ) → Holds (each n (λ r. same (at (replicate n 0) r) 0))
-all-zero n r h = zeros n r
+all-zero n r h = at-zeros n r
 
 -- ── pages by slot ──
 module _ (slots pages : ℕ) (pos : 0 < pages) (P : ℕ → ℕ → Type 0) where

@@ -6,7 +6,7 @@ ghost use lib.ListN.{replicate};
 ghost use Rattle.model.specs.State.{noFrame};
 ghost use Rattle.replay.specs.Output.{sizes as Output·sizes, carried, startedFrom};
 use crate::input::cut;
-use model::applied::Applied;
+use model::applied::Pooled;
 use model::event::Answer;
 use model::frame::Pool;
 use model::frame::no_frames;
@@ -30,10 +30,10 @@ fn sizes() -> Sizes
 }
 
 // Frames and pool before the first restart; what stands in them is never read.
-fn blank() -> Applied
+fn blank() -> Pooled
     ensures { λ r. ⌜ r ≡ record { frames = replicate 64 noFrame; pool = noPool; answer = record { refusal = 0; result = 0 } } ⌝ }
 {
-    Applied {
+    Pooled {
         frames: no_frames(),
         pool: Pool { hand: 0, free: 0 },
         answer: Answer {
@@ -46,7 +46,7 @@ fn blank() -> Applied
 // A request, or a cut with a restart (at its cut no unreported transfer lands, so the restart is all), carried out.
 pub fn carry(
     asked: Request,
-    held: Applied,
+    held: Pooled,
     records: &mut [u32; 8],
     numbers: &mut [u32; 2],
     accounts: &mut [u16; 2],
@@ -63,7 +63,7 @@ pub fn carry(
     updating: &mut [u8; 2],
     images: &mut [u16; 6],
     used: &mut [u16; 1],
-) -> Applied
+) -> Pooled
     ensures { λ r.
         ⌜ record { answer = r .answer; left = left (framesOf (r .frames) 2) (r .pool) records numbers accounts maps limits «frame_words» «free_queue» «removal_list» addresses states owners «free_map» active updating images used }
         ≡ carried (entered (framesOf (held .frames) 2) (held .pool) records numbers accounts maps limits «frame_words» «free_queue» «removal_list» addresses states owners «free_map» active updating images used) asked ⌝ }
@@ -94,7 +94,7 @@ pub fn carry(
             used,
         );
     }
-    calls::apply_core(
+    let out = calls::apply_core(
         sizes(),
         asked,
         2,
@@ -116,8 +116,18 @@ pub fn carry(
         updating,
         images,
         used,
-    )
+    );
+    let frames = out.frames;
+    let answer = out.answer;
+    let fewer = leaves::pool::take(sizes(), out.taken, pool);
+    let pool = leaves::pool::deposit(out.deposited, fewer);
+    Pooled {
+        frames,
+        pool,
+        answer,
+    }
 }
+
 // Formats, and restarts.
 pub fn start(
     records: &mut [u32; 8],
@@ -136,7 +146,7 @@ pub fn start(
     updating: &mut [u8; 2],
     images: &mut [u16; 6],
     used: &mut [u16; 1],
-) -> Applied
+) -> Pooled
     ensures { λ r.
         ⌜ record { answer = r .answer; left = left (framesOf (r .frames) 2) (r .pool) records numbers accounts maps limits «frame_words» «free_queue» «removal_list» addresses states owners «free_map» active updating images used }
         ≡ startedFrom (entered (framesOf (replicate 64 noFrame) 2) noPool records numbers accounts maps limits «frame_words» «free_queue» «removal_list» addresses states owners «free_map» active updating images used) ⌝ }

@@ -10,14 +10,14 @@ ghost use Rattle.replay.specs.Input.{isWhole, room};
 ghost use Rattle.replay.specs.Output.{Ran};
 use crate::input::step_at;
 use crate::machine::carry;
-use model::applied::Applied;
+use model::applied::Pooled;
 
 // Up to the place where the next field starts: so many bytes of lines, n events done, and what they left.
 pub struct Done {
     pub place: usize,
     pub size: usize,
     pub n: u64,
-    pub held: Applied,
+    pub held: Pooled,
 }
 
 // From a place on, as long as there are whole fields and their lines have room.
@@ -26,7 +26,7 @@ pub fn whole_fields(
     from: usize,
     out: &mut [u8],
     count: u64,
-    before: Applied,
+    before: Pooled,
     records: &mut [u32; 8],
     numbers: &mut [u32; 2],
     accounts: &mut [u16; 2],

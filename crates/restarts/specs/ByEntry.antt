@@ -3,11 +3,11 @@ use mathlib.Core.Path.{_≡_, refl, sym, _∙_}
 use mathlib.Core.List.{List}
 use Prim.Native.Nat.{ℕ, _+_, _<_, _≤_}
 use native.Mathlib.Omega.{arith}
-use native.Mathlib.Decide.{ℕ-discrete, decLt}
-use lib.ListN.{length, set, replicate, length-set, length-replicate, getD-replicate, List·getD-eq-default}
+use native.Mathlib.Decide.{ℕ-discrete}
+use lib.ListN.{length, set, replicate, length-set, length-replicate}
 use lib.Seq.{ext-getD, getD-set-same, getD-set-other}
 use Rattle.tables.specs.Base.{at, tab}
-use Rattle.tables.specs.Laws.{at-tab0, length-tab}
+use Rattle.tables.specs.Laws.{at-tab0, length-tab, at-zeros}
 
 -- n entries, entry i being f i
 pub record Filled (n : ℕ) (f : ℕ → ℕ) (l : List ℕ) : Type 0 where
@@ -37,10 +37,6 @@ module _ {n : ℕ} {f : ℕ → ℕ} {l : List ℕ} (d : Filled n f l) where
       | no c ↦ getD-set-other l j i x 0 c ∙ d .entries i h ∙ o i h c
     ];
   }
-
--- zeros, also past the end
-pub at-zeros : (n i : ℕ) → at (replicate n 0) i ≡ 0
-at-zeros n i = elim (decLt i n) [ yes h ↦ getD-replicate n i 0 0 h | no h ↦ List·getD-eq-default (replicate n 0) 0 (let e : length (replicate n 0) ≡ n = length-replicate {A = ℕ} n 0 in omega (arith, e, h)) ]
 
 pub filled-zeros : (n : ℕ) (f : ℕ → ℕ) → ((i : ℕ) → i < n → 0 ≡ f i) → Filled n f (replicate n 0)
 filled-zeros n f e = record { long = length-replicate n 0; entries = λ i h. at-zeros n i ∙ e i h }

@@ -11,7 +11,7 @@ use lib.Dec.{eqb, ltb}
 use lib.ListN.{set, replicate, length-replicate}
 use borrow.Author.Tests.{lt-ltb, le-ltb, eq-eqb, ne-eqb}
 use Rattle.tables.specs.Base.{at, if, count, tab}
-use Rattle.tables.specs.Laws.{count-same, count-bound}
+use Rattle.tables.specs.Laws.{count-same, count-bound, at-zeros}
 use Rattle.tables.specs.Bits.{bits}
 use Rattle.tables.specs.BitLaws.{bits-none, bits-suc}
 use Rattle.model.specs.declared.sizes.Sizes.{Sizes}
@@ -20,7 +20,7 @@ use Rattle.model.specs.State.{Files, Frames, allPages, slotOf, mapWords, payer,
 use Rattle.tables.specs.Marks.{bitOf}
 use Rattle.model.specs.Parts.{isFree}
 use Rattle.leaves.specs.FreeMap.{freeMap, free-map, bit-off, free-map-set, free-map-same}
-use Rattle.restarts.specs.ByEntry.{Filled, filled-same, filled-set, at-zeros}
+use Rattle.restarts.specs.ByEntry.{Filled, filled-same, filled-set}
 
 -- ── used counts ──
 -- entry i is above 0 and of the account's slot

@@ -9,7 +9,7 @@ use lib.ListN.{length, replicate, take}
 use Rattle.tables.specs.Base.{at, tab}
 use Rattle.tables.specs.Queue.{packed}
 use Rattle.tables.specs.QueueLaws.{length-packed, at-packed}
-use Rattle.tables.specs.Laws.{at-tab0, length-tab, count-bound}
+use Rattle.tables.specs.Laws.{at-tab0, length-tab, count-bound, at-zeros}
 use Rattle.tables.specs.Rule.{Holds, each, below}
 use Rattle.model.specs.declared.sizes.Sizes.{Sizes}
 use Rattle.model.specs.declared.frame.Frame.{Frame}
@@ -25,7 +25,7 @@ use Rattle.model.specs.Setters.{counted}
 use Rattle.model.specs.Restart.{restarted, isListed, listedAt}
 use Rattle.model.specs.Bounds.{pages-most}
 use Rattle.leaves.specs.FreeMap.{freeMap}
-use Rattle.restarts.specs.ByEntry.{Filled, filled-tab, at-zeros}
+use Rattle.restarts.specs.ByEntry.{Filled, filled-tab}
 use Rattle.restarts.specs.Filed.{filedStates, filedOwners}
 use Rattle.restarts.specs.Counts.{listedUsed, used-inactive}
 

@@ -10,7 +10,7 @@ use crate::queue::fill_queue;
 use crate::zero::zero8;
 use crate::zero::zero16;
 use crate::zero::zero32;
-use model::applied::Applied;
+use model::applied::Pooled;
 use model::event::Answer;
 use model::frame::Pool;
 use model::frame::no_frames;
@@ -79,7 +79,7 @@ pub fn restart_tables(
     updating: &mut [u8],
     images: &mut [u16],
     used: &mut [u16],
-) -> Applied
+) -> Pooled
     requires { ⌜ TablesGiven sizes accounts maps words «free_queue» «removal_list» addresses states owners «free_map» active updating images used ⌝ }
     ensures answer { λ r. ⌜ r .answer ≡ record { refusal = 0; result = 0 } ⌝ }
     ensures frames { λ r. ⌜ take (sizes .frames) (r .frames) ≡ restartedFrom sizes accounts maps .core .frames ⌝ }
@@ -108,7 +108,7 @@ pub fn restart_tables(
         refusal: 0,
         result: 0,
     };
-    Applied {
+    Pooled {
         frames,
         pool,
         answer,

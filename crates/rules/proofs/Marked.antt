@@ -8,7 +8,7 @@ use native.Mathlib.Nat.{zero-div}
 use native.Mathlib.Decide.{ℕ-discrete, decLt}
 use lib.Dec.{T, eqb}
 use borrow.Author.Tests.{eq-eqb, ne-eqb}
-use lib.ListN.{length, length-set, replicate, List·getD-eq-default}
+use lib.ListN.{length, length-set, List·getD-eq-default}
 use Rattle.tables.specs.Base.{at}
 use Rattle.tables.specs.Bits.{bit}
 use Rattle.tables.specs.BitLaws.{bit-le}
@@ -178,8 +178,3 @@ module _ (m n : ℕ) (entry : ℕ → ℕ) (size : ℕ) (marks : List ℕ) where
 
 pub not-true : {A : Type 0} → false ≡ true → A
 not-true e = absurd (subst (λ (b : Bool). T b) (sym e) tt)
-
-pub zeros : (n r : ℕ) → at (replicate n 0) r ≡ 0
-zeros zero r = refl
-zeros (suc n) zero = refl
-zeros (suc n) (suc r) = zeros n r

@@ -23,7 +23,7 @@ use Rattle.model.specs.State.{State, Files, Frames, files, frames, frameAt, noF
 use Rattle.model.specs.Setters.{onCore, onHeld, setStates, setTransfer, counted}
 use Rattle.model.specs.Pages.{onFrame}
 use Rattle.model.specs.Index.{split-entry, split-set, slot-below}
-use Rattle.model.specs.Writeback.{looking, beginsWrite, recordIn, freeFrame}
+use Rattle.model.specs.Writeback.{looked, looking, beginsWrite, recordIn, freeFrame}
 use Rattle.model.specs.Writeback
 use Rattle.model.specs.Step.{carried}
 use Rattle.model.specs.Fit.{Fit}
@@ -32,7 +32,7 @@ use Rattle.model.specs.Lent.{stateOf, same-state}
 use Rattle.leaves.specs.Counts.{counts, countsFor, usedCounts, counts-less}
 use Rattle.writeback.specs.Claim.{claim, payerOf, usedThen, Claimable, ClaimReady}
 use Rattle.writeback.proofs.Kept.{counts-alike, charged-alike, used-is, used-kept, map-kept, pool-kept}
-use Rattle.writeback.proofs.Looks.{looked, look-page, look-long, taken-in}
+use Rattle.writeback.proofs.Looks.{look-page, look-long, taken-in}
 use Rattle.writeback.proofs.Ready.{Paged, paged, queue-room}
 
 module _ (z : Sizes) (st : State) (fit : Fit z st) (ruled : Ruled z st) where

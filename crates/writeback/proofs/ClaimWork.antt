@@ -24,7 +24,7 @@ use Rattle.model.specs.State.{State, WRITING, frameAt, noFrame, payer}
 use Rattle.model.specs.Setters.{onCore, onHeld, setStates, setTransfer, counted}
 use Rattle.model.specs.Pages.{onFrame}
 use Rattle.model.specs.Questions.{questions}
-use Rattle.model.specs.Writeback.{Looked, look, looking, beginsWrite, zeros, recordIn, freeFrame}
+use Rattle.model.specs.Writeback.{Looked, look, looked, looking, beginsWrite, zeros, recordIn, freeFrame}
 use Rattle.model.specs.Writeback
 use Rattle.model.specs.Step.{Outcome, outcome, carried, result}
 use Rattle.model.specs.Own.{own, refusal, completed, first-no}
@@ -32,7 +32,7 @@ use Rattle.leaves.specs.FrameLaws.{frame-take, take-frame}
 use Rattle.model.specs.OwnLaws.{own-yes, own-no}
 use Rattle.writeback.specs.Claim.{claim, seen, payerOf, usedThen, LooksLeft, Claimable, ClaimReady, ClaimLeft}
 use Rattle.writeback.proofs.DoneWork.{answered}
-use Rattle.writeback.proofs.Looks.{cut, looked, look-take, taken-in}
+use Rattle.writeback.proofs.Looks.{cut, look-take, taken-in}
 use Rattle.tables.specs.StoreLoops.{part-fits}
 
 -- the frame that the looks end at, as the calls after them ask it

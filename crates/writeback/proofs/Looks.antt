@@ -11,18 +11,12 @@ use Rattle.tables.specs.Queue.{members, packed, times, size, first, pop, push-b
 use Rattle.tables.specs.TimesLaws.{Within, times-here, times-rotate}
 use Rattle.tables.specs.QueueLaws.{size-members, size-le, size-pop, size-push-back, length-pop, length-push-back, members-pop, members-push-back, queue-pop, queue-push-back, first-below}
 use Rattle.tables.specs.Rule.{Holds}
-use Rattle.model.specs.declared.sizes.Sizes.{Sizes}
 use Rattle.model.specs.declared.frame.Frame.{Frame}
-use Rattle.model.specs.State.{State, frameAt}
-use Rattle.model.specs.Setters.{onCore, setFrames, setRemovalList}
-use Rattle.model.specs.Writeback.{Looked, look, looking, warm, cooled}
+use Rattle.model.specs.State.{frameAt}
+use Rattle.model.specs.Writeback.{Looked, look, warm, cooled}
 use Rattle.model.specs.LookLaws.{cool, cool-at, warms, warms-le, fewer}
 use Rattle.leaves.specs.FrameLaws.{frame-take, take-frame}
 use Rattle.writeback.specs.Claim.{LooksLeft}
-
--- the state as the looks leave it: the frames and the list
-abbrev pub looked : Sizes → State → State
-looked z st = onCore (λ c. setFrames (looking z st .frames) (setRemovalList (packed (length (c .removal-list)) (looking z st .list)) c)) st
 
 -- ── one look ──
 module _ (fuel n : ℕ) (fs : List Frame) (f : ℕ) (xs : List ℕ) where

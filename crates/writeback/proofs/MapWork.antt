@@ -20,7 +20,8 @@ use Rattle.model.specs.Questions.{questions}
 use Rattle.model.specs.Writeback
 use Rattle.model.specs.Step.{Outcome, carried, result}
 use Rattle.model.specs.Own.{own, completed}
-use Rattle.leaves.specs.Counts.{free-same}
+use Rattle.model.specs.Pool.{deposited, deposited-counts}
+use Rattle.leaves.specs.Counts.{free-same, free-most}
 use Rattle.leaves.specs.FreeMap.{freeMap, free-map-same}
 use Rattle.leaves.specs.Freed.{Freed, leaverOf}
 use Rattle.writeback.specs.declared.map_done.Freed as Handed
@@ -28,8 +29,8 @@ use Rattle.model.specs.OwnLaws.{own-yes, own-no}
 use Rattle.writeback.specs.MapDone.{mapDone, seen, MapReady, MapLeft}
 use Rattle.tables.specs.StoreLoops.{part-fits}
 
-abbrev pub handed : Pool → ℕ → ℕ → Handed.Freed
-handed pool free n = record { pool = record { hand = pool .hand; free = free }; answer = record { refusal = n; result = 0 } }
+abbrev pub handed : ℕ → ℕ → Handed.Freed
+handed count n = record { deposited = count; answer = record { refusal = n; result = 0 } }
 
 -- a released record is as little free as a leaving one
 still-taken : (ss os : List ℕ) (s r : ℕ) → r < length ss → eqb (at ss r) FREE ≡ eqb (at (store ss (leaverOf ss os s) (λ k. RELEASED)) r) FREE
@@ -46,15 +47,16 @@ module _ (z : Sizes) (pool : Pool) (ns ms ss os fm ac us is : List ℕ) (s good 
   out = own z st (mapDone s good)
 
   abbrev Left : Handed.Freed → List ℕ → List ℕ → List ℕ → List ℕ → List ℕ → List ℕ → Type 0
-  Left x ms' ss' os' fm' us' is' = MapLeft out (x .pool) (x .answer) ms' ss' os' fm' us' is'
+  Left x ms' ss' os' fm' us' is' = MapLeft out (deposited (x .deposited) pool) (x .answer) ms' ss' os' fm' us' is'
 
-  left-by : {p : Outcome State} {x : Handed.Freed} {ms' ss' os' fm' us' is' : List ℕ} → out ≡ p → MapLeft p (x .pool) (x .answer) ms' ss' os' fm' us' is' → Left x ms' ss' os' fm' us' is'
-  left-by {x = x} {ms' = ms'} {ss' = ss'} {os' = os'} {fm' = fm'} {us' = us'} {is' = is'} e h = subst (λ (o : Outcome State). MapLeft o (x .pool) (x .answer) ms' ss' os' fm' us' is') (sym e) h
+  left-by : {p : Outcome State} (x : Handed.Freed) {ms' ss' os' fm' us' is' : List ℕ} → out ≡ p → MapLeft p (deposited (x .deposited) pool) (x .answer) ms' ss' os' fm' us' is' → Left x ms' ss' os' fm' us' is'
+  left-by x {ms' = ms'} {ss' = ss'} {os' = os'} {fm' = fm'} {us' = us'} {is' = is'} e h = subst (λ (o : Outcome State). MapLeft o (deposited (x .deposited) pool) (x .answer) ms' ss' os' fm' us' is') (sym e) h
 
   module _ {n : ℕ} (e : n ≡ firstNo (questions z st (mapDone s good))) where
-    pub refused : ¬ (n ≡ 0) → {x : Handed.Freed} → x ≡ handed pool (pool .free) n → Left x ms ss os fm us is
-    refused d {x} y = left-by {x = x} (sym (own-no z st (mapDone s good) _ e d))
-        (record { answer = ap (λ (a : Handed.Freed). a .answer) y; pool = ap (λ (a : Handed.Freed). a .pool) y; maps = refl; states = refl; owners = refl; free-map = refl; updating = refl; images = refl })
+    pub refused : ¬ (n ≡ 0) → {x : Handed.Freed} → x ≡ handed 0 n → Left x ms ss os fm us is
+    unfolding deposited
+    refused d {x} y = left-by x (sym (own-no z st (mapDone s good) _ e d))
+        (record { answer = ap (λ (a : Handed.Freed). a .answer) y; pool = ap (λ (a : Handed.Freed). deposited (a .deposited) pool) y; maps = refl; states = refl; owners = refl; free-map = refl; updating = refl; images = refl })
 
     module _ (yes : n ≡ 0) where
       asked : Asked (questions z st (mapDone s good))
@@ -63,7 +65,7 @@ module _ (z : Sizes) (pool : Pool) (ns ms ss os fm ac us is : List ℕ) (s good 
       inside : s < z .slots
       inside = asked .0 .0
 
-      module _ (ready : MapReady z pool ms ss os fm is) where
+      module _ (ready : MapReady z ms ss os fm is) where
         pub maps-fit : s * z .pages + z .pages ≤ length ms
         maps-fit = rw (ready .maps-long) (part-fits (z .slots) (z .pages) s inside)
 
@@ -71,12 +73,13 @@ module _ (z : Sizes) (pool : Pool) (ns ms ss os fm ac us is : List ℕ) (s good 
         images-fit = rw (ready .images-long) (part-fits (z .slots) (z .pages) s inside)
 
         pub good-left : good ≡ 1 → {ms' ss' os' fm' us' is' : List ℕ} {k : ℕ} {x : Handed.Freed} → us' ≡ set us s 0 → ms' ≡ store ms (λ i. same (i / z .pages) s) (at is)
-            → is' ≡ store is (λ i. same (i / z .pages) s) (λ i. 0) → Freed z s ss os ss' os' fm' k → x ≡ handed pool k 0 → Left x ms' ss' os' fm' us' is'
+            → is' ≡ store is (λ i. same (i / z .pages) s) (λ i. 0) → pool .free ≡ freeCount z (at ss) → Freed z s ss os ss' os' fm' (freeCount z (at ss) + k) → x ≡ handed k 0 → Left x ms' ss' os' fm' us' is'
         unfolding carried result Writeback.mapDone Writeback.storeImage Writeback.updateOver counted
-        good-left g {x = x} a b d w y = left-by {x = x} (sym (own-yes z st (mapDone s good) _ e yes) ∙ ap (completed 0) (ap (λ (m : ℕ). carried z st (mapDone s m)) g))
+        good-left g {ss' = ss'} {k = k} {x = x} a b d c w y = left-by x (sym (own-yes z st (mapDone s good) _ e yes) ∙ ap (completed 0) (ap (λ (m : ℕ). carried z st (mapDone s m)) g))
             (record {
               answer = ap (λ (v : Handed.Freed). v .answer) y;
-              pool = ap (λ (v : Handed.Freed). v .pool) y ∙ ap (λ (m : ℕ). record { hand = pool .hand; free = m }) (w .the-count ∙ ap (λ (l : List ℕ). freeCount z (at l)) (w .the-states));
+              pool = ap (λ (v : Handed.Freed). deposited (v .deposited) pool) y ∙ deposited-counts k pool (omega (arith, c, w .the-count, free-most z (at ss'), ready .records-most))
+                  ∙ ap (λ (m : ℕ). record { hand = pool .hand; free = m }) (ap (λ (m : ℕ). m + k) c ∙ w .the-count ∙ ap (λ (l : List ℕ). freeCount z (at l)) (w .the-states));
               maps = b;
               states = w .the-states;
               owners = w .the-owners;
@@ -86,12 +89,12 @@ module _ (z : Sizes) (pool : Pool) (ns ms ss os fm ac us is : List ℕ) (s good 
             })
 
         pub failed-left : ¬ (good ≡ 1) → {ss' us' is' : List ℕ} {x : Handed.Freed} → us' ≡ set us s 0
-            → is' ≡ store is (λ i. same (i / z .pages) s) (λ i. 0) → ss' ≡ store ss (leaverOf ss os s) (λ r. RELEASED) → x ≡ handed pool (pool .free) 0 → Left x ms ss' os fm us' is'
-        unfolding carried result Writeback.mapDone Writeback.updateOver counted
-        failed-left g {x = x} a d w y = left-by {x = x} (sym (own-yes z st (mapDone s good) _ e yes)) (rw (ne-eqb good 1 g)
+            → is' ≡ store is (λ i. same (i / z .pages) s) (λ i. 0) → ss' ≡ store ss (leaverOf ss os s) (λ r. RELEASED) → pool .free ≡ freeCount z (at ss) → x ≡ handed 0 0 → Left x ms ss' os fm us' is'
+        unfolding carried result Writeback.mapDone Writeback.updateOver counted deposited
+        failed-left g {x = x} a d w c y = left-by x (sym (own-yes z st (mapDone s good) _ e yes)) (rw (ne-eqb good 1 g)
             (record {
               answer = ap (λ (v : Handed.Freed). v .answer) y;
-              pool = ap (λ (v : Handed.Freed). v .pool) y ∙ ap (λ (m : ℕ). record { hand = pool .hand; free = m }) (ready .counted ∙ free-same z (at ss) (at (store ss (leaverOf ss os s) (λ r. RELEASED))) taken);
+              pool = ap (λ (v : Handed.Freed). deposited (v .deposited) pool) y ∙ ap (λ (m : ℕ). record { hand = pool .hand; free = m }) (c ∙ free-same z (at ss) (at (store ss (leaverOf ss os s) (λ r. RELEASED))) taken);
               maps = refl;
               states = w;
               owners = refl;

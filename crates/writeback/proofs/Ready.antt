@@ -76,7 +76,7 @@ module _ (z : Sizes) (st : State) (fit : Fit z st) (ruled : Ruled z st) where
   }
 
   -- ── map done ──
-  pub map-ready : MapReady z (st .memory .held .pool) (st .disk .maps) (st .memory .held .states) (st .memory .held .owners) (st .memory .held .free-map) (st .memory .slots .images)
+  pub map-ready : MapReady z (st .disk .maps) (st .memory .held .states) (st .memory .held .owners) (st .memory .held .free-map) (st .memory .slots .images)
   map-ready = record {
     pages-some = fit .sizes .pages;
     pages-most = fit .sizes .pages-most;
@@ -87,7 +87,6 @@ module _ (z : Sizes) (st : State) (fit : Fit z st) (ruled : Ruled z st) where
     states-long = fit .memory .states;
     owners-long = fit .memory .owners;
     told = map-is z st fit (ruled .counts);
-    counted = ruled .counts .free;
   }
 
   -- ── update ──

@@ -10,7 +10,7 @@ use Rattle.model.specs.declared.event.Answer.{Answer}
 use Rattle.model.specs.declared.event.Event.{Event}
 use Rattle.model.specs.declared.event.Event.the-variants as Event
 use Rattle.model.specs.declared.event.Writeback.the-variants.{MapDone}
-use Rattle.model.specs.State.{State, allPages, freeCount}
+use Rattle.model.specs.State.{State, allPages}
 use Rattle.model.specs.Step.{Outcome}
 use Rattle.model.specs.Lent.{Table, stateOf, noPool}
 use Rattle.leaves.specs.FreeMap.{freeMap}
@@ -27,7 +27,7 @@ seen pool numbers maps states owners free-map active updating images =
 abbrev pub asked : List ℕ → List ℕ → List ℕ → List ℕ → List ℕ → State
 asked numbers states active updating images = seen noPool numbers [] states [] [] active updating images
 
-pub record MapReady (z : Sizes) (pool : Pool) (maps states owners free-map images : List ℕ) : Type 0 where
+pub record MapReady (z : Sizes) (maps states owners free-map images : List ℕ) : Type 0 where
   pub pages-some : 0 < z .pages
   pub pages-most : z .pages < 257
   pub slots-most : z .slots < 65
@@ -37,7 +37,6 @@ pub record MapReady (z : Sizes) (pool : Pool) (maps states owners free-map image
   pub states-long : length states ≡ z .records
   pub owners-long : length owners ≡ z .records
   pub told : free-map ≡ freeMap z (at states)
-  pub counted : pool .free ≡ freeCount z (at states)
 
 -- the answer and every table that map done changes, by the outcome
 pub record MapLeft (o : Outcome State) (p : Pool) (a : Answer) (ms ss os fm us is : List ℕ) : Type 0 where

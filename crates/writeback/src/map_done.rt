@@ -4,7 +4,10 @@ ghost use Prim.Native.Nat.{_+_, _*_, _<_};
 ghost use Rattle.tables.specs.Base.{at};
 ghost use Rattle.tables.specs.Questions.{firstNo};
 ghost use Rattle.tables.specs.Rule.{same, non, each, named, test};
+ghost use Rattle.model.specs.declared.frame.Pool.{Pool};
 ghost use Rattle.model.specs.Lines.{LEAVING};
+ghost use Rattle.model.specs.State.{freeCount};
+ghost use Rattle.model.specs.Pool.{deposited};
 ghost use Rattle.model.specs.Questions.{questions};
 ghost use Rattle.model.specs.Own.{own};
 ghost use Rattle.writeback.specs.MapDone.{mapDone, asked, entered, MapReady, Left};
@@ -17,14 +20,13 @@ use leaves::slots::clear_slot;
 use leaves::slots::copy_slot;
 use leaves::states::move_all;
 use model::event::Answer;
-use model::frame::Pool;
 use model::lines::LEAVING;
 use model::lines::RELEASED;
 use model::sizes::Sizes;
 
-// What the work of map done hands back by value.
+// What the work of map done hands back by value: how many records are free more, and the answer.
 pub struct Freed {
-    pub pool: Pool,
+    pub deposited: u32,
     pub answer: Answer,
 }
 
@@ -88,7 +90,6 @@ pub fn map_done(
     sizes: Sizes,
     slot: usize,
     good: usize,
-    pool: Pool,
     numbers: &[u32],
     maps: &mut [u16],
     states: &mut [u8],
@@ -98,34 +99,31 @@ pub fn map_done(
     updating: &mut [u8],
     images: &mut [u16],
 ) -> Freed
-    requires { ⌜ MapReady sizes pool (now maps) (now states) (now owners) (now «free_map») (now images) ⌝ }
-    ensures { λ r. ⌜ Left (own sizes (entered pool numbers maps states owners «free_map» active updating images) (mapDone slot good)) (r .pool) (r .answer) maps states owners «free_map» updating images ⌝ }
+    requires { ⌜ MapReady sizes (now maps) (now states) (now owners) (now «free_map») (now images) ⌝ }
+    ensures { λ r. ⌜ ((pool : Pool) → pool .free ≡ freeCount sizes (at (now (states .entry)))
+        → Left (own sizes (entered pool numbers maps states owners «free_map» active updating images) (mapDone slot good)) (deposited (r .deposited) pool) (r .answer) maps states owners «free_map» updating images) ⌝ }
 {
     let refusal = ask_map_done(sizes, slot, good, numbers, states, active, updating, images);
     if refusal != 0 {
-        return with_free(pool, pool.free, refusal);
+        return counted(0, refusal);
     }
     put8(updating, slot, 0);
     if good == 1 {
         copy_slot(images, maps, sizes.pages, slot);
         clear_slot(images, sizes.pages, slot);
-        let free = free_leaving(sizes, states, owners, free_map, slot, pool.free);
-        return with_free(pool, free, 0);
+        let count = free_leaving(sizes, states, owners, free_map, slot);
+        return counted(count, 0);
     }
     clear_slot(images, sizes.pages, slot);
     move_all(states, owners, slot, LEAVING, RELEASED);
-    with_free(pool, pool.free, 0)
+    counted(0, 0)
 }
 
-// The pool with another count of free records, and the answer.
-fn with_free(pool: Pool, free: u32, refusal: u32) -> Freed
-    ensures { λ r. ⌜ r ≡ record { pool = record { hand = pool .hand; free = free }; answer = record { refusal = refusal; result = 0 } } ⌝ }
+fn counted(deposited: u32, refusal: u32) -> Freed
+    ensures { λ r. ⌜ r ≡ record { deposited = deposited; answer = record { refusal = refusal; result = 0 } } ⌝ }
 {
     Freed {
-        pool: Pool {
-            hand: pool.hand,
-            free,
-        },
+        deposited,
         answer: Answer { refusal, result: 0 },
     }
 }

@@ -59,7 +59,7 @@ pub const LIVE: u8 = 3;
 pub const RELEASED: u8 = 4;
 pub const LEAVING: u8 = 5;
 
-/// Where the search for a free record starts, and the count of free records.
+/// Where the search for a free record starts for a page without a neighbour, and the count of free records.
 #[repr(C)]
 #[derive(Clone, Copy, Debug, Default, PartialEq, Eq)]
 pub struct Pool {

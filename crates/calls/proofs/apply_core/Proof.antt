@@ -11,6 +11,7 @@ use Rattle.model.specs.Lent.{stateOf, given}
 use Rattle.model.specs.Step.{allFit}
 use Rattle.model.specs.Fit.{fit}
 use Rattle.model.specs.Calls.{framesOf}
+use Rattle.model.specs.Pool.{taken, deposited}
 use Rattle.dispatch.specs.Kept.{Kept, kept}
 use Rattle.calls.specs.Frames.{all-lent, lent-first, lent-of}
 use Rattle.calls.specs.Common.{common, common-gives, unfit-apply, unknown-apply}
@@ -40,6 +41,7 @@ first : (s : tie.Start) → Holds (allFit (s .args .sizes) (lent s)) → framesO
 first s f = lent-first (s .args .sizes) (at s) (λ l. refl) (s .args .frames) (s .args .lent) f (s .good .1 .1 .1 .0 .1 .0 .1)
 
 returns : tie.Need-returns
+unfolding taken deposited
 returns c =
     let s = start (c .before) in
     unfit-apply (s .args .sizes) (lent s) (s .args .request) (c .before .common .result) (c .before .common .ensures) (c .if1 .taken)
@@ -51,6 +53,7 @@ both : (c : tie.Else1) → (let s = start (c .before) in Holds (allFit (s .args 
 both c = let s = start (c .before) in common-gives (s .args .sizes) (lent s) (passed c)
 
 returns-2 : tie.Need-returns-2
+unfolding taken deposited
 returns-2 c =
     let k = c .before .before .before in
     let s = start (k .before) in
@@ -71,11 +74,12 @@ long k = sym (length-map (k .carry .result .frames) _) ∙ k .carry .ok .1 .1 .0
 abbrev after : tie.After-carry → List Frame → State
 after w l =
     let t = w .carry in
+    let b = start (known w .before .before .before .before) .args in
     let r = t .last .1 .1 .1 .1 in
     let m = r .1 .1 .1 .1 .1 in
     let h = m .1 .1 .1 in
     let a = h .1 .1 .1 .1 in
-    stateOf l (t .result .pool) (r .0) (r .1 .0) (r .1 .1 .0) (r .1 .1 .1 .0) (r .1 .1 .1 .1 .0) (m .0) (m .1 .0) (m .1 .1 .0) (h .0) (h .1 .0) (h .1 .1 .0) (h .1 .1 .1 .0) (a .0) (a .1 .0) (a .1 .1 .0) (a .1 .1 .1 .0)
+    stateOf l (deposited (t .result .deposited) (taken (b .sizes) (t .result .taken) (b .pool))) (r .0) (r .1 .0) (r .1 .1 .0) (r .1 .1 .1 .0) (r .1 .1 .1 .1 .0) (m .0) (m .1 .0) (m .1 .1 .0) (h .0) (h .1 .0) (h .1 .1 .0) (h .1 .1 .1 .0) (a .0) (a .1 .0) (a .1 .1 .0) (a .1 .1 .1 .0)
 
 returns-3 : tie.Need-returns-3
 returns-3 c =

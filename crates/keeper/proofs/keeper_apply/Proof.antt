@@ -1,5 +1,5 @@
 -- `keeper_apply` meets its contract: a walk of its MIR, by hand. All that it knows of what it calls is that each meets its contract.
--- `frames` is lent as a `&` for a lifetime of the call of `load`, comes back, and is given up for good to `save`; `pool` is lent again to `take`, comes back, and is given up for good to `deposit`; the 16 slices are given up for good to the work, and what they own and their tokens go there as they came, each in one piece.
+-- `frames` is lent as a `&` for a lifetime of the call of `load`, comes back, and is given up for good to `save`; `pool` is copied, then lent again to `take`, comes back, and is given up for good to `deposit`; the 16 slices are given up for good to the work, and what they own and their tokens go there as they came, each in one piece.
 -- Assumes nothing.
 use mathlib.Core.Path.{_≡_, refl, ap}
 use Prim.Native.Nat.{ℕ}
@@ -18,10 +18,10 @@ use ghost.Atoms.{Atoms, sem}
 use contract.Monad.{Fun, fact}
 use contract.Lifetimes.{Lfts, Shares}
 use contract.Running.{givenOf, tables, tablesOf}
-use types.Kit.{Item, Given, ‵, raw, given, _⊛_, some, later, ⋆, _$_, _∵_, !, qed, by, move, keep, drop, use1, use2, use3, split, join, pick, learn, show, check, rewrite, fsplit, fjoin, feqL, suffices, frame, await, done}
+use types.Kit.{Item, Given, ‵, raw, given, _⊛_, some, later, ⋆, _$_, _∵_, !, qed, by, move, keep, drop, use1, use2, use3, split, join, pick, learn, show, check, rewrite, fsplit, fjoin, feqL, suffices, frame, await, done, fsplit3, fjoin3, feqI}
 use types.Tokens.{lft-new, lft-end}
 use types.Part.{whole, sub, look-in}
-use types.Run.{look, init, store, forget, stop, hop, fld, from, load, and-then, no-more, of-opd, addr, assigns, land, returns, enter, alloc1, alloc0, params1, pass1, pass0, free1, free0}
+use types.Run.{look, init, store, forget, stop, hop, fld, from, load, and-then, no-more, of-opd, addr, assigns, land, returns, enter, alloc1, alloc0, params1, pass1, pass0, free1, free0, look-raw}
 use denote.Lend.{LentAgain, lends-again, comes-back}
 use sound.WpLaws.{FmC, fmOf, WpFn-mono}
 use denote.RattleType.{owns}
@@ -31,7 +31,8 @@ use denote.Builtin.{u16, u32, u8, usize}
 use denote.Ref.{RefT, MutRef, ptr, name, now, ptr-vals, mut-tells}
 use denote.Slice.{MutSlice, ShrSlice, Room, sliceVal, slice-vals, finally}
 use denote.Signature.{plain}
-use denote.Steps.{only, owned, peeks, heard, nothing}
+use denote.Steps.{only, owned, peeks, heard, nothing, opens, closes}
+use denote.Struct.Steps.{spelt}
 use denote.Struct.Laws as LL
 use denote.Triple.Call.{calls-at}
 use denote.Triple.Clauses.{ensured, lasts}
@@ -47,6 +48,7 @@ use Rattle.model.specs.declared.request.Request.{Request}
 use Rattle.model.specs.declared.applied.Applied.{Applied}
 use Rattle.model.specs.State.{State}
 use Rattle.model.specs.Lent.{stateOf}
+use Rattle.model.specs.Pool.{taken, deposited}
 use Rattle.model.specs.Calls.{framesOf}
 use Rattle.model.specs.Calls.{apply}
 use Rattle.model.proofs.frame.Pool as TP
@@ -64,8 +66,8 @@ use Rattle.keeper.proofs.Shared.{SharedAgain, shares-again, comes-home}
 use Rattle.keeper.proofs.Reborrowed.{reborrows}
 use Rattle.keeper.proofs.AnyLength.{whole as of-any-length}
 use Rattle.keeper.proofs.Refused.{apply-refuses}
-use Rattle.keeper.proofs.Handed.{An, O, fs-val, pool-val, answer-val, Fields, fields, typed-pool, typed-answer, typed-out}
-use Rattle.keeper.proofs.Callees.{P, table-val, Load, Save, Take, Deposit, to-load, to-save, to-take, to-deposit, goes-load, goes-save, goes-take, goes-deposit, load-of, save-of, take-of, deposit-of, cited-load, cited-save, cited-take, cited-deposit}
+use Rattle.keeper.proofs.Handed.{An, O, fs-val, taken-val, deposited-val, answer-val, Fields, fields, typed-answer, typed-out}
+use Rattle.keeper.proofs.Callees.{P, pool-val, typed-pool, table-val, Load, Save, Take, Deposit, to-load, to-save, to-take, to-deposit, goes-load, goes-save, goes-take, goes-deposit, load-of, save-of, take-of, deposit-of, cited-load, cited-save, cited-take, cited-deposit}
 use Rattle.keeper.proofs.frames.load as load′
 use Rattle.keeper.proofs.frames.load.Symbol.{name as #load}
 use Rattle.calls.proofs.apply_core as core
@@ -126,11 +128,18 @@ module _ {M : Type 1} (𝓤 : URA M) (H : Heap 𝓤) (A : Atoms 𝓤) (W : Given
   abbrev xf : GName → RefT (List Frame)
   xf δ = record { ptr = (bf, of′); name = δ; now = ys }
 
-  abbrev xq : GName → RefT Pool
-  xq δ = record { ptr = (bp, op); name = δ; now = p }
+  abbrev xq : GName → Pool → RefT Pool
+  xq δ y = record { ptr = (bp, op); name = δ; now = y }
 
   abbrev xp : RefT Pool
-  xp = xq γp
+  xp = xq γp p
+
+  -- the pool with the record taken out, and then with those deposited
+  abbrev fewer : Applied → Pool
+  fewer out = taken z (out .taken) p
+
+  abbrev pooled : Applied → Pool
+  pooled out = deposited (out .deposited) (fewer out)
 
   abbrev sf : Val
   sf = sliceVal (bf, of′) n
@@ -164,7 +173,7 @@ module _ {M : Type 1} (𝓤 : URA M) (H : Heap 𝓤) (A : Atoms 𝓤) (W : Given
       stateOf zs pool (d .0) (d .1 .0) (d .1 .1 .0) (d .1 .1 .1 .0) (d .1 .1 .1 .1 .0) (m .0) (m .1 .0) (m .1 .1 .0) (h .0) (h .1 .0) (h .1 .1 .0) (h .1 .1 .1 .0) (s .0) (s .1 .0) (s .1 .1 .0) (s .1 .1 .1 .0)
 
   abbrev Says : Applied → Lasts → Type 0
-  Says out ms = record { answer = out .answer; left = after (framesOf (out .frames) n) (out .pool) ms } ≡ apply z (stateOf (framesOf (loaded ys) n) p (now x0) (now x1) (now x2) (now x3) (now x4) (now x5) (now x6) (now x7) (now x8) (now x9) (now x10) (now x11) (now x12) (now x13) (now x14) (now x15)) request
+  Says out ms = record { answer = out .answer; left = after (framesOf (out .frames) n) (pooled out) ms } ≡ apply z (stateOf (framesOf (loaded ys) n) p (now x0) (now x1) (now x2) (now x3) (now x4) (now x5) (now x6) (now x7) (now x8) (now x9) (now x10) (now x11) (now x12) (now x13) (now x14) (now x15)) request
 
   abbrev Left : Applied → Lasts → Type 0
   Left out ms = Says out ms × ((length (ms .1 .1 .1 .1 .1 .0) ≡ length (now x0)) × ((length (ms .1 .1 .1 .1 .1 .1 .0) ≡ length (now x1)) × ((length (ms .1 .1 .1 .1 .1 .1 .1 .0) ≡ length (now x2)) ×
@@ -178,20 +187,20 @@ module _ {M : Type 1} (𝓤 : URA M) (H : Heap 𝓤) (A : Atoms 𝓤) (W : Given
 
   -- what the call's contract says, from that, for a slice of frames of any length
   said : (out : Applied) (ms : Lasts) (zs : List Frame) → zs ≡ saved ys (out .frames) → length (out .frames) ≡ 64 → Says out ms
-      → record { answer = out .answer; left = after zs (out .pool) ms } ≡ apply z (stateOf ys p (now x0) (now x1) (now x2) (now x3) (now x4) (now x5) (now x6) (now x7) (now x8) (now x9) (now x10) (now x11) (now x12) (now x13) (now x14) (now x15)) request
+      → record { answer = out .answer; left = after zs (pooled out) ms } ≡ apply z (stateOf ys p (now x0) (now x1) (now x2) (now x3) (now x4) (now x5) (now x6) (now x7) (now x8) (now x9) (now x10) (now x11) (now x12) (now x13) (now x14) (now x15)) request
   said out ms zs e l says =
-      of-any-length z ys (stateOf ys p (now x0) (now x1) (now x2) (now x3) (now x4) (now x5) (now x6) (now x7) (now x8) (now x9) (now x10) (now x11) (now x12) (now x13) (now x14) (now x15)) (λ (st : State). apply z st request) (apply-refuses z request) (after ys (out .pool) ms) (out .answer) (out .frames) l says zs e
+      of-any-length z ys (stateOf ys p (now x0) (now x1) (now x2) (now x3) (now x4) (now x5) (now x6) (now x7) (now x8) (now x9) (now x10) (now x11) (now x12) (now x13) (now x14) (now x15)) (λ (st : State). apply z st request) (apply-refuses z request) (after ys (pooled out) ms) (out .answer) (out .frames) l says zs e
 
   exits : (out : Applied) (zs : List Frame) (ms : Lasts) → (zs ≡ saved ys (out .frames)) × (length zs ≡ n) → Left out ms → Fields out
-      → ent 𝓤 (⋆ 𝓤 H A (‵ (flft κ0 q0) ∷ ‵ (flft κ1 q1) ∷ tokens ∷ ‵ (finally F γf zs) ∷ ‵ (fres γp (P .coded .code (out .pool))) ∷ ‵ (Fin ms) ∷ [])) (Post (answer-val out))
+      → ent 𝓤 (⋆ 𝓤 H A (‵ (flft κ0 q0) ∷ ‵ (flft κ1 q1) ∷ tokens ∷ ‵ (finally F γf zs) ∷ ‵ (fres γp (P .coded .code (pooled out))) ∷ ‵ (Fin ms) ∷ [])) (Post (answer-val out))
   exits out zs ms e₀ e₁ is =
-      qed W (‵ (flft κ0 q0) ∷ ‵ (flft κ1 q1) ∷ tokens ∷ ‵ (finally F γf zs) ∷ ‵ (fres γp (P .coded .code (out .pool))) ∷ ‵ (Fin ms) ∷ []) ∵
-      suffices ! _ (ends-at 𝓤 H A fn.ended stayed (fn.clauses 𝓤 H A at-mem run) W bound (answer-val out) (out .answer) (tt, (tt, (zs, (out .pool, ms .1 .1 .1 .1 .1)))) (tt, (tt, (e₀ .1, (tt, e₁ .1))))) $
+      qed W (‵ (flft κ0 q0) ∷ ‵ (flft κ1 q1) ∷ tokens ∷ ‵ (finally F γf zs) ∷ ‵ (fres γp (P .coded .code (pooled out))) ∷ ‵ (Fin ms) ∷ []) ∵
+      suffices ! _ (ends-at 𝓤 H A fn.ended stayed (fn.clauses 𝓤 H A at-mem run) W bound (answer-val out) (out .answer) (tt, (tt, (zs, (pooled out, ms .1 .1 .1 .1 .1)))) (tt, (tt, (e₀ .1, (tt, e₁ .1))))) $
       says ! (said out ms zs (e₀ .0) (is .0 .1 .0 .1) (e₁ .0)) $
       move ! (1 ∷ 2 ∷ []) $ join ! $ move ! (1 ∷ 0 ∷ []) $ join ! $ frame ! $
       -- [the last list of frames; the last pool; the last lists of the slices]
       move ! (2 ∷ []) $ move ! (2 ∷ 0 ∷ []) $ fjoin ! $ move ! (1 ∷ 0 ∷ []) $ fjoin ! $ nothing ! $ fjoin ! $ nothing ! $ fjoin ! $
-      owned ! An (Is An) (LL.makes TA.the-type TA′.the-plain 𝓤 H A) (out .answer) _ (is .1 .1) $ move ! (1 ∷ 0 ∷ []) $ done !
+      owned ! An (Is An) (LL.makes TA.the-type TA′.the-plain 𝓤 H A) (out .answer) _ (is .1 .1 .1) $ move ! (1 ∷ 0 ∷ []) $ done !
 
   -- what the work's triple binds outside, that the caller has what it asks, and what it leaves
   abbrev to-core : Val → Val → Core 𝓤 H A at-mem run .Ghost
@@ -266,86 +275,92 @@ module _ {M : Type 1} (𝓤 : URA M) (H : Heap 𝓤) (A : Atoms 𝓤) (W : Given
         move ! (1 ∷ []) $ peeks ! F64 (Is F64) (shows 𝓤 H A F64) (loaded ys) (v ∷ []) (λ is-a. drop ! $
         land ! (from ! (stop !)) (init ! 84 refl (typed64 𝓤 H A W (loaded ys) v is-a)) $
         split ! $ lft-end ! tt $ move ! (0 ∷ 2 ∷ []) $ use2 W (later (‵ (MutSlice (named 0) κ0 F .own (xf γf) (sf ∷ [])) ⊛ ‵ (flft κ0 q0))) (comes-home F κ0 (ν ∷ []) q0 γf bf of′ 𝓤 H A W (named 0) (named 0) ys roomf) $ await ! tt $ split ! $
-        -- `take`: pool is lent again for a lifetime α of the call, and comes back
-        assigns ! (addr ! (from ! (hop ! (look ! 121 refl) (stop !)))) (from ! (stop !)) (init ! 75 refl (tt, tt)) $
-        lft-new ! tt (λ α. move ! (132 ∷ 133 ∷ []) $
-        use2 W (later (some (λ (δ′ : GName). ‵ (MutRef (named 0) (α ∷ []) P .own (xq δ′) (vptr bp op ∷ [])) ⊛ ‵ (LentAgain P κ1 (α ∷ []) q1 γp bp op δ′ p)))) (lends-again 𝓤 H A W P (named 1) κ1 (α ∷ []) q1 γp bp op (named 0) p) $ await ! tt $ pick ! (λ δ′. split ! $
-        move ! (2 ∷ 0 ∷ []) $ use2 W (raw (Take 𝓤 H A at-mem run .pre (to-take 𝓤 H A at-mem run (α ∷ []) fullShare (xq δ′)))) (goes-take 𝓤 H A at-mem run W (α ∷ []) fullShare (xq δ′)) $
-        calls-at ! fm (Take 𝓤 H A at-mem run) known-take (to-take 𝓤 H A at-mem run (α ∷ []) fullShare (xq δ′)) (and-then ! (load ! (from ! (stop !)) (look ! 77 refl)) (no-more !)) (λ t.
-        use1 W (later (some (λ (r₁ : Pool). ((‵ (flft (α ∷ []) fullShare) ⊛ ‵ ftrue) ⊛ ‵ (P .own r₁ (t ∷ []))) ⊛ raw (ensured 𝓤 H A take.ended (take.clauses 𝓤 H A at-mem run) (α ∷ [], tt) (xq δ′, tt) tt r₁)))) (id⊢ 𝓤 _) $ await ! tt $ pick ! (λ r₁.
-        split ! $ move ! (1 ∷ []) $ use1 W (given (r₁ ≡ p) (‵ (fres δ′ (P .coded .code p)))) (take-of 𝓤 H A at-mem run W (α ∷ []) (xq δ′) r₁) $ learn ! (λ eq₁. move ! (1 ∷ []) $ split ! $ move ! (1 ∷ []) $
-        rewrite ! 0 (λ (d : Pool). ‵ (P .own d (t ∷ []))) eq₁ refl $ peeks ! P (Is P) (shows 𝓤 H A P) p (t ∷ []) (λ was. drop ! $
-        land ! (from ! (stop !)) (init ! 86 refl (typed-pool 𝓤 H A W p t was)) $
-        split ! $ lft-end ! tt $ move ! (0 ∷ 3 ∷ 2 ∷ []) $ use3 W (later (‵ (MutRef (named 1) κ1 P .own xp (vptr bp op ∷ [])) ⊛ ‵ (flft κ1 q1))) (comes-back 𝓤 H A W P (named 1) κ1 (α ∷ []) q1 γp bp op δ′ p p) $ await ! tt $ split ! $
+        -- the pool is copied: its borrow is opened, and closed at the same struct
+        move ! (131 ∷ 132 ∷ []) $ fsplit3 ! $ drop ! $ opens ! tt P {h = p} bp op (λ vs. spelt ! P (Is P) (shows 𝓤 H A P) (LL.vals TP.the-type TP′.the-laws) (LL.tells TP.the-type TP′.the-laws) fullShare p vs bp op $
+        move ! (1 ∷ []) $ peeks ! P (Is P) (shows 𝓤 H A P) p (pool-val p ∷ []) (λ was. move ! (1 ∷ 0 ∷ []) $
+        assigns ! (of-opd ! (load ! (from ! (hop ! (look ! 126 refl) (stop !))) (look-raw ! 0 refl))) (from ! (stop !)) (init ! 88 refl (typed-pool 𝓤 H A W p (pool-val p) was)) $
+        closes ! tt P p (pool-val p ∷ []) bp op $ feqI ! (List Val) (vptr bp op ∷ []) (vptr bp op ∷ []) refl $ fjoin3 ! $ nothing ! $ move ! (1 ∷ 2 ∷ 0 ∷ []) $
+        -- [pool; its token; true; frames; its token; true; _63; …]
         -- the slices are reborrowed
-        reborrows ! 122 76 74 refl (sub ! 0 refl (whole !)) refl (tt, tt) refl refl (sub ! 1 refl (whole !)) refl (tt, (tt, (record { fits = room0 .0 }, tt))) $
-        reborrows ! 120 72 70 refl (sub ! 0 refl (whole !)) refl (tt, tt) refl refl (sub ! 1 refl (whole !)) refl (tt, (tt, (record { fits = room1 .0 }, tt))) $
-        reborrows ! 118 68 66 refl (sub ! 0 refl (whole !)) refl (tt, tt) refl refl (sub ! 1 refl (whole !)) refl (tt, (tt, (record { fits = room2 .0 }, tt))) $
-        reborrows ! 116 64 62 refl (sub ! 0 refl (whole !)) refl (tt, tt) refl refl (sub ! 1 refl (whole !)) refl (tt, (tt, (record { fits = room3 .0 }, tt))) $
-        reborrows ! 114 60 58 refl (sub ! 0 refl (whole !)) refl (tt, tt) refl refl (sub ! 1 refl (whole !)) refl (tt, (tt, (record { fits = room4 .0 }, tt))) $
-        reborrows ! 112 56 54 refl (sub ! 0 refl (whole !)) refl (tt, tt) refl refl (sub ! 1 refl (whole !)) refl (tt, (tt, (record { fits = room5 .0 }, tt))) $
-        reborrows ! 110 52 50 refl (sub ! 0 refl (whole !)) refl (tt, tt) refl refl (sub ! 1 refl (whole !)) refl (tt, (tt, (record { fits = room6 .0 }, tt))) $
-        reborrows ! 108 48 46 refl (sub ! 0 refl (whole !)) refl (tt, tt) refl refl (sub ! 1 refl (whole !)) refl (tt, (tt, (record { fits = room7 .0 }, tt))) $
-        reborrows ! 106 44 42 refl (sub ! 0 refl (whole !)) refl (tt, tt) refl refl (sub ! 1 refl (whole !)) refl (tt, (tt, (record { fits = room8 .0 }, tt))) $
-        reborrows ! 104 40 38 refl (sub ! 0 refl (whole !)) refl (tt, tt) refl refl (sub ! 1 refl (whole !)) refl (tt, (tt, (record { fits = room9 .0 }, tt))) $
-        reborrows ! 102 36 34 refl (sub ! 0 refl (whole !)) refl (tt, tt) refl refl (sub ! 1 refl (whole !)) refl (tt, (tt, (record { fits = room10 .0 }, tt))) $
-        reborrows ! 100 32 30 refl (sub ! 0 refl (whole !)) refl (tt, tt) refl refl (sub ! 1 refl (whole !)) refl (tt, (tt, (record { fits = room11 .0 }, tt))) $
-        reborrows ! 98 28 26 refl (sub ! 0 refl (whole !)) refl (tt, tt) refl refl (sub ! 1 refl (whole !)) refl (tt, (tt, (record { fits = room12 .0 }, tt))) $
-        reborrows ! 96 24 22 refl (sub ! 0 refl (whole !)) refl (tt, tt) refl refl (sub ! 1 refl (whole !)) refl (tt, (tt, (record { fits = room13 .0 }, tt))) $
-        reborrows ! 94 20 18 refl (sub ! 0 refl (whole !)) refl (tt, tt) refl refl (sub ! 1 refl (whole !)) refl (tt, (tt, (record { fits = room14 .0 }, tt))) $
-        reborrows ! 92 16 14 refl (sub ! 0 refl (whole !)) refl (tt, tt) refl refl (sub ! 1 refl (whole !)) refl (tt, (tt, (record { fits = room15 .0 }, tt))) $
+        reborrows ! 122 78 76 refl (sub ! 0 refl (whole !)) refl (tt, tt) refl refl (sub ! 1 refl (whole !)) refl (tt, (tt, (record { fits = room0 .0 }, tt))) $
+        reborrows ! 120 74 72 refl (sub ! 0 refl (whole !)) refl (tt, tt) refl refl (sub ! 1 refl (whole !)) refl (tt, (tt, (record { fits = room1 .0 }, tt))) $
+        reborrows ! 118 70 68 refl (sub ! 0 refl (whole !)) refl (tt, tt) refl refl (sub ! 1 refl (whole !)) refl (tt, (tt, (record { fits = room2 .0 }, tt))) $
+        reborrows ! 116 66 64 refl (sub ! 0 refl (whole !)) refl (tt, tt) refl refl (sub ! 1 refl (whole !)) refl (tt, (tt, (record { fits = room3 .0 }, tt))) $
+        reborrows ! 114 62 60 refl (sub ! 0 refl (whole !)) refl (tt, tt) refl refl (sub ! 1 refl (whole !)) refl (tt, (tt, (record { fits = room4 .0 }, tt))) $
+        reborrows ! 112 58 56 refl (sub ! 0 refl (whole !)) refl (tt, tt) refl refl (sub ! 1 refl (whole !)) refl (tt, (tt, (record { fits = room5 .0 }, tt))) $
+        reborrows ! 110 54 52 refl (sub ! 0 refl (whole !)) refl (tt, tt) refl refl (sub ! 1 refl (whole !)) refl (tt, (tt, (record { fits = room6 .0 }, tt))) $
+        reborrows ! 108 50 48 refl (sub ! 0 refl (whole !)) refl (tt, tt) refl refl (sub ! 1 refl (whole !)) refl (tt, (tt, (record { fits = room7 .0 }, tt))) $
+        reborrows ! 106 46 44 refl (sub ! 0 refl (whole !)) refl (tt, tt) refl refl (sub ! 1 refl (whole !)) refl (tt, (tt, (record { fits = room8 .0 }, tt))) $
+        reborrows ! 104 42 40 refl (sub ! 0 refl (whole !)) refl (tt, tt) refl refl (sub ! 1 refl (whole !)) refl (tt, (tt, (record { fits = room9 .0 }, tt))) $
+        reborrows ! 102 38 36 refl (sub ! 0 refl (whole !)) refl (tt, tt) refl refl (sub ! 1 refl (whole !)) refl (tt, (tt, (record { fits = room10 .0 }, tt))) $
+        reborrows ! 100 34 32 refl (sub ! 0 refl (whole !)) refl (tt, tt) refl refl (sub ! 1 refl (whole !)) refl (tt, (tt, (record { fits = room11 .0 }, tt))) $
+        reborrows ! 98 30 28 refl (sub ! 0 refl (whole !)) refl (tt, tt) refl refl (sub ! 1 refl (whole !)) refl (tt, (tt, (record { fits = room12 .0 }, tt))) $
+        reborrows ! 96 26 24 refl (sub ! 0 refl (whole !)) refl (tt, tt) refl refl (sub ! 1 refl (whole !)) refl (tt, (tt, (record { fits = room13 .0 }, tt))) $
+        reborrows ! 94 22 20 refl (sub ! 0 refl (whole !)) refl (tt, tt) refl refl (sub ! 1 refl (whole !)) refl (tt, (tt, (record { fits = room14 .0 }, tt))) $
+        reborrows ! 92 18 16 refl (sub ! 0 refl (whole !)) refl (tt, tt) refl refl (sub ! 1 refl (whole !)) refl (tt, (tt, (record { fits = room15 .0 }, tt))) $
         -- the work
-        move ! (135 ∷ 134 ∷ []) $ use2 W (raw (Core 𝓤 H A at-mem run .pre (to-core v t))) (goes-core v t is-a was) $
-        calls-at ! fm (Core 𝓤 H A at-mem run) known-core (to-core v t) (and-then ! (load ! (from ! (stop !)) (look ! 131 refl)) (and-then ! (load ! (from ! (stop !)) (look ! 129 refl))
+        move ! (135 ∷ 134 ∷ []) $ use2 W (raw (Core 𝓤 H A at-mem run .pre (to-core v (pool-val p)))) (goes-core v (pool-val p) is-a was) $
+        calls-at ! fm (Core 𝓤 H A at-mem run) known-core (to-core v (pool-val p)) (and-then ! (load ! (from ! (stop !)) (look ! 131 refl)) (and-then ! (load ! (from ! (stop !)) (look ! 129 refl))
         (and-then ! (load ! (from ! (stop !)) (look ! 91 refl)) (and-then ! (load ! (from ! (stop !)) (look ! 89 refl)) (and-then ! (load ! (from ! (stop !)) (look ! 87 refl))
-        (and-then ! (load ! (from ! (stop !)) (look ! 75 refl)) (and-then ! (load ! (from ! (stop !)) (look ! 71 refl)) (and-then ! (load ! (from ! (stop !)) (look ! 67 refl))
-        (and-then ! (load ! (from ! (stop !)) (look ! 63 refl)) (and-then ! (load ! (from ! (stop !)) (look ! 59 refl)) (and-then ! (load ! (from ! (stop !)) (look ! 55 refl))
-        (and-then ! (load ! (from ! (stop !)) (look ! 51 refl)) (and-then ! (load ! (from ! (stop !)) (look ! 47 refl)) (and-then ! (load ! (from ! (stop !)) (look ! 43 refl))
-        (and-then ! (load ! (from ! (stop !)) (look ! 39 refl)) (and-then ! (load ! (from ! (stop !)) (look ! 35 refl)) (and-then ! (load ! (from ! (stop !)) (look ! 31 refl))
-        (and-then ! (load ! (from ! (stop !)) (look ! 27 refl)) (and-then ! (load ! (from ! (stop !)) (look ! 23 refl)) (and-then ! (load ! (from ! (stop !)) (look ! 19 refl))
-        (and-then ! (load ! (from ! (stop !)) (look ! 15 refl)) (no-more !)))))))))))))))))))))) (λ w.
+        (and-then ! (load ! (from ! (stop !)) (look ! 77 refl)) (and-then ! (load ! (from ! (stop !)) (look ! 73 refl)) (and-then ! (load ! (from ! (stop !)) (look ! 69 refl))
+        (and-then ! (load ! (from ! (stop !)) (look ! 65 refl)) (and-then ! (load ! (from ! (stop !)) (look ! 61 refl)) (and-then ! (load ! (from ! (stop !)) (look ! 57 refl))
+        (and-then ! (load ! (from ! (stop !)) (look ! 53 refl)) (and-then ! (load ! (from ! (stop !)) (look ! 49 refl)) (and-then ! (load ! (from ! (stop !)) (look ! 45 refl))
+        (and-then ! (load ! (from ! (stop !)) (look ! 41 refl)) (and-then ! (load ! (from ! (stop !)) (look ! 37 refl)) (and-then ! (load ! (from ! (stop !)) (look ! 33 refl))
+        (and-then ! (load ! (from ! (stop !)) (look ! 29 refl)) (and-then ! (load ! (from ! (stop !)) (look ! 25 refl)) (and-then ! (load ! (from ! (stop !)) (look ! 21 refl))
+        (and-then ! (load ! (from ! (stop !)) (look ! 17 refl)) (no-more !)))))))))))))))))))))) (λ w.
         use1 W (later (some (λ (out : Applied). (tokens ⊛ ‵ (O .own out (w ∷ []))) ⊛ raw (ensured 𝓤 H A core.ended (core.clauses 𝓤 H A at-mem run) κt (z, (request, (n, (loaded ys, (p, xt))))) tt out)))) (id⊢ 𝓤 _) $ await ! tt $ pick ! (λ out.
         split ! $ move ! (1 ∷ []) $ use1 W (some (λ (ms : Lasts). given (Left out ms) (‵ (Fin ms)))) (core-of out) $ pick ! (λ ms. learn ! (λ e₁.
         move ! (1 ∷ []) $ split ! $ move ! (1 ∷ []) $ peeks ! O (Is O) (shows 𝓤 H A O) out (w ∷ []) (λ is-o. drop ! $
         -- [the slices' tokens; their last lists; pool; its token; …]
         land ! (from ! (stop !)) (init ! 86 refl (typed-out 𝓤 H A W out w is-o)) $ rewrite ! 86 (λ (u : Val). ‵ (fat fullShare TO′.mir l24 0 u)) (ap only (LL.tells TO.the-type TO′.the-laws out (w ∷ []) is-o)) refl $
-        reborrows ! 128 12 10 refl (sub ! 0 refl (whole !)) refl (tt, tt) refl refl (sub ! 1 refl (whole !)) refl (tt, (tt, (record { fits = roomf .0 }, tt))) $
+        reborrows ! 128 14 12 refl (sub ! 0 refl (whole !)) refl (tt, tt) refl refl (sub ! 1 refl (whole !)) refl (tt, (tt, (record { fits = roomf .0 }, tt))) $
         -- `save`: frames is given up for good
         move ! (6 ∷ 5 ∷ []) $ use2 W (raw (Save 𝓤 H A at-mem run .pre (to-save 𝓤 H A at-mem run κ0 q0 (xf γf) (out .frames) (fs-val out)))) (goes-save 𝓤 H A at-mem run W κ0 q0 (xf γf) (out .frames) (fs-val out) (fields out w is-o .0)) $
-        calls-at ! fm (Save 𝓤 H A at-mem run) known-save (to-save 𝓤 H A at-mem run κ0 q0 (xf γf) (out .frames) (fs-val out)) (and-then ! (load ! (from ! (stop !)) (look ! 9 refl)) (and-then ! (load ! (from ! (fld ! {d = 0} refl (stop !))) (look-in ! 85 (sub ! 0 {d = 0} refl (whole !)))) (no-more !))) (λ u.
+        calls-at ! fm (Save 𝓤 H A at-mem run) known-save (to-save 𝓤 H A at-mem run κ0 q0 (xf γf) (out .frames) (fs-val out)) (and-then ! (load ! (from ! (stop !)) (look ! 11 refl)) (and-then ! (load ! (from ! (fld ! {d = 0} refl (stop !))) (look-in ! 85 (sub ! 0 {d = 0} refl (whole !)))) (no-more !))) (λ u.
         use1 W (later (some (λ (r₂ : Unit {0}). ((‵ (flft κ0 q0) ⊛ ‵ ftrue) ⊛ ‵ (Nothing .own r₂ (u ∷ []))) ⊛ raw (ensured 𝓤 H A save.ended (save.clauses 𝓤 H A at-mem run) (κ0, tt) (xf γf, (out .frames, tt)) tt r₂)))) (id⊢ 𝓤 _) $ await ! tt $ pick ! (λ r₂.
         split ! $ move ! (1 ∷ []) $ use1 W (some (λ (zs : List Frame). given ((zs ≡ saved ys (out .frames)) × (length zs ≡ n)) (‵ (finally F γf zs)))) (save-of 𝓤 H A at-mem run W κ0 (xf γf) (out .frames) r₂) $ pick ! (λ zs. learn ! (λ e₂.
         move ! (1 ∷ []) $ split ! $ move ! (1 ∷ []) $ peeks ! Nothing (Is Nothing) (shows 𝓤 H A Nothing) r₂ (u ∷ []) (λ is-u. drop ! $
-        land ! (from ! (stop !)) (init ! 14 refl (nothing-lawful 𝓤 H A W .typed r₂ (u ∷ []) is-u .0)) $
+        land ! (from ! (stop !)) (init ! 16 refl (nothing-lawful 𝓤 H A W .typed r₂ (u ∷ []) is-u .0)) $
+        -- `take`: pool is lent again for a lifetime α of the call, and comes back with the record taken out
+        assigns ! (addr ! (from ! (hop ! (look ! 126 refl) (stop !)))) (from ! (stop !)) (init ! 10 refl (tt, tt)) $
+        lft-new ! tt (λ α. move ! (5 ∷ 6 ∷ []) $
+        use2 W (later (some (λ (δ′ : GName). ‵ (MutRef (named 0) (α ∷ []) P .own (xq δ′ p) (vptr bp op ∷ [])) ⊛ ‵ (LentAgain P κ1 (α ∷ []) q1 γp bp op δ′ p)))) (lends-again 𝓤 H A W P (named 1) κ1 (α ∷ []) q1 γp bp op (named 0) p) $ await ! tt $ pick ! (λ δ′. split ! $
+        move ! (2 ∷ 0 ∷ []) $ use2 W (raw (Take 𝓤 H A at-mem run .pre (to-take 𝓤 H A at-mem run (α ∷ []) fullShare (xq δ′ p) z (out .taken) (taken-val out)))) (goes-take 𝓤 H A at-mem run W (α ∷ []) fullShare (xq δ′ p) z (out .taken) (taken-val out) is-z (fields out w is-o .1 .0)) $
+        calls-at ! fm (Take 𝓤 H A at-mem run) known-take (to-take 𝓤 H A at-mem run (α ∷ []) fullShare (xq δ′ p) z (out .taken) (taken-val out)) (and-then ! (load ! (from ! (stop !)) (look ! 10 refl))
+        (and-then ! (load ! (from ! (stop !)) (look ! 132 refl)) (and-then ! (load ! (from ! (fld ! {d = 512} refl (stop !))) (look-in ! 86 (sub ! 1 {d = 512} refl (whole !)))) (no-more !)))) (λ u₁.
+        use1 W (later (some (λ (r₁ : Unit {0}). ((‵ (flft (α ∷ []) fullShare) ⊛ ‵ ftrue) ⊛ ‵ (Nothing .own r₁ (u₁ ∷ []))) ⊛ raw (ensured 𝓤 H A take.ended (take.clauses 𝓤 H A at-mem run) (α ∷ [], tt) (xq δ′ p, (z, (out .taken, tt))) tt r₁)))) (id⊢ 𝓤 _) $ await ! tt $ pick ! (λ r₁.
+        split ! $ move ! (1 ∷ []) $ use1 W (‵ (fres δ′ (P .coded .code (fewer out)))) (take-of 𝓤 H A at-mem run W (α ∷ []) (xq δ′ p) z (out .taken) r₁) $ move ! (1 ∷ []) $ split ! $ move ! (1 ∷ []) $ peeks ! Nothing (Is Nothing) (shows 𝓤 H A Nothing) r₁ (u₁ ∷ []) (λ is-u₁. drop ! $
+        land ! (from ! (stop !)) (store ! 17 refl (nothing-lawful 𝓤 H A W .typed r₁ (u₁ ∷ []) is-u₁ .0)) $
+        split ! $ lft-end ! tt $ move ! (0 ∷ 3 ∷ 2 ∷ []) $ use3 W (later (‵ (MutRef (named 1) κ1 P .own (xq γp (fewer out)) (vptr bp op ∷ [])) ⊛ ‵ (flft κ1 q1))) (comes-back 𝓤 H A W P (named 1) κ1 (α ∷ []) q1 γp bp op δ′ p (fewer out)) $ await ! tt $ split ! $
         -- `deposit`: pool is given up for good
-        assigns ! (addr ! (from ! (hop ! (look ! 126 refl) (stop !)))) (from ! (stop !)) (init ! 8 refl (tt, tt)) $
-        move ! (5 ∷ 4 ∷ []) $ use2 W (raw (Deposit 𝓤 H A at-mem run .pre (to-deposit 𝓤 H A at-mem run κ1 q1 xp (out .pool) (pool-val out)))) (goes-deposit 𝓤 H A at-mem run W κ1 q1 xp (out .pool) (pool-val out) (fields out w is-o .1 .0)) $
-        calls-at ! fm (Deposit 𝓤 H A at-mem run) known-deposit (to-deposit 𝓤 H A at-mem run κ1 q1 xp (out .pool) (pool-val out)) (and-then ! (load ! (from ! (stop !)) (look ! 7 refl)) (and-then ! (load ! (from ! (fld ! {d = 512} refl (stop !))) (look-in ! 85 (sub ! 1 {d = 512} refl (whole !)))) (no-more !))) (λ u₁.
-        use1 W (later (some (λ (r₃ : Unit {0}). ((‵ (flft κ1 q1) ⊛ ‵ ftrue) ⊛ ‵ (Nothing .own r₃ (u₁ ∷ []))) ⊛ raw (ensured 𝓤 H A deposit.ended (deposit.clauses 𝓤 H A at-mem run) (κ1, tt) (xp, (out .pool, tt)) tt r₃)))) (id⊢ 𝓤 _) $ await ! tt $ pick ! (λ r₃.
-        split ! $ move ! (1 ∷ []) $ use1 W (‵ (fres γp (P .coded .code (out .pool)))) (deposit-of 𝓤 H A at-mem run W κ1 xp (out .pool) r₃) $ move ! (1 ∷ []) $ split ! $ move ! (1 ∷ []) $ peeks ! Nothing (Is Nothing) (shows 𝓤 H A Nothing) r₃ (u₁ ∷ []) (λ is-u₁. drop ! $
-        land ! (from ! (stop !)) (store ! 14 refl (nothing-lawful 𝓤 H A W .typed r₃ (u₁ ∷ []) is-u₁ .0)) $
-        assigns ! (of-opd ! (load ! (from ! (fld ! {d = 520} refl (stop !))) (look-in ! 86 (sub ! 2 {d = 520} refl (whole !))))) (from ! (stop !)) (init ! 134 refl (typed-answer 𝓤 H A W out (fields out w is-o .1 .1))) $
-        returns ! (look ! 134 refl) $
-        forget ! 134 refl $ forget ! 132 refl $ forget ! 130 refl $ forget ! 128 refl $ forget ! 126 refl $ forget ! 124 refl $ forget ! 122 refl $ forget ! 120 refl $ forget ! 118 refl $
-        forget ! 116 refl $ forget ! 114 refl $ forget ! 112 refl $ forget ! 110 refl $ forget ! 108 refl $ forget ! 106 refl $ forget ! 104 refl $ forget ! 102 refl $ forget ! 100 refl $
-        forget ! 98 refl $ forget ! 96 refl $ forget ! 94 refl $ forget ! 92 refl $ forget ! 90 refl $ forget ! 88 refl $ forget ! 86 refl $ forget ! 84 refl $ forget ! 82 refl $ forget ! 80 refl $
-        forget ! 78 refl $ forget ! 76 refl $ forget ! 74 refl $ forget ! 72 refl $ forget ! 70 refl $ forget ! 68 refl $ forget ! 66 refl $ forget ! 64 refl $ forget ! 62 refl $ forget ! 60 refl $
-        forget ! 58 refl $ forget ! 56 refl $ forget ! 54 refl $ forget ! 52 refl $ forget ! 50 refl $ forget ! 48 refl $ forget ! 46 refl $ forget ! 44 refl $ forget ! 42 refl $ forget ! 40 refl $
-        forget ! 38 refl $ forget ! 36 refl $ forget ! 34 refl $ forget ! 32 refl $ forget ! 30 refl $ forget ! 28 refl $ forget ! 26 refl $ forget ! 24 refl $ forget ! 22 refl $ forget ! 20 refl $
-        forget ! 18 refl $ forget ! 16 refl $ forget ! 14 refl $ forget ! 12 refl $ forget ! 10 refl $ forget ! 8 refl $
-        move ! (134 ∷ 135 ∷ []) $ free1 ! $ move ! (132 ∷ 133 ∷ []) $ free1 ! $ move ! (130 ∷ 131 ∷ []) $ free1 ! $ move ! (128 ∷ 129 ∷ []) $ free1 ! $ move ! (126 ∷ 127 ∷ []) $ free1 ! $
-        move ! (124 ∷ 125 ∷ []) $ free1 ! $ move ! (122 ∷ 123 ∷ []) $ free1 ! $ move ! (120 ∷ 121 ∷ []) $ free1 ! $ move ! (118 ∷ 119 ∷ []) $ free1 ! $ move ! (116 ∷ 117 ∷ []) $ free1 ! $
-        move ! (114 ∷ 115 ∷ []) $ free1 ! $ move ! (112 ∷ 113 ∷ []) $ free1 ! $ move ! (110 ∷ 111 ∷ []) $ free1 ! $ move ! (108 ∷ 109 ∷ []) $ free1 ! $ move ! (106 ∷ 107 ∷ []) $ free1 ! $
-        move ! (104 ∷ 105 ∷ []) $ free1 ! $ move ! (102 ∷ 103 ∷ []) $ free1 ! $ move ! (100 ∷ 101 ∷ []) $ free1 ! $ move ! (98 ∷ 99 ∷ []) $ free1 ! $ move ! (96 ∷ 97 ∷ []) $ free1 ! $ move ! (94 ∷
-        95 ∷ []) $ free1 ! $ move ! (92 ∷ 93 ∷ []) $ free1 ! $ move ! (90 ∷ 91 ∷ []) $ free1 ! $ move ! (88 ∷ 89 ∷ []) $ free1 ! $ move ! (86 ∷ 87 ∷ []) $ free1 ! $ move ! (84 ∷ 85 ∷ []) $ free1 ! $
-        move ! (82 ∷ 83 ∷ []) $ free1 ! $ move ! (80 ∷ 81 ∷ []) $ free1 ! $ move ! (78 ∷ 79 ∷ []) $ free1 ! $ move ! (76 ∷ 77 ∷ []) $ free1 ! $ move ! (74 ∷ 75 ∷ []) $ free1 ! $ move ! (72 ∷ 73 ∷
-        []) $ free1 ! $ move ! (70 ∷ 71 ∷ []) $ free1 ! $ move ! (68 ∷ 69 ∷ []) $ free1 ! $ move ! (66 ∷ 67 ∷ []) $ free1 ! $ move ! (64 ∷ 65 ∷ []) $ free1 ! $ move ! (62 ∷ 63 ∷ []) $ free1 ! $
-        move ! (60 ∷ 61 ∷ []) $ free1 ! $ move ! (58 ∷ 59 ∷ []) $ free1 ! $ move ! (56 ∷ 57 ∷ []) $ free1 ! $ move ! (54 ∷ 55 ∷ []) $ free1 ! $ move ! (52 ∷ 53 ∷ []) $ free1 ! $ move ! (50 ∷ 51 ∷
-        []) $ free1 ! $ move ! (48 ∷ 49 ∷ []) $ free1 ! $ move ! (46 ∷ 47 ∷ []) $ free1 ! $ move ! (44 ∷ 45 ∷ []) $ free1 ! $ move ! (42 ∷ 43 ∷ []) $ free1 ! $ move ! (40 ∷ 41 ∷ []) $ free1 ! $
-        move ! (38 ∷ 39 ∷ []) $ free1 ! $ move ! (36 ∷ 37 ∷ []) $ free1 ! $ move ! (34 ∷ 35 ∷ []) $ free1 ! $ move ! (32 ∷ 33 ∷ []) $ free1 ! $ move ! (30 ∷ 31 ∷ []) $ free1 ! $ move ! (28 ∷ 29 ∷
-        []) $ free1 ! $ move ! (26 ∷ 27 ∷ []) $ free1 ! $ move ! (24 ∷ 25 ∷ []) $ free1 ! $ move ! (22 ∷ 23 ∷ []) $ free1 ! $ move ! (20 ∷ 21 ∷ []) $ free1 ! $ move ! (18 ∷ 19 ∷ []) $ free1 ! $
-        move ! (16 ∷ 17 ∷ []) $ free1 ! $ move ! (14 ∷ 15 ∷ []) $ free1 ! $ move ! (12 ∷ 13 ∷ []) $ free1 ! $ move ! (10 ∷ 11 ∷ []) $ free1 ! $ move ! (8 ∷ 9 ∷ []) $ free1 ! $ free0 ! $
-        move ! (2 ∷ []) $ split ! $ move ! (2 ∷ []) $ split ! $ keep ! (2 ∷ 0 ∷ 6 ∷ 5 ∷ 4 ∷ 7 ∷ []) $ by ! (exits out zs ms e₂ e₁ (fields out w is-o)))))))))))))))))))))))))))))))))))))))))))))))))))))))))))))))))))))))))))))))))))))))))))
+        assigns ! (addr ! (from ! (hop ! (look ! 127 refl) (stop !)))) (from ! (stop !)) (init ! 9 refl (tt, tt)) $
+        move ! (1 ∷ 0 ∷ []) $ use2 W (raw (Deposit 𝓤 H A at-mem run .pre (to-deposit 𝓤 H A at-mem run κ1 q1 (xq γp (fewer out)) (out .deposited) (deposited-val out)))) (goes-deposit 𝓤 H A at-mem run W κ1 q1 (xq γp (fewer out)) (out .deposited) (deposited-val out) (fields out w is-o .1 .1 .0)) $
+        calls-at ! fm (Deposit 𝓤 H A at-mem run) known-deposit (to-deposit 𝓤 H A at-mem run κ1 q1 (xq γp (fewer out)) (out .deposited) (deposited-val out)) (and-then ! (load ! (from ! (stop !)) (look ! 8 refl)) (and-then ! (load ! (from ! (fld ! {d = 516} refl (stop !))) (look-in ! 86 (sub ! 2 {d = 516} refl (whole !)))) (no-more !))) (λ u₂.
+        use1 W (later (some (λ (r₃ : Unit {0}). ((‵ (flft κ1 q1) ⊛ ‵ ftrue) ⊛ ‵ (Nothing .own r₃ (u₂ ∷ []))) ⊛ raw (ensured 𝓤 H A deposit.ended (deposit.clauses 𝓤 H A at-mem run) (κ1, tt) (xq γp (fewer out), (out .deposited, tt)) tt r₃)))) (id⊢ 𝓤 _) $ await ! tt $ pick ! (λ r₃.
+        split ! $ move ! (1 ∷ []) $ use1 W (‵ (fres γp (P .coded .code (pooled out)))) (deposit-of 𝓤 H A at-mem run W κ1 (xq γp (fewer out)) (out .deposited) r₃) $ move ! (1 ∷ []) $ split ! $ move ! (1 ∷ []) $ peeks ! Nothing (Is Nothing) (shows 𝓤 H A Nothing) r₃ (u₂ ∷ []) (λ is-u₂. drop ! $
+        land ! (from ! (stop !)) (store ! 17 refl (nothing-lawful 𝓤 H A W .typed r₃ (u₂ ∷ []) is-u₂ .0)) $
+        assigns ! (of-opd ! (load ! (from ! (fld ! {d = 520} refl (stop !))) (look-in ! 87 (sub ! 3 {d = 520} refl (whole !))))) (from ! (stop !)) (init ! 135 refl (typed-answer 𝓤 H A W out (fields out w is-o .1 .1 .1))) $
+        returns ! (look ! 135 refl) $
+        forget ! 135 refl $ forget ! 133 refl $ forget ! 131 refl $ forget ! 129 refl $ forget ! 127 refl $ forget ! 125 refl $ forget ! 123 refl $ forget ! 121 refl $ forget ! 119 refl $
+        forget ! 117 refl $ forget ! 115 refl $ forget ! 113 refl $ forget ! 111 refl $ forget ! 109 refl $ forget ! 107 refl $ forget ! 105 refl $ forget ! 103 refl $ forget ! 101 refl $
+        forget ! 99 refl $ forget ! 97 refl $ forget ! 95 refl $ forget ! 93 refl $ forget ! 91 refl $ forget ! 89 refl $ forget ! 87 refl $ forget ! 85 refl $ forget ! 83 refl $ forget ! 81 refl $
+        forget ! 79 refl $ forget ! 77 refl $ forget ! 75 refl $ forget ! 73 refl $ forget ! 71 refl $ forget ! 69 refl $ forget ! 67 refl $ forget ! 65 refl $ forget ! 63 refl $ forget ! 61 refl $
+        forget ! 59 refl $ forget ! 57 refl $ forget ! 55 refl $ forget ! 53 refl $ forget ! 51 refl $ forget ! 49 refl $ forget ! 47 refl $ forget ! 45 refl $ forget ! 43 refl $ forget ! 41 refl $
+        forget ! 39 refl $ forget ! 37 refl $ forget ! 35 refl $ forget ! 33 refl $ forget ! 31 refl $ forget ! 29 refl $ forget ! 27 refl $ forget ! 25 refl $ forget ! 23 refl $ forget ! 21 refl $
+        forget ! 19 refl $ forget ! 17 refl $ forget ! 15 refl $ forget ! 13 refl $ forget ! 11 refl $ forget ! 9 refl $
+        move ! (135 ∷ 136 ∷ []) $ free1 ! $ move ! (133 ∷ 134 ∷ []) $ free1 ! $ move ! (131 ∷ 132 ∷ []) $ free1 ! $ move ! (129 ∷ 130 ∷ []) $ free1 ! $ move ! (127 ∷ 128 ∷ []) $ free1 ! $
+        move ! (125 ∷ 126 ∷ []) $ free1 ! $ move ! (123 ∷ 124 ∷ []) $ free1 ! $ move ! (121 ∷ 122 ∷ []) $ free1 ! $ move ! (119 ∷ 120 ∷ []) $ free1 ! $ move ! (117 ∷ 118 ∷ []) $ free1 ! $
+        move ! (115 ∷ 116 ∷ []) $ free1 ! $ move ! (113 ∷ 114 ∷ []) $ free1 ! $ move ! (111 ∷ 112 ∷ []) $ free1 ! $ move ! (109 ∷ 110 ∷ []) $ free1 ! $ move ! (107 ∷ 108 ∷ []) $ free1 ! $
+        move ! (105 ∷ 106 ∷ []) $ free1 ! $ move ! (103 ∷ 104 ∷ []) $ free1 ! $ move ! (101 ∷ 102 ∷ []) $ free1 ! $ move ! (99 ∷ 100 ∷ []) $ free1 ! $ move ! (97 ∷ 98 ∷ []) $ free1 ! $ move ! (95 ∷
+        96 ∷ []) $ free1 ! $ move ! (93 ∷ 94 ∷ []) $ free1 ! $ move ! (91 ∷ 92 ∷ []) $ free1 ! $ move ! (89 ∷ 90 ∷ []) $ free1 ! $ move ! (87 ∷ 88 ∷ []) $ free1 ! $ move ! (85 ∷ 86 ∷ []) $ free1 ! $
+        move ! (83 ∷ 84 ∷ []) $ free1 ! $ move ! (81 ∷ 82 ∷ []) $ free1 ! $ move ! (79 ∷ 80 ∷ []) $ free1 ! $ move ! (77 ∷ 78 ∷ []) $ free1 ! $ move ! (75 ∷ 76 ∷ []) $ free1 ! $ move ! (73 ∷ 74 ∷
+        []) $ free1 ! $ move ! (71 ∷ 72 ∷ []) $ free1 ! $ move ! (69 ∷ 70 ∷ []) $ free1 ! $ move ! (67 ∷ 68 ∷ []) $ free1 ! $ move ! (65 ∷ 66 ∷ []) $ free1 ! $ move ! (63 ∷ 64 ∷ []) $ free1 ! $
+        move ! (61 ∷ 62 ∷ []) $ free1 ! $ move ! (59 ∷ 60 ∷ []) $ free1 ! $ move ! (57 ∷ 58 ∷ []) $ free1 ! $ move ! (55 ∷ 56 ∷ []) $ free1 ! $ move ! (53 ∷ 54 ∷ []) $ free1 ! $ move ! (51 ∷ 52 ∷
+        []) $ free1 ! $ move ! (49 ∷ 50 ∷ []) $ free1 ! $ move ! (47 ∷ 48 ∷ []) $ free1 ! $ move ! (45 ∷ 46 ∷ []) $ free1 ! $ move ! (43 ∷ 44 ∷ []) $ free1 ! $ move ! (41 ∷ 42 ∷ []) $ free1 ! $
+        move ! (39 ∷ 40 ∷ []) $ free1 ! $ move ! (37 ∷ 38 ∷ []) $ free1 ! $ move ! (35 ∷ 36 ∷ []) $ free1 ! $ move ! (33 ∷ 34 ∷ []) $ free1 ! $ move ! (31 ∷ 32 ∷ []) $ free1 ! $ move ! (29 ∷ 30 ∷
+        []) $ free1 ! $ move ! (27 ∷ 28 ∷ []) $ free1 ! $ move ! (25 ∷ 26 ∷ []) $ free1 ! $ move ! (23 ∷ 24 ∷ []) $ free1 ! $ move ! (21 ∷ 22 ∷ []) $ free1 ! $ move ! (19 ∷ 20 ∷ []) $ free1 ! $
+        move ! (17 ∷ 18 ∷ []) $ free1 ! $ move ! (15 ∷ 16 ∷ []) $ free1 ! $ move ! (13 ∷ 14 ∷ []) $ free1 ! $ move ! (11 ∷ 12 ∷ []) $ free1 ! $ move ! (9 ∷ 10 ∷ []) $ free1 ! $ free0 ! $
+        move ! (2 ∷ []) $ drop ! $ move ! (2 ∷ []) $ split ! $ move ! (2 ∷ []) $ split ! $ keep ! (2 ∷ 0 ∷ 6 ∷ 5 ∷ 4 ∷ 7 ∷ []) $ by ! (exits out zs ms e₂ e₁ (fields out w is-o))))))))))))))))))))))))))))))))))))))))))))))))))))))))))))))))))))))))))))))))))))))))))))
 
 module _ {M : Type 1} (𝓤 : URA M) (H : Heap 𝓤) (A : Atoms 𝓤) (W : Given 𝓤 H A) (at-mem : Memory → SProp 𝓤) (run : Routine → Fun 𝓤) where
   walks : (C : Calls 𝓤 H) (Λ : Loops 𝓤 H) → FmC 𝓤 H (W .laws) C → Triple 𝓤 (C #load) (Load 𝓤 H A at-mem run) → Triple 𝓤 (C #core) (Core 𝓤 H A at-mem run) → Triple 𝓤 (C #save) (Save 𝓤 H A at-mem run) → Triple 𝓤 (C #take) (Take 𝓤 H A at-mem run) → Triple 𝓤 (C #deposit) (Deposit 𝓤 H A at-mem run)

@@ -57,7 +57,7 @@ use Rattle.keeper.proofs.AnyLength.{alike}
 use Rattle.keeper.proofs.Refused.{noPart}
 use Rattle.keeper.proofs.Refused.{part-refuses}
 use Rattle.keeper.proofs.Callees.{P, table-val, Load, to-load, goes-load, load-of, cited-load}
-use Rattle.keeper.proofs.Handed.{typed-pool}
+use Rattle.keeper.proofs.Callees.{typed-pool}
 use Rattle.keeper.proofs.frames.load as load′
 use Rattle.keeper.proofs.frames.load.Symbol.{name as #load}
 use Rattle.calls.proofs.looks.place_core as core

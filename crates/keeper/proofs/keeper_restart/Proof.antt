@@ -1,5 +1,5 @@
 -- `keeper_restart` meets its contract: a walk of its MIR, by hand. All that it knows of what it calls is that each meets its contract.
--- `frames` is lent as a `&` for a lifetime of the call of `load`, comes back, and is given up for good to `save`; `pool` is lent again to `take`, comes back, and is given up for good to `deposit`; the 16 slices are given up for good to the work, and what they own and their tokens go there as they came, each in one piece.
+-- `frames` is lent as a `&` for a lifetime of the call of `load`, comes back, and is given up for good to `save`; `pool` is copied, and given up for good to `renew`; the 16 slices are given up for good to the work, and what they own and their tokens go there as they came, each in one piece.
 -- Assumes nothing.
 use mathlib.Core.Path.{_≡_, refl, ap}
 use Prim.Native.Nat.{ℕ}
@@ -18,10 +18,10 @@ use ghost.Atoms.{Atoms, sem}
 use contract.Monad.{Fun, fact}
 use contract.Lifetimes.{Lfts, Shares}
 use contract.Running.{givenOf, tables, tablesOf}
-use types.Kit.{Item, Given, ‵, raw, given, _⊛_, some, later, ⋆, _$_, _∵_, !, qed, by, move, keep, drop, use1, use2, use3, split, join, pick, learn, show, check, rewrite, fsplit, fjoin, feqL, suffices, frame, await, done}
+use types.Kit.{Item, Given, ‵, raw, given, _⊛_, some, later, ⋆, _$_, _∵_, !, qed, by, move, keep, drop, use1, use2, use3, split, join, pick, learn, show, check, rewrite, fsplit, fjoin, feqL, suffices, frame, await, done, fsplit3, fjoin3, feqI}
 use types.Tokens.{lft-new, lft-end}
 use types.Part.{whole, sub, look-in}
-use types.Run.{look, init, store, forget, stop, hop, fld, from, load, and-then, no-more, of-opd, addr, assigns, land, returns, enter, alloc1, alloc0, params1, pass1, pass0, free1, free0}
+use types.Run.{look, init, store, forget, stop, hop, fld, from, load, and-then, no-more, of-opd, addr, assigns, land, returns, enter, alloc1, alloc0, params1, pass1, pass0, free1, free0, look-raw}
 use denote.Lend.{LentAgain, lends-again, comes-back}
 use sound.WpLaws.{FmC, fmOf, WpFn-mono}
 use denote.RattleType.{owns}
@@ -31,7 +31,8 @@ use denote.Builtin.{u16, u32, u8, usize}
 use denote.Ref.{RefT, MutRef, ptr, name, now, ptr-vals, mut-tells}
 use denote.Slice.{MutSlice, ShrSlice, Room, sliceVal, slice-vals, finally}
 use denote.Signature.{plain}
-use denote.Steps.{only, owned, peeks, heard, nothing}
+use denote.Steps.{only, owned, peeks, heard, nothing, opens, closes}
+use denote.Struct.Steps.{spelt}
 use denote.Struct.Laws as LL
 use denote.Triple.Call.{calls-at}
 use denote.Triple.Clauses.{ensured, lasts}
@@ -43,7 +44,7 @@ use denote.Triple.Walked.{says, Stays, gave-ref, walkOf, goes-gave-ref, Walks, e
 use Rattle.model.specs.declared.frame.Frame.{Frame}
 use Rattle.model.specs.declared.frame.Pool.{Pool}
 use Rattle.model.specs.declared.sizes.Sizes.{Sizes}
-use Rattle.model.specs.declared.applied.Applied.{Applied}
+use Rattle.model.specs.declared.applied.Pooled.{Pooled}
 use Rattle.model.specs.State.{State}
 use Rattle.model.specs.Lent.{stateOf}
 use Rattle.model.specs.Calls.{framesOf}
@@ -52,8 +53,8 @@ use Rattle.model.proofs.frame.Pool as TP
 use Rattle.model.proofs.frame.Pool.Laws as TP′
 use Rattle.model.proofs.event.Answer as TA
 use Rattle.model.proofs.event.Answer.Laws as TA′
-use Rattle.model.proofs.applied.Applied as TO
-use Rattle.model.proofs.applied.Applied.Laws as TO′
+use Rattle.model.proofs.applied.Pooled as TO
+use Rattle.model.proofs.applied.Pooled.Laws as TO′
 use Rattle.keeper.specs.Copies.{loaded, saved}
 use Rattle.keeper.proofs.Row.{F}
 use Rattle.keeper.proofs.Shapes.{Sixteen, value, gave, seen, mut, shr, goes-value, goes-gave, goes-seen}
@@ -63,8 +64,8 @@ use Rattle.keeper.proofs.Shared.{SharedAgain, shares-again, comes-home}
 use Rattle.keeper.proofs.Reborrowed.{reborrows}
 use Rattle.keeper.proofs.AnyLength.{whole as of-any-length}
 use Rattle.keeper.proofs.Refused.{restart-refuses}
-use Rattle.keeper.proofs.Handed.{An, O, fs-val, pool-val, answer-val, Fields, fields, typed-pool, typed-answer, typed-out}
-use Rattle.keeper.proofs.Callees.{P, table-val, Load, Save, Take, Deposit, to-load, to-save, to-take, to-deposit, goes-load, goes-save, goes-take, goes-deposit, load-of, save-of, take-of, deposit-of, cited-load, cited-save, cited-take, cited-deposit}
+use Rattle.keeper.proofs.HandedAnew.{An, O, fs-val, new-val, answer-val, Fields, fields, typed-answer, typed-out}
+use Rattle.keeper.proofs.Callees.{P, pool-val, typed-pool, table-val, Load, Save, Renew, to-load, to-save, to-renew, goes-load, goes-save, goes-renew, load-of, save-of, renew-of, cited-load, cited-save, cited-renew}
 use Rattle.keeper.proofs.frames.load as load′
 use Rattle.keeper.proofs.frames.load.Symbol.{name as #load}
 use Rattle.calls.proofs.restart_core as core
@@ -73,10 +74,8 @@ use Rattle.calls.proofs.restart_core.Symbol.{name as #core}
 use Rattle.calls.proofs.restart_core.Met as core-thm
 use Rattle.keeper.proofs.frames.save as save
 use Rattle.keeper.proofs.frames.save.Symbol.{name as #save}
-use Rattle.keeper.proofs.pool.take as take
-use Rattle.keeper.proofs.pool.take.Symbol.{name as #take}
-use Rattle.keeper.proofs.pool.deposit as deposit
-use Rattle.keeper.proofs.pool.deposit.Symbol.{name as #deposit}
+use Rattle.keeper.proofs.pool.renew as renew
+use Rattle.keeper.proofs.pool.renew.Symbol.{name as #renew}
 use Rattle.keeper.proofs.keeper_restart.Key.{name as #key}
 use Rattle.keeper.proofs.keeper_restart as fn
 use Rattle.keeper.proofs.keeper_restart.Statement as stated
@@ -159,10 +158,10 @@ module _ {M : Type 1} (𝓤 : URA M) (H : Heap 𝓤) (A : Atoms 𝓤) (W : Given
       let s = h .1 .1 .1 .1 in
       stateOf zs pool (now x0) (now x1) (now x2) (now x3) (now x4) (m .0) (m .1 .0) (m .1 .1 .0) (h .0) (h .1 .0) (h .1 .1 .0) (h .1 .1 .1 .0) (s .0) (s .1 .0) (s .1 .1 .0) (s .1 .1 .1 .0)
 
-  abbrev Says : Applied → Lasts → Type 0
+  abbrev Says : Pooled → Lasts → Type 0
   Says out ms = record { answer = out .answer; left = after (framesOf (out .frames) n) (out .pool) ms } ≡ restart z (stateOf (framesOf (loaded ys) n) p (now x0) (now x1) (now x2) (now x3) (now x4) (now x5) (now x6) (now x7) (now x8) (now x9) (now x10) (now x11) (now x12) (now x13) (now x14) (now x15))
 
-  abbrev Left : Applied → Lasts → Type 0
+  abbrev Left : Pooled → Lasts → Type 0
   Left out ms = Says out ms × ((length (ms .1 .1 .1 .1 .1 .1 .1 .1 .1 .0) ≡ length (now x5)) × ((length (ms .1 .1 .1 .1 .1 .1 .1 .1 .1 .1 .0) ≡ length (now x6)) × ((length
       (ms .1 .1 .1 .1 .1 .1 .1 .1 .1 .1 .1 .0) ≡ length (now x7)) × ((length (ms .1 .1 .1 .1 .1 .1 .1 .1 .1 .1 .1 .1 .0) ≡ length (now x8)) × ((length (ms .1 .1 .1 .1 .1 .1 .1 .1 .1 .1 .1 .1 .1 .0) ≡
       length (now x9)) × ((length (ms .1 .1 .1 .1 .1 .1 .1 .1 .1 .1 .1 .1 .1 .1 .0) ≡ length (now x10)) × ((length (ms .1 .1 .1 .1 .1 .1 .1 .1 .1 .1 .1 .1 .1 .1 .1 .0) ≡ length (now x11)) × ((length
@@ -171,12 +170,12 @@ module _ {M : Type 1} (𝓤 : URA M) (H : Heap 𝓤) (A : Atoms 𝓤) (W : Given
       Unit {0})))))))))))
 
   -- what the call's contract says, from that, for a slice of frames of any length
-  said : (out : Applied) (ms : Lasts) (zs : List Frame) → zs ≡ saved ys (out .frames) → length (out .frames) ≡ 64 → Says out ms
+  said : (out : Pooled) (ms : Lasts) (zs : List Frame) → zs ≡ saved ys (out .frames) → length (out .frames) ≡ 64 → Says out ms
       → record { answer = out .answer; left = after zs (out .pool) ms } ≡ restart z (stateOf ys p (now x0) (now x1) (now x2) (now x3) (now x4) (now x5) (now x6) (now x7) (now x8) (now x9) (now x10) (now x11) (now x12) (now x13) (now x14) (now x15))
   said out ms zs e l says =
       of-any-length z ys (stateOf ys p (now x0) (now x1) (now x2) (now x3) (now x4) (now x5) (now x6) (now x7) (now x8) (now x9) (now x10) (now x11) (now x12) (now x13) (now x14) (now x15)) (λ (st : State). restart z st) (restart-refuses z) (after ys (out .pool) ms) (out .answer) (out .frames) l says zs e
 
-  exits : (out : Applied) (zs : List Frame) (ms : Lasts) → (zs ≡ saved ys (out .frames)) × (length zs ≡ n) → Left out ms → Fields out
+  exits : (out : Pooled) (zs : List Frame) (ms : Lasts) → (zs ≡ saved ys (out .frames)) × (length zs ≡ n) → Left out ms → Fields out
       → ent 𝓤 (⋆ 𝓤 H A (‵ (flft κ0 q0) ∷ ‵ (flft κ1 q1) ∷ tokens ∷ ‵ (finally F γf zs) ∷ ‵ (fres γp (P .coded .code (out .pool))) ∷ ‵ (Fin ms) ∷ [])) (Post (answer-val out))
   exits out zs ms e₀ e₁ is =
       qed W (‵ (flft κ0 q0) ∷ ‵ (flft κ1 q1) ∷ tokens ∷ ‵ (finally F γf zs) ∷ ‵ (fres γp (P .coded .code (out .pool))) ∷ ‵ (Fin ms) ∷ []) ∵
@@ -202,7 +201,7 @@ module _ {M : Type 1} (𝓤 : URA M) (H : Heap 𝓤) (A : Atoms 𝓤) (W : Given
       owned ! usize (Is usize) (uint-makes 𝓤 H A W w64) n _ (refl, roomf .0) $ fjoin ! $ owned ! Z (Is Z) (makes-sizes 𝓤 H A) z _ is-z $ fjoin ! $
       move ! (1 ∷ 0 ∷ []) $ join ! $ frame ! $ done !
 
-  core-of : (r : Applied) → ent 𝓤 (ensured 𝓤 H A core.ended (core.clauses 𝓤 H A at-mem run) κt (z, (n, (loaded ys, (p, xt)))) tt r) (ex 𝓤 (λ (ms : Lasts). guard 𝓤 (Left r ms) (sem 𝓤 H A (Fin ms))))
+  core-of : (r : Pooled) → ent 𝓤 (ensured 𝓤 H A core.ended (core.clauses 𝓤 H A at-mem run) κt (z, (n, (loaded ys, (p, xt)))) tt r) (ex 𝓤 (λ (ms : Lasts). guard 𝓤 (Left r ms) (sem 𝓤 H A (Fin ms))))
   core-of r =
       qed W (raw (ensured 𝓤 H A core.ended (core.clauses 𝓤 H A at-mem run) κt (z, (n, (loaded ys, (p, xt)))) tt r) ∷ []) ∵
       use1 W (some (λ (ms : Lasts). ‵ (lasts core.ended κt (z, (n, (loaded ys, (p, xt)))) ms) ⊛ raw (fact 𝓤 (Says r ms)))) (id⊢ 𝓤 _) $ pick ! (λ ms.
@@ -216,8 +215,7 @@ module _ {M : Type 1} (𝓤 : URA M) (H : Heap 𝓤) (A : Atoms 𝓤) (W : Given
       move ! (1 ∷ 0 ∷ []) $ fjoin ! $ move ! (1 ∷ 0 ∷ []) $ fjoin ! $ move ! (1 ∷ 0 ∷ []) $ fjoin ! $ move ! (1 ∷ 0 ∷ []) $ fjoin ! $ move ! (1 ∷ 0 ∷ []) $ fjoin ! $
       show ! (λ (ms : Lasts). guard 𝓤 (Left r ms) (sem 𝓤 H A (Fin ms))) ms $ check ! (e₁, (n5, (n6, (n7, (n8, (n9, (n10, (n11, (n12, (n13, (n14, (n15, tt)))))))))))) $ done !)))))))))))))
 
-  module _ (C : Calls 𝓤 H) (Λ : Loops 𝓤 H) (fm : FmC 𝓤 H (W .laws) C) (known-load : Triple 𝓤 (C #load) (Load 𝓤 H A at-mem run)) (known-core : Triple 𝓤 (C #core) (Core 𝓤 H A at-mem run))
-      (known-save : Triple 𝓤 (C #save) (Save 𝓤 H A at-mem run)) (known-take : Triple 𝓤 (C #take) (Take 𝓤 H A at-mem run)) (known-deposit : Triple 𝓤 (C #deposit) (Deposit 𝓤 H A at-mem run)) where
+  module _ (C : Calls 𝓤 H) (Λ : Loops 𝓤 H) (fm : FmC 𝓤 H (W .laws) C) (known-load : Triple 𝓤 (C #load) (Load 𝓤 H A at-mem run)) (known-core : Triple 𝓤 (C #core) (Core 𝓤 H A at-mem run)) (known-save : Triple 𝓤 (C #save) (Save 𝓤 H A at-mem run)) (known-renew : Triple 𝓤 (C #renew) (Renew 𝓤 H A at-mem run)) where
     walk : ent 𝓤 (onEntry 𝓤 H A fn.signature (κ0, (κ1, κt)) (q0, (q1, qt)) (z, (xf γf, (xp, xt))) (sizes-val z ∷ [], (sf ∷ [], (vptr bp op ∷ [], vt)))) (WpFn 𝓤 H C Λ code.function (sizes-val z ∷ sf ∷
         vptr bp op ∷ table-val x0 ∷ table-val x1 ∷ table-val x2 ∷ table-val x3 ∷ table-val x4 ∷ table-val x5 ∷ table-val x6 ∷ table-val x7 ∷ table-val x8 ∷ table-val x9 ∷ table-val x10 ∷
         table-val x11 ∷ table-val x12 ∷ table-val x13 ∷ table-val x14 ∷ table-val x15 ∷ []) Post)
@@ -233,105 +231,100 @@ module _ {M : Type 1} (𝓤 : URA M) (H : Heap 𝓤) (A : Atoms 𝓤) (W : Given
         alloc1 ! (λ l11. alloc1 ! (λ l12. alloc1 ! (λ l13. alloc1 ! (λ l14. alloc1 ! (λ l15. alloc1 ! (λ l16. alloc1 ! (λ l17. alloc1 ! (λ l18. alloc1 ! (λ l19. alloc1 ! (λ l20. alloc1 ! (λ l21.
         alloc1 ! (λ l22. alloc1 ! (λ l23. alloc1 ! (λ l24. alloc1 ! (λ l25. alloc1 ! (λ l26. alloc1 ! (λ l27. alloc1 ! (λ l28. alloc1 ! (λ l29. alloc1 ! (λ l30. alloc1 ! (λ l31. alloc1 ! (λ l32.
         alloc1 ! (λ l33. alloc1 ! (λ l34. alloc1 ! (λ l35. alloc1 ! (λ l36. alloc1 ! (λ l37. alloc1 ! (λ l38. alloc1 ! (λ l39. alloc1 ! (λ l40. alloc1 ! (λ l41. alloc1 ! (λ l42. alloc1 ! (λ l43.
-        alloc1 ! (λ l44. alloc1 ! (λ l45. alloc1 ! (λ l46. alloc1 ! (λ l47. alloc1 ! (λ l48. alloc1 ! (λ l49. alloc1 ! (λ l50. alloc1 ! (λ l51. alloc1 ! (λ l52. alloc0 ! $ params1 ! $
-        pass1 ! (init ! 102 refl (typed-sizes 𝓤 H A W z is-z)) $ pass1 ! (init ! 100 refl (tt, (tt, (record { fits = roomf .0 }, tt)))) $ pass1 ! (init ! 98 refl (tt, tt)) $ pass1 ! (init ! 96 refl
-        (tt, (tt, (record { fits = room0 .0 }, tt)))) $ pass1 ! (init ! 94 refl (tt, (tt, (record { fits = room1 .0 }, tt)))) $ pass1 ! (init ! 92 refl (tt, (tt, (record { fits = room2 .0 }, tt)))) $
-        pass1 ! (init ! 90 refl (tt, (tt, (record { fits = room3 .0 }, tt)))) $ pass1 ! (init ! 88 refl (tt, (tt, (record { fits = room4 .0 }, tt)))) $ pass1 ! (init ! 86 refl
-        (tt, (tt, (record { fits = room5 .0 }, tt)))) $ pass1 ! (init ! 84 refl (tt, (tt, (record { fits = room6 .0 }, tt)))) $ pass1 ! (init ! 82 refl (tt, (tt, (record { fits = room7 .0 }, tt)))) $
-        pass1 ! (init ! 80 refl (tt, (tt, (record { fits = room8 .0 }, tt)))) $ pass1 ! (init ! 78 refl (tt, (tt, (record { fits = room9 .0 }, tt)))) $ pass1 ! (init ! 76 refl
-        (tt, (tt, (record { fits = room10 .0 }, tt)))) $ pass1 ! (init ! 74 refl (tt, (tt, (record { fits = room11 .0 }, tt)))) $ pass1 ! (init ! 72 refl
-        (tt, (tt, (record { fits = room12 .0 }, tt)))) $ pass1 ! (init ! 70 refl (tt, (tt, (record { fits = room13 .0 }, tt)))) $ pass1 ! (init ! 68 refl
-        (tt, (tt, (record { fits = room14 .0 }, tt)))) $ pass1 ! (init ! 66 refl (tt, (tt, (record { fits = room15 .0 }, tt)))) $ pass0 ! $
-        -- [_52 at 0; …; _i at 2 · (52 − i); …; what frames owns; …]
-        assigns ! (of-opd ! (load ! (from ! (fld ! refl (stop !))) (look-in ! 100 (sub ! 1 refl (whole !))))) (from ! (stop !)) (init ! 64 refl (tt, record { fits = roomf .0 })) $
-        reborrows ! 100 56 54 refl (sub ! 0 refl (whole !)) refl (tt, tt) refl refl (sub ! 1 refl (whole !)) refl (tt, (tt, (record { fits = roomf .0 }, tt))) $
+        alloc1 ! (λ l44. alloc1 ! (λ l45. alloc1 ! (λ l46. alloc1 ! (λ l47. alloc1 ! (λ l48. alloc1 ! (λ l49. alloc1 ! (λ l50. alloc1 ! (λ l51. alloc0 ! $ params1 ! $
+        pass1 ! (init ! 100 refl (typed-sizes 𝓤 H A W z is-z)) $ pass1 ! (init ! 98 refl (tt, (tt, (record { fits = roomf .0 }, tt)))) $ pass1 ! (init ! 96 refl (tt, tt)) $ pass1 ! (init ! 94 refl
+        (tt, (tt, (record { fits = room0 .0 }, tt)))) $ pass1 ! (init ! 92 refl (tt, (tt, (record { fits = room1 .0 }, tt)))) $ pass1 ! (init ! 90 refl (tt, (tt, (record { fits = room2 .0 }, tt)))) $
+        pass1 ! (init ! 88 refl (tt, (tt, (record { fits = room3 .0 }, tt)))) $ pass1 ! (init ! 86 refl (tt, (tt, (record { fits = room4 .0 }, tt)))) $ pass1 ! (init ! 84 refl
+        (tt, (tt, (record { fits = room5 .0 }, tt)))) $ pass1 ! (init ! 82 refl (tt, (tt, (record { fits = room6 .0 }, tt)))) $ pass1 ! (init ! 80 refl (tt, (tt, (record { fits = room7 .0 }, tt)))) $
+        pass1 ! (init ! 78 refl (tt, (tt, (record { fits = room8 .0 }, tt)))) $ pass1 ! (init ! 76 refl (tt, (tt, (record { fits = room9 .0 }, tt)))) $ pass1 ! (init ! 74 refl
+        (tt, (tt, (record { fits = room10 .0 }, tt)))) $ pass1 ! (init ! 72 refl (tt, (tt, (record { fits = room11 .0 }, tt)))) $ pass1 ! (init ! 70 refl
+        (tt, (tt, (record { fits = room12 .0 }, tt)))) $ pass1 ! (init ! 68 refl (tt, (tt, (record { fits = room13 .0 }, tt)))) $ pass1 ! (init ! 66 refl
+        (tt, (tt, (record { fits = room14 .0 }, tt)))) $ pass1 ! (init ! 64 refl (tt, (tt, (record { fits = room15 .0 }, tt)))) $ pass0 ! $
+        -- [_51 at 0; …; _i at 2 · (51 − i); …; what frames owns; …]
+        assigns ! (of-opd ! (load ! (from ! (fld ! refl (stop !))) (look-in ! 98 (sub ! 1 refl (whole !))))) (from ! (stop !)) (init ! 62 refl (tt, record { fits = roomf .0 })) $
+        reborrows ! 98 54 52 refl (sub ! 0 refl (whole !)) refl (tt, tt) refl refl (sub ! 1 refl (whole !)) refl (tt, (tt, (record { fits = roomf .0 }, tt))) $
         -- `load`: frames is lent as a `&` for a lifetime ν of the call
-        lft-new ! tt (λ ν. move ! (107 ∷ 108 ∷ []) $
+        lft-new ! tt (λ ν. move ! (105 ∷ 106 ∷ []) $
         use2 W (later (some (λ (δ : GName). ‵ (ShrSlice (named 0) (ν ∷ []) F .own (xf δ) (sf ∷ [])) ⊛ ‵ (SharedAgain F κ0 (ν ∷ []) q0 γf bf of′ ys)))) (shares-again F κ0 (ν ∷ []) q0 γf bf of′ 𝓤 H A W (named 0) (named 0) ys) $ await ! tt $ pick ! (λ δ. split ! $
         move ! (2 ∷ 0 ∷ []) $ use2 W (raw (Load 𝓤 H A at-mem run .pre (to-load 𝓤 H A at-mem run (ν ∷ []) fullShare (xf δ)))) (goes-load 𝓤 H A at-mem run W (ν ∷ []) fullShare (xf δ)) $
-        calls-at ! fm (Load 𝓤 H A at-mem run) known-load (to-load 𝓤 H A at-mem run (ν ∷ []) fullShare (xf δ)) (and-then ! (load ! (from ! (stop !)) (look ! 56 refl)) (no-more !)) (λ v.
+        calls-at ! fm (Load 𝓤 H A at-mem run) known-load (to-load 𝓤 H A at-mem run (ν ∷ []) fullShare (xf δ)) (and-then ! (load ! (from ! (stop !)) (look ! 54 refl)) (no-more !)) (λ v.
         use1 W (later (some (λ (r : List Frame). ((‵ (flft (ν ∷ []) fullShare) ⊛ ‵ ftrue) ⊛ ‵ (F64 .own r (v ∷ []))) ⊛ raw (ensured 𝓤 H A load′.ended (load′.clauses 𝓤 H A at-mem run) (ν ∷ [], tt) (xf δ, tt) tt r)))) (id⊢ 𝓤 _) $ await ! tt $ pick ! (λ r.
         split ! $ move ! (1 ∷ []) $ use1 W (raw (fact 𝓤 (r ≡ loaded ys))) (load-of 𝓤 H A at-mem run (ν ∷ []) (xf δ) r) $ heard ! (r ≡ loaded ys) (λ eq. split ! $ rewrite ! 1 (λ (l : List Frame). ‵ (F64 .own l (v ∷ []))) eq refl $
         move ! (1 ∷ []) $ peeks ! F64 (Is F64) (shows 𝓤 H A F64) (loaded ys) (v ∷ []) (λ is-a. drop ! $
-        land ! (from ! (stop !)) (init ! 64 refl (typed64 𝓤 H A W (loaded ys) v is-a)) $
+        land ! (from ! (stop !)) (init ! 62 refl (typed64 𝓤 H A W (loaded ys) v is-a)) $
         split ! $ lft-end ! tt $ move ! (0 ∷ 2 ∷ []) $ use2 W (later (‵ (MutSlice (named 0) κ0 F .own (xf γf) (sf ∷ [])) ⊛ ‵ (flft κ0 q0))) (comes-home F κ0 (ν ∷ []) q0 γf bf of′ 𝓤 H A W (named 0) (named 0) ys roomf) $ await ! tt $ split ! $
-        -- `take`: pool is lent again for a lifetime α of the call, and comes back
-        assigns ! (addr ! (from ! (hop ! (look ! 101 refl) (stop !)))) (from ! (stop !)) (init ! 55 refl (tt, tt)) $
-        lft-new ! tt (λ α. move ! (110 ∷ 111 ∷ []) $
-        use2 W (later (some (λ (δ′ : GName). ‵ (MutRef (named 0) (α ∷ []) P .own (xq δ′) (vptr bp op ∷ [])) ⊛ ‵ (LentAgain P κ1 (α ∷ []) q1 γp bp op δ′ p)))) (lends-again 𝓤 H A W P (named 1) κ1 (α ∷ []) q1 γp bp op (named 0) p) $ await ! tt $ pick ! (λ δ′. split ! $
-        move ! (2 ∷ 0 ∷ []) $ use2 W (raw (Take 𝓤 H A at-mem run .pre (to-take 𝓤 H A at-mem run (α ∷ []) fullShare (xq δ′)))) (goes-take 𝓤 H A at-mem run W (α ∷ []) fullShare (xq δ′)) $
-        calls-at ! fm (Take 𝓤 H A at-mem run) known-take (to-take 𝓤 H A at-mem run (α ∷ []) fullShare (xq δ′)) (and-then ! (load ! (from ! (stop !)) (look ! 57 refl)) (no-more !)) (λ t.
-        use1 W (later (some (λ (r₁ : Pool). ((‵ (flft (α ∷ []) fullShare) ⊛ ‵ ftrue) ⊛ ‵ (P .own r₁ (t ∷ []))) ⊛ raw (ensured 𝓤 H A take.ended (take.clauses 𝓤 H A at-mem run) (α ∷ [], tt) (xq δ′, tt) tt r₁)))) (id⊢ 𝓤 _) $ await ! tt $ pick ! (λ r₁.
-        split ! $ move ! (1 ∷ []) $ use1 W (given (r₁ ≡ p) (‵ (fres δ′ (P .coded .code p)))) (take-of 𝓤 H A at-mem run W (α ∷ []) (xq δ′) r₁) $ learn ! (λ eq₁. move ! (1 ∷ []) $ split ! $ move ! (1 ∷ []) $
-        rewrite ! 0 (λ (d : Pool). ‵ (P .own d (t ∷ []))) eq₁ refl $ peeks ! P (Is P) (shows 𝓤 H A P) p (t ∷ []) (λ was. drop ! $
-        land ! (from ! (stop !)) (init ! 66 refl (typed-pool 𝓤 H A W p t was)) $
-        split ! $ lft-end ! tt $ move ! (0 ∷ 3 ∷ 2 ∷ []) $ use3 W (later (‵ (MutRef (named 1) κ1 P .own xp (vptr bp op ∷ [])) ⊛ ‵ (flft κ1 q1))) (comes-back 𝓤 H A W P (named 1) κ1 (α ∷ []) q1 γp bp op δ′ p p) $ await ! tt $ split ! $
+        -- the pool is copied: its borrow is opened, and closed at the same struct
+        move ! (107 ∷ 108 ∷ []) $ fsplit3 ! $ drop ! $ opens ! tt P {h = p} bp op (λ vs. spelt ! P (Is P) (shows 𝓤 H A P) (LL.vals TP.the-type TP′.the-laws) (LL.tells TP.the-type TP′.the-laws) fullShare p vs bp op $
+        move ! (1 ∷ []) $ peeks ! P (Is P) (shows 𝓤 H A P) p (pool-val p ∷ []) (λ was. move ! (1 ∷ 0 ∷ []) $
+        assigns ! (of-opd ! (load ! (from ! (hop ! (look ! 104 refl) (stop !))) (look-raw ! 0 refl))) (from ! (stop !)) (init ! 66 refl (typed-pool 𝓤 H A W p (pool-val p) was)) $
+        closes ! tt P p (pool-val p ∷ []) bp op $ feqI ! (List Val) (vptr bp op ∷ []) (vptr bp op ∷ []) refl $ fjoin3 ! $ nothing ! $ move ! (1 ∷ 2 ∷ 0 ∷ []) $
+        -- [pool; its token; true; frames; its token; true; _51; …]
         -- the slices are reborrowed
-        reborrows ! 92 56 54 refl (sub ! 0 refl (whole !)) refl (tt, tt) refl refl (sub ! 1 refl (whole !)) refl (tt, (tt, (record { fits = room5 .0 }, tt))) $
-        reborrows ! 90 52 50 refl (sub ! 0 refl (whole !)) refl (tt, tt) refl refl (sub ! 1 refl (whole !)) refl (tt, (tt, (record { fits = room6 .0 }, tt))) $
-        reborrows ! 88 48 46 refl (sub ! 0 refl (whole !)) refl (tt, tt) refl refl (sub ! 1 refl (whole !)) refl (tt, (tt, (record { fits = room7 .0 }, tt))) $
-        reborrows ! 86 44 42 refl (sub ! 0 refl (whole !)) refl (tt, tt) refl refl (sub ! 1 refl (whole !)) refl (tt, (tt, (record { fits = room8 .0 }, tt))) $
-        reborrows ! 84 40 38 refl (sub ! 0 refl (whole !)) refl (tt, tt) refl refl (sub ! 1 refl (whole !)) refl (tt, (tt, (record { fits = room9 .0 }, tt))) $
-        reborrows ! 82 36 34 refl (sub ! 0 refl (whole !)) refl (tt, tt) refl refl (sub ! 1 refl (whole !)) refl (tt, (tt, (record { fits = room10 .0 }, tt))) $
-        reborrows ! 80 32 30 refl (sub ! 0 refl (whole !)) refl (tt, tt) refl refl (sub ! 1 refl (whole !)) refl (tt, (tt, (record { fits = room11 .0 }, tt))) $
-        reborrows ! 78 28 26 refl (sub ! 0 refl (whole !)) refl (tt, tt) refl refl (sub ! 1 refl (whole !)) refl (tt, (tt, (record { fits = room12 .0 }, tt))) $
-        reborrows ! 76 24 22 refl (sub ! 0 refl (whole !)) refl (tt, tt) refl refl (sub ! 1 refl (whole !)) refl (tt, (tt, (record { fits = room13 .0 }, tt))) $
-        reborrows ! 74 20 18 refl (sub ! 0 refl (whole !)) refl (tt, tt) refl refl (sub ! 1 refl (whole !)) refl (tt, (tt, (record { fits = room14 .0 }, tt))) $
-        reborrows ! 72 16 14 refl (sub ! 0 refl (whole !)) refl (tt, tt) refl refl (sub ! 1 refl (whole !)) refl (tt, (tt, (record { fits = room15 .0 }, tt))) $
+        reborrows ! 90 56 54 refl (sub ! 0 refl (whole !)) refl (tt, tt) refl refl (sub ! 1 refl (whole !)) refl (tt, (tt, (record { fits = room5 .0 }, tt))) $
+        reborrows ! 88 52 50 refl (sub ! 0 refl (whole !)) refl (tt, tt) refl refl (sub ! 1 refl (whole !)) refl (tt, (tt, (record { fits = room6 .0 }, tt))) $
+        reborrows ! 86 48 46 refl (sub ! 0 refl (whole !)) refl (tt, tt) refl refl (sub ! 1 refl (whole !)) refl (tt, (tt, (record { fits = room7 .0 }, tt))) $
+        reborrows ! 84 44 42 refl (sub ! 0 refl (whole !)) refl (tt, tt) refl refl (sub ! 1 refl (whole !)) refl (tt, (tt, (record { fits = room8 .0 }, tt))) $
+        reborrows ! 82 40 38 refl (sub ! 0 refl (whole !)) refl (tt, tt) refl refl (sub ! 1 refl (whole !)) refl (tt, (tt, (record { fits = room9 .0 }, tt))) $
+        reborrows ! 80 36 34 refl (sub ! 0 refl (whole !)) refl (tt, tt) refl refl (sub ! 1 refl (whole !)) refl (tt, (tt, (record { fits = room10 .0 }, tt))) $
+        reborrows ! 78 32 30 refl (sub ! 0 refl (whole !)) refl (tt, tt) refl refl (sub ! 1 refl (whole !)) refl (tt, (tt, (record { fits = room11 .0 }, tt))) $
+        reborrows ! 76 28 26 refl (sub ! 0 refl (whole !)) refl (tt, tt) refl refl (sub ! 1 refl (whole !)) refl (tt, (tt, (record { fits = room12 .0 }, tt))) $
+        reborrows ! 74 24 22 refl (sub ! 0 refl (whole !)) refl (tt, tt) refl refl (sub ! 1 refl (whole !)) refl (tt, (tt, (record { fits = room13 .0 }, tt))) $
+        reborrows ! 72 20 18 refl (sub ! 0 refl (whole !)) refl (tt, tt) refl refl (sub ! 1 refl (whole !)) refl (tt, (tt, (record { fits = room14 .0 }, tt))) $
+        reborrows ! 70 16 14 refl (sub ! 0 refl (whole !)) refl (tt, tt) refl refl (sub ! 1 refl (whole !)) refl (tt, (tt, (record { fits = room15 .0 }, tt))) $
         -- the work
-        move ! (113 ∷ 112 ∷ []) $ use2 W (raw (Core 𝓤 H A at-mem run .pre (to-core v t))) (goes-core v t is-a was) $
-        calls-at ! fm (Core 𝓤 H A at-mem run) known-core (to-core v t) (and-then ! (load ! (from ! (stop !)) (look ! 109 refl)) (and-then ! (load ! (from ! (stop !)) (look ! 71 refl))
-        (and-then ! (load ! (from ! (stop !)) (look ! 69 refl)) (and-then ! (load ! (from ! (stop !)) (look ! 67 refl)) (and-then ! (load ! (from ! (stop !)) (look ! 103 refl))
-        (and-then ! (load ! (from ! (stop !)) (look ! 101 refl)) (and-then ! (load ! (from ! (stop !)) (look ! 99 refl)) (and-then ! (load ! (from ! (stop !)) (look ! 97 refl))
-        (and-then ! (load ! (from ! (stop !)) (look ! 95 refl)) (and-then ! (load ! (from ! (stop !)) (look ! 55 refl)) (and-then ! (load ! (from ! (stop !)) (look ! 51 refl))
+        move ! (111 ∷ 110 ∷ []) $ use2 W (raw (Core 𝓤 H A at-mem run .pre (to-core v (pool-val p)))) (goes-core v (pool-val p) is-a was) $
+        calls-at ! fm (Core 𝓤 H A at-mem run) known-core (to-core v (pool-val p)) (and-then ! (load ! (from ! (stop !)) (look ! 107 refl)) (and-then ! (load ! (from ! (stop !)) (look ! 69 refl))
+        (and-then ! (load ! (from ! (stop !)) (look ! 67 refl)) (and-then ! (load ! (from ! (stop !)) (look ! 65 refl)) (and-then ! (load ! (from ! (stop !)) (look ! 101 refl))
+        (and-then ! (load ! (from ! (stop !)) (look ! 99 refl)) (and-then ! (load ! (from ! (stop !)) (look ! 97 refl)) (and-then ! (load ! (from ! (stop !)) (look ! 95 refl))
+        (and-then ! (load ! (from ! (stop !)) (look ! 93 refl)) (and-then ! (load ! (from ! (stop !)) (look ! 55 refl)) (and-then ! (load ! (from ! (stop !)) (look ! 51 refl))
         (and-then ! (load ! (from ! (stop !)) (look ! 47 refl)) (and-then ! (load ! (from ! (stop !)) (look ! 43 refl)) (and-then ! (load ! (from ! (stop !)) (look ! 39 refl))
         (and-then ! (load ! (from ! (stop !)) (look ! 35 refl)) (and-then ! (load ! (from ! (stop !)) (look ! 31 refl)) (and-then ! (load ! (from ! (stop !)) (look ! 27 refl))
         (and-then ! (load ! (from ! (stop !)) (look ! 23 refl)) (and-then ! (load ! (from ! (stop !)) (look ! 19 refl)) (and-then ! (load ! (from ! (stop !)) (look ! 15 refl))
         (no-more !))))))))))))))))))))) (λ w.
-        use1 W (later (some (λ (out : Applied). (tokens ⊛ ‵ (O .own out (w ∷ []))) ⊛ raw (ensured 𝓤 H A core.ended (core.clauses 𝓤 H A at-mem run) κt (z, (n, (loaded ys, (p, xt)))) tt out)))) (id⊢ 𝓤 _) $ await ! tt $ pick ! (λ out.
+        use1 W (later (some (λ (out : Pooled). (tokens ⊛ ‵ (O .own out (w ∷ []))) ⊛ raw (ensured 𝓤 H A core.ended (core.clauses 𝓤 H A at-mem run) κt (z, (n, (loaded ys, (p, xt)))) tt out)))) (id⊢ 𝓤 _) $ await ! tt $ pick ! (λ out.
         split ! $ move ! (1 ∷ []) $ use1 W (some (λ (ms : Lasts). given (Left out ms) (‵ (Fin ms)))) (core-of out) $ pick ! (λ ms. learn ! (λ e₁.
         move ! (1 ∷ []) $ split ! $ move ! (1 ∷ []) $ peeks ! O (Is O) (shows 𝓤 H A O) out (w ∷ []) (λ is-o. drop ! $
         -- [the slices' tokens; their last lists; pool; its token; …]
-        land ! (from ! (stop !)) (init ! 66 refl (typed-out 𝓤 H A W out w is-o)) $ rewrite ! 66 (λ (u : Val). ‵ (fat fullShare TO′.mir l23 0 u)) (ap only (LL.tells TO.the-type TO′.the-laws out (w ∷ []) is-o)) refl $
-        reborrows ! 108 12 10 refl (sub ! 0 refl (whole !)) refl (tt, tt) refl refl (sub ! 1 refl (whole !)) refl (tt, (tt, (record { fits = roomf .0 }, tt))) $
+        land ! (from ! (stop !)) (init ! 64 refl (typed-out 𝓤 H A W out w is-o)) $ rewrite ! 64 (λ (u : Val). ‵ (fat fullShare TO′.mir l23 0 u)) (ap only (LL.tells TO.the-type TO′.the-laws out (w ∷ []) is-o)) refl $
+        reborrows ! 106 12 10 refl (sub ! 0 refl (whole !)) refl (tt, tt) refl refl (sub ! 1 refl (whole !)) refl (tt, (tt, (record { fits = roomf .0 }, tt))) $
         -- `save`: frames is given up for good
         move ! (6 ∷ 5 ∷ []) $ use2 W (raw (Save 𝓤 H A at-mem run .pre (to-save 𝓤 H A at-mem run κ0 q0 (xf γf) (out .frames) (fs-val out)))) (goes-save 𝓤 H A at-mem run W κ0 q0 (xf γf) (out .frames) (fs-val out) (fields out w is-o .0)) $
-        calls-at ! fm (Save 𝓤 H A at-mem run) known-save (to-save 𝓤 H A at-mem run κ0 q0 (xf γf) (out .frames) (fs-val out)) (and-then ! (load ! (from ! (stop !)) (look ! 9 refl)) (and-then ! (load ! (from ! (fld ! {d = 0} refl (stop !))) (look-in ! 65 (sub ! 0 {d = 0} refl (whole !)))) (no-more !))) (λ u.
+        calls-at ! fm (Save 𝓤 H A at-mem run) known-save (to-save 𝓤 H A at-mem run κ0 q0 (xf γf) (out .frames) (fs-val out)) (and-then ! (load ! (from ! (stop !)) (look ! 9 refl)) (and-then ! (load ! (from ! (fld ! {d = 0} refl (stop !))) (look-in ! 63 (sub ! 0 {d = 0} refl (whole !)))) (no-more !))) (λ u.
         use1 W (later (some (λ (r₂ : Unit {0}). ((‵ (flft κ0 q0) ⊛ ‵ ftrue) ⊛ ‵ (Nothing .own r₂ (u ∷ []))) ⊛ raw (ensured 𝓤 H A save.ended (save.clauses 𝓤 H A at-mem run) (κ0, tt) (xf γf, (out .frames, tt)) tt r₂)))) (id⊢ 𝓤 _) $ await ! tt $ pick ! (λ r₂.
         split ! $ move ! (1 ∷ []) $ use1 W (some (λ (zs : List Frame). given ((zs ≡ saved ys (out .frames)) × (length zs ≡ n)) (‵ (finally F γf zs)))) (save-of 𝓤 H A at-mem run W κ0 (xf γf) (out .frames) r₂) $ pick ! (λ zs. learn ! (λ e₂.
         move ! (1 ∷ []) $ split ! $ move ! (1 ∷ []) $ peeks ! Nothing (Is Nothing) (shows 𝓤 H A Nothing) r₂ (u ∷ []) (λ is-u. drop ! $
         land ! (from ! (stop !)) (init ! 14 refl (nothing-lawful 𝓤 H A W .typed r₂ (u ∷ []) is-u .0)) $
-        -- `deposit`: pool is given up for good
-        assigns ! (addr ! (from ! (hop ! (look ! 106 refl) (stop !)))) (from ! (stop !)) (init ! 8 refl (tt, tt)) $
-        move ! (5 ∷ 4 ∷ []) $ use2 W (raw (Deposit 𝓤 H A at-mem run .pre (to-deposit 𝓤 H A at-mem run κ1 q1 xp (out .pool) (pool-val out)))) (goes-deposit 𝓤 H A at-mem run W κ1 q1 xp (out .pool) (pool-val out) (fields out w is-o .1 .0)) $
-        calls-at ! fm (Deposit 𝓤 H A at-mem run) known-deposit (to-deposit 𝓤 H A at-mem run κ1 q1 xp (out .pool) (pool-val out)) (and-then ! (load ! (from ! (stop !)) (look ! 7 refl)) (and-then ! (load ! (from ! (fld ! {d = 512} refl (stop !))) (look-in ! 65 (sub ! 1 {d = 512} refl (whole !)))) (no-more !))) (λ u₁.
-        use1 W (later (some (λ (r₃ : Unit {0}). ((‵ (flft κ1 q1) ⊛ ‵ ftrue) ⊛ ‵ (Nothing .own r₃ (u₁ ∷ []))) ⊛ raw (ensured 𝓤 H A deposit.ended (deposit.clauses 𝓤 H A at-mem run) (κ1, tt) (xp, (out .pool, tt)) tt r₃)))) (id⊢ 𝓤 _) $ await ! tt $ pick ! (λ r₃.
-        split ! $ move ! (1 ∷ []) $ use1 W (‵ (fres γp (P .coded .code (out .pool)))) (deposit-of 𝓤 H A at-mem run W κ1 xp (out .pool) r₃) $ move ! (1 ∷ []) $ split ! $ move ! (1 ∷ []) $ peeks ! Nothing (Is Nothing) (shows 𝓤 H A Nothing) r₃ (u₁ ∷ []) (λ is-u₁. drop ! $
+        -- `renew`: pool is given up for good
+        assigns ! (addr ! (from ! (hop ! (look ! 104 refl) (stop !)))) (from ! (stop !)) (init ! 8 refl (tt, tt)) $
+        move ! (5 ∷ 4 ∷ []) $ use2 W (raw (Renew 𝓤 H A at-mem run .pre (to-renew 𝓤 H A at-mem run κ1 q1 xp (out .pool) (new-val out)))) (goes-renew 𝓤 H A at-mem run W κ1 q1 xp (out .pool) (new-val out) (fields out w is-o .1 .0)) $
+        calls-at ! fm (Renew 𝓤 H A at-mem run) known-renew (to-renew 𝓤 H A at-mem run κ1 q1 xp (out .pool) (new-val out)) (and-then ! (load ! (from ! (stop !)) (look ! 7 refl)) (and-then ! (load ! (from ! (fld ! {d = 512} refl (stop !))) (look-in ! 63 (sub ! 1 {d = 512} refl (whole !)))) (no-more !))) (λ u₁.
+        use1 W (later (some (λ (r₃ : Unit {0}). ((‵ (flft κ1 q1) ⊛ ‵ ftrue) ⊛ ‵ (Nothing .own r₃ (u₁ ∷ []))) ⊛ raw (ensured 𝓤 H A renew.ended (renew.clauses 𝓤 H A at-mem run) (κ1, tt) (xp, (out .pool, tt)) tt r₃)))) (id⊢ 𝓤 _) $ await ! tt $ pick ! (λ r₃.
+        split ! $ move ! (1 ∷ []) $ use1 W (‵ (fres γp (P .coded .code (out .pool)))) (renew-of 𝓤 H A at-mem run W κ1 xp (out .pool) r₃) $ move ! (1 ∷ []) $ split ! $ move ! (1 ∷ []) $ peeks ! Nothing (Is Nothing) (shows 𝓤 H A Nothing) r₃ (u₁ ∷ []) (λ is-u₁. drop ! $
         land ! (from ! (stop !)) (store ! 14 refl (nothing-lawful 𝓤 H A W .typed r₃ (u₁ ∷ []) is-u₁ .0)) $
-        assigns ! (of-opd ! (load ! (from ! (fld ! {d = 520} refl (stop !))) (look-in ! 66 (sub ! 2 {d = 520} refl (whole !))))) (from ! (stop !)) (init ! 112 refl (typed-answer 𝓤 H A W out (fields out w is-o .1 .1))) $
-        returns ! (look ! 112 refl) $
-        forget ! 112 refl $ forget ! 110 refl $ forget ! 108 refl $ forget ! 106 refl $ forget ! 104 refl $ forget ! 102 refl $ forget ! 100 refl $ forget ! 98 refl $ forget ! 96 refl $
-        forget ! 94 refl $ forget ! 92 refl $ forget ! 90 refl $ forget ! 88 refl $ forget ! 86 refl $ forget ! 84 refl $ forget ! 82 refl $ forget ! 80 refl $ forget ! 78 refl $ forget ! 76 refl $
-        forget ! 74 refl $ forget ! 72 refl $ forget ! 70 refl $ forget ! 68 refl $ forget ! 66 refl $ forget ! 64 refl $ forget ! 62 refl $ forget ! 60 refl $ forget ! 58 refl $ forget ! 56 refl $
-        forget ! 54 refl $ forget ! 52 refl $ forget ! 50 refl $ forget ! 48 refl $ forget ! 46 refl $ forget ! 44 refl $ forget ! 42 refl $ forget ! 40 refl $ forget ! 38 refl $ forget ! 36 refl $
-        forget ! 34 refl $ forget ! 32 refl $ forget ! 30 refl $ forget ! 28 refl $ forget ! 26 refl $ forget ! 24 refl $ forget ! 22 refl $ forget ! 20 refl $ forget ! 18 refl $ forget ! 16 refl $
-        forget ! 14 refl $ forget ! 12 refl $ forget ! 10 refl $ forget ! 8 refl $
-        move ! (112 ∷ 113 ∷ []) $ free1 ! $ move ! (110 ∷ 111 ∷ []) $ free1 ! $ move ! (108 ∷ 109 ∷ []) $ free1 ! $ move ! (106 ∷ 107 ∷ []) $ free1 ! $ move ! (104 ∷ 105 ∷ []) $ free1 ! $
-        move ! (102 ∷ 103 ∷ []) $ free1 ! $ move ! (100 ∷ 101 ∷ []) $ free1 ! $ move ! (98 ∷ 99 ∷ []) $ free1 ! $ move ! (96 ∷ 97 ∷ []) $ free1 ! $ move ! (94 ∷ 95 ∷ []) $ free1 ! $ move ! (92 ∷ 93 ∷
-        []) $ free1 ! $ move ! (90 ∷ 91 ∷ []) $ free1 ! $ move ! (88 ∷ 89 ∷ []) $ free1 ! $ move ! (86 ∷ 87 ∷ []) $ free1 ! $ move ! (84 ∷ 85 ∷ []) $ free1 ! $ move ! (82 ∷ 83 ∷ []) $ free1 ! $
-        move ! (80 ∷ 81 ∷ []) $ free1 ! $ move ! (78 ∷ 79 ∷ []) $ free1 ! $ move ! (76 ∷ 77 ∷ []) $ free1 ! $ move ! (74 ∷ 75 ∷ []) $ free1 ! $ move ! (72 ∷ 73 ∷ []) $ free1 ! $ move ! (70 ∷ 71 ∷
-        []) $ free1 ! $ move ! (68 ∷ 69 ∷ []) $ free1 ! $ move ! (66 ∷ 67 ∷ []) $ free1 ! $ move ! (64 ∷ 65 ∷ []) $ free1 ! $ move ! (62 ∷ 63 ∷ []) $ free1 ! $ move ! (60 ∷ 61 ∷ []) $ free1 ! $
-        move ! (58 ∷ 59 ∷ []) $ free1 ! $ move ! (56 ∷ 57 ∷ []) $ free1 ! $ move ! (54 ∷ 55 ∷ []) $ free1 ! $ move ! (52 ∷ 53 ∷ []) $ free1 ! $ move ! (50 ∷ 51 ∷ []) $ free1 ! $ move ! (48 ∷ 49 ∷
-        []) $ free1 ! $ move ! (46 ∷ 47 ∷ []) $ free1 ! $ move ! (44 ∷ 45 ∷ []) $ free1 ! $ move ! (42 ∷ 43 ∷ []) $ free1 ! $ move ! (40 ∷ 41 ∷ []) $ free1 ! $ move ! (38 ∷ 39 ∷ []) $ free1 ! $
-        move ! (36 ∷ 37 ∷ []) $ free1 ! $ move ! (34 ∷ 35 ∷ []) $ free1 ! $ move ! (32 ∷ 33 ∷ []) $ free1 ! $ move ! (30 ∷ 31 ∷ []) $ free1 ! $ move ! (28 ∷ 29 ∷ []) $ free1 ! $ move ! (26 ∷ 27 ∷
-        []) $ free1 ! $ move ! (24 ∷ 25 ∷ []) $ free1 ! $ move ! (22 ∷ 23 ∷ []) $ free1 ! $ move ! (20 ∷ 21 ∷ []) $ free1 ! $ move ! (18 ∷ 19 ∷ []) $ free1 ! $ move ! (16 ∷ 17 ∷ []) $ free1 ! $
-        move ! (14 ∷ 15 ∷ []) $ free1 ! $ move ! (12 ∷ 13 ∷ []) $ free1 ! $ move ! (10 ∷ 11 ∷ []) $ free1 ! $ move ! (8 ∷ 9 ∷ []) $ free1 ! $ free0 ! $
-        move ! (2 ∷ []) $ split ! $ move ! (2 ∷ []) $ split ! $ keep ! (2 ∷ 0 ∷ 6 ∷ 5 ∷ 4 ∷ 7 ∷ []) $ by ! (exits out zs ms e₂ e₁ (fields out w is-o))))))))))))))))))))))))))))))))))))))))))))))))))))))))))))))))))))))))))))))))
+        assigns ! (of-opd ! (load ! (from ! (fld ! {d = 520} refl (stop !))) (look-in ! 64 (sub ! 2 {d = 520} refl (whole !))))) (from ! (stop !)) (init ! 110 refl (typed-answer 𝓤 H A W out (fields out w is-o .1 .1))) $
+        returns ! (look ! 110 refl) $
+        forget ! 110 refl $ forget ! 108 refl $ forget ! 106 refl $ forget ! 104 refl $ forget ! 102 refl $ forget ! 100 refl $ forget ! 98 refl $ forget ! 96 refl $ forget ! 94 refl $
+        forget ! 92 refl $ forget ! 90 refl $ forget ! 88 refl $ forget ! 86 refl $ forget ! 84 refl $ forget ! 82 refl $ forget ! 80 refl $ forget ! 78 refl $ forget ! 76 refl $ forget ! 74 refl $
+        forget ! 72 refl $ forget ! 70 refl $ forget ! 68 refl $ forget ! 66 refl $ forget ! 64 refl $ forget ! 62 refl $ forget ! 60 refl $ forget ! 58 refl $ forget ! 56 refl $ forget ! 54 refl $
+        forget ! 52 refl $ forget ! 50 refl $ forget ! 48 refl $ forget ! 46 refl $ forget ! 44 refl $ forget ! 42 refl $ forget ! 40 refl $ forget ! 38 refl $ forget ! 36 refl $ forget ! 34 refl $
+        forget ! 32 refl $ forget ! 30 refl $ forget ! 28 refl $ forget ! 26 refl $ forget ! 24 refl $ forget ! 22 refl $ forget ! 20 refl $ forget ! 18 refl $ forget ! 16 refl $ forget ! 14 refl $
+        forget ! 12 refl $ forget ! 10 refl $ forget ! 8 refl $
+        move ! (110 ∷ 111 ∷ []) $ free1 ! $ move ! (108 ∷ 109 ∷ []) $ free1 ! $ move ! (106 ∷ 107 ∷ []) $ free1 ! $ move ! (104 ∷ 105 ∷ []) $ free1 ! $ move ! (102 ∷ 103 ∷ []) $ free1 ! $
+        move ! (100 ∷ 101 ∷ []) $ free1 ! $ move ! (98 ∷ 99 ∷ []) $ free1 ! $ move ! (96 ∷ 97 ∷ []) $ free1 ! $ move ! (94 ∷ 95 ∷ []) $ free1 ! $ move ! (92 ∷ 93 ∷ []) $ free1 ! $ move ! (90 ∷ 91 ∷
+        []) $ free1 ! $ move ! (88 ∷ 89 ∷ []) $ free1 ! $ move ! (86 ∷ 87 ∷ []) $ free1 ! $ move ! (84 ∷ 85 ∷ []) $ free1 ! $ move ! (82 ∷ 83 ∷ []) $ free1 ! $ move ! (80 ∷ 81 ∷ []) $ free1 ! $
+        move ! (78 ∷ 79 ∷ []) $ free1 ! $ move ! (76 ∷ 77 ∷ []) $ free1 ! $ move ! (74 ∷ 75 ∷ []) $ free1 ! $ move ! (72 ∷ 73 ∷ []) $ free1 ! $ move ! (70 ∷ 71 ∷ []) $ free1 ! $ move ! (68 ∷ 69 ∷
+        []) $ free1 ! $ move ! (66 ∷ 67 ∷ []) $ free1 ! $ move ! (64 ∷ 65 ∷ []) $ free1 ! $ move ! (62 ∷ 63 ∷ []) $ free1 ! $ move ! (60 ∷ 61 ∷ []) $ free1 ! $ move ! (58 ∷ 59 ∷ []) $ free1 ! $
+        move ! (56 ∷ 57 ∷ []) $ free1 ! $ move ! (54 ∷ 55 ∷ []) $ free1 ! $ move ! (52 ∷ 53 ∷ []) $ free1 ! $ move ! (50 ∷ 51 ∷ []) $ free1 ! $ move ! (48 ∷ 49 ∷ []) $ free1 ! $ move ! (46 ∷ 47 ∷
+        []) $ free1 ! $ move ! (44 ∷ 45 ∷ []) $ free1 ! $ move ! (42 ∷ 43 ∷ []) $ free1 ! $ move ! (40 ∷ 41 ∷ []) $ free1 ! $ move ! (38 ∷ 39 ∷ []) $ free1 ! $ move ! (36 ∷ 37 ∷ []) $ free1 ! $
+        move ! (34 ∷ 35 ∷ []) $ free1 ! $ move ! (32 ∷ 33 ∷ []) $ free1 ! $ move ! (30 ∷ 31 ∷ []) $ free1 ! $ move ! (28 ∷ 29 ∷ []) $ free1 ! $ move ! (26 ∷ 27 ∷ []) $ free1 ! $ move ! (24 ∷ 25 ∷
+        []) $ free1 ! $ move ! (22 ∷ 23 ∷ []) $ free1 ! $ move ! (20 ∷ 21 ∷ []) $ free1 ! $ move ! (18 ∷ 19 ∷ []) $ free1 ! $ move ! (16 ∷ 17 ∷ []) $ free1 ! $ move ! (14 ∷ 15 ∷ []) $ free1 ! $
+        move ! (12 ∷ 13 ∷ []) $ free1 ! $ move ! (10 ∷ 11 ∷ []) $ free1 ! $ move ! (8 ∷ 9 ∷ []) $ free1 ! $ free0 ! $
+        move ! (2 ∷ []) $ split ! $ move ! (2 ∷ []) $ split ! $ keep ! (2 ∷ 0 ∷ 6 ∷ 5 ∷ 4 ∷ 7 ∷ []) $ by ! (exits out zs ms e₂ e₁ (fields out w is-o)))))))))))))))))))))))))))))))))))))))))))))))))))))))))))))))))))))))))))
 
 module _ {M : Type 1} (𝓤 : URA M) (H : Heap 𝓤) (A : Atoms 𝓤) (W : Given 𝓤 H A) (at-mem : Memory → SProp 𝓤) (run : Routine → Fun 𝓤) where
-  walks : (C : Calls 𝓤 H) (Λ : Loops 𝓤 H) → FmC 𝓤 H (W .laws) C → Triple 𝓤 (C #load) (Load 𝓤 H A at-mem run) → Triple 𝓤 (C #core) (Core 𝓤 H A at-mem run) → Triple 𝓤 (C #save) (Save 𝓤 H A at-mem run) → Triple 𝓤 (C #take) (Take 𝓤 H A at-mem run) → Triple 𝓤 (C #deposit) (Deposit 𝓤 H A at-mem run)
+  walks : (C : Calls 𝓤 H) (Λ : Loops 𝓤 H) → FmC 𝓤 H (W .laws) C → Triple 𝓤 (C #load) (Load 𝓤 H A at-mem run) → Triple 𝓤 (C #core) (Core 𝓤 H A at-mem run) → Triple 𝓤 (C #save) (Save 𝓤 H A at-mem run) → Triple 𝓤 (C #renew) (Renew 𝓤 H A at-mem run)
       → Walks 𝓤 H A fn.ended stayed (WpFn 𝓤 H C Λ code.function) (fn.clauses 𝓤 H A at-mem run)
-  walks C Λ fm known-load known-core known-save known-take known-deposit = walked 𝓤 H A fn.ended stayed (fn.clauses 𝓤 H A at-mem run) (WpFn 𝓤 H C Λ code.function)
+  walks C Λ fm known-load known-core known-save known-renew = walked 𝓤 H A fn.ended stayed (fn.clauses 𝓤 H A at-mem run) (WpFn 𝓤 H C Λ code.function)
       (λ κs. (sizes-vals, (slice-vals, (ptr-vals, (slice-vals, (slice-vals, (slice-vals, (slice-vals, (slice-vals, (slice-vals, (slice-vals, (slice-vals, (slice-vals, (slice-vals, (slice-vals, (slice-vals, (slice-vals, (slice-vals, (slice-vals, (slice-vals, tt))))))))))))))))))))
       (λ (κ0, (κ1, (κ2, (κ3, (κ4, (κ5, (κ6, (κ7, (κ8, (κ9, (κ10, (κ11, (κ12, (κ13, (κ14, (κ15, (κ16, (κ17, _)))))))))))))))))).
       (sizes-tells, (mut 0 κ0 F, (mut-tells (named 1) κ1 P, (shr 2 κ2 u32, (shr 3 κ3 u32, (shr 4 κ4 u16, (shr 5 κ5 u16, (shr 6 κ6 u16, (mut 7 κ7 u32, (mut 8 κ8 u16, (mut 9 κ9 u16, (mut 10 κ10 u16, (mut 11 κ11 u8, (mut 12 κ12 u8, (mut 13 κ13 u32, (mut 14 κ14 u8, (mut 15 κ15 u8, (mut 16 κ16 u16, (mut 17 κ17 u16, tt))))))))))))))))))))
@@ -352,16 +345,16 @@ module _ {M : Type 1} (𝓤 : URA M) (H : Heap 𝓤) (A : Atoms 𝓤) (W : Given
       (are .1 .1 .1 .1 .1 .1 .1 .1 .1 .1 .1 .1 .1 .1 .0 .0 .1) (a .1 .1 .1 .1 .1 .1 .1 .1 .1 .1 .1 .1 .1 .1 .1 .0) (are .1 .1 .1 .1 .1 .1 .1 .1 .1 .1 .1 .1 .1 .1 .1 .0 .0 .1)
       (a .1 .1 .1 .1 .1 .1 .1 .1 .1 .1 .1 .1 .1 .1 .1 .1 .0) (are .1 .1 .1 .1 .1 .1 .1 .1 .1 .1 .1 .1 .1 .1 .1 .1 .0 .0 .1) (a .1 .1 .1 .1 .1 .1 .1 .1 .1 .1 .1 .1 .1 .1 .1 .1 .1 .0)
       (are .1 .1 .1 .1 .1 .1 .1 .1 .1 .1 .1 .1 .1 .1 .1 .1 .1 .0 .0 .1) (a .1 .1 .1 .1 .1 .1 .1 .1 .1 .1 .1 .1 .1 .1 .1 .1 .1 .1 .0)
-      (are .1 .1 .1 .1 .1 .1 .1 .1 .1 .1 .1 .1 .1 .1 .1 .1 .1 .1 .0 .0 .1) (are .0) C Λ fm known-load known-core known-save known-take known-deposit))
+      (are .1 .1 .1 .1 .1 .1 .1 .1 .1 .1 .1 .1 .1 .1 .1 .1 .1 .1 .0 .0 .1) (are .0) C Λ fm known-load known-core known-save known-renew))
 
 meets : {M : Type 1} (𝓤 : URA M) (H : Heap 𝓤) (A : Atoms 𝓤) → Given 𝓤 H A → (at-mem : Memory → SProp 𝓤) (run : Routine → Fun 𝓤) (𝓣 : Tables 𝓤 H)
-    → Triple 𝓤 (𝓣 .C #load) (Load 𝓤 H A at-mem run) → Triple 𝓤 (𝓣 .C #core) (Core 𝓤 H A at-mem run) → Triple 𝓤 (𝓣 .C #save) (Save 𝓤 H A at-mem run) → Triple 𝓤 (𝓣 .C #take) (Take 𝓤 H A at-mem run) → Triple 𝓤 (𝓣 .C #deposit) (Deposit 𝓤 H A at-mem run)
+    → Triple 𝓤 (𝓣 .C #load) (Load 𝓤 H A at-mem run) → Triple 𝓤 (𝓣 .C #core) (Core 𝓤 H A at-mem run) → Triple 𝓤 (𝓣 .C #save) (Save 𝓤 H A at-mem run) → Triple 𝓤 (𝓣 .C #renew) (Renew 𝓤 H A at-mem run)
     → Meets 𝓤 H A fn.signature (WpFn 𝓤 H (𝓣 .C) (𝓣 .Λ) code.function) (fn.spec 𝓤 H A at-mem run)
-meets 𝓤 H A W at-mem run 𝓣 known-load known-core known-save known-take known-deposit =
+meets 𝓤 H A W at-mem run 𝓣 known-load known-core known-save known-renew =
     let v = goes-value 𝓤 H A W 18 in let g = goes-gave 𝓤 H A W 18 in let h = goes-seen 𝓤 H A W 18 in
     walk-meets 𝓤 H A fn.ended stayed W
     (v Z (λ κs x f. refl), (g 0 tt F, (goes-gave-ref 𝓤 H A W 18 1 tt (plain (λ _. P)), (h 2 tt u32, (h 3 tt u32, (h 4 tt u16, (h 5 tt u16, (h 6 tt u16, (g 7 tt u32, (g 8 tt u16, (g 9 tt u16, (g 10 tt u16, (g 11 tt u8, (g 12 tt u8, (g 13 tt u32, (g 14 tt u8, (g 15 tt u8, (g 16 tt u16, (g 17 tt u16, tt))))))))))))))))))) (fn.clauses 𝓤 H A at-mem run)
-    (WpFn 𝓤 H (𝓣 .C) (𝓣 .Λ) code.function) (WpFn-mono 𝓤 H (W .laws) 𝓣 code.function) (walks 𝓤 H A W at-mem run (𝓣 .C) (𝓣 .Λ) (fmOf 𝓤 H (W .laws) 𝓣) known-load known-core known-save known-take known-deposit)
+    (WpFn 𝓤 H (𝓣 .C) (𝓣 .Λ) code.function) (WpFn-mono 𝓤 H (W .laws) 𝓣 code.function) (walks 𝓤 H A W at-mem run (𝓣 .C) (𝓣 .Λ) (fmOf 𝓤 H (W .laws) 𝓣) known-load known-core known-save known-renew)
 
 pub keeper-restart-spec : {M : Type 1} → stated.statement M
 unfolding code.routine tablesOf
@@ -372,5 +365,4 @@ keeper-restart-spec 𝓤 H 𝓜 𝓖 𝓡 =
     (cited-load 𝓤 H 𝓜 𝓖 𝓡 code.env code.calls-keeper·frames·load)
     (cited 𝓤 H (Core 𝓤 H (𝓖 .A) (𝓜 .mem) (𝓡 .run)) 𝓜 𝓡 code.env #core core-def.routine code.calls-calls·restart-core (core-thm.met 𝓤 H 𝓜 𝓖 𝓡))
     (cited-save 𝓤 H 𝓜 𝓖 𝓡 code.env code.calls-keeper·frames·save)
-    (cited-take 𝓤 H 𝓜 𝓖 𝓡 code.env code.calls-keeper·pool·take)
-    (cited-deposit 𝓤 H 𝓜 𝓖 𝓡 code.env code.calls-keeper·pool·deposit))
+    (cited-renew 𝓤 H 𝓜 𝓖 𝓡 code.env code.calls-keeper·pool·renew))

@@ -1,6 +1,7 @@
 -- `carry` meets its contract: each family's outcome is the event's.
 use borrow.Author.Needs.{needs}
 use mathlib.Core.Path.{refl}
+use Rattle.model.specs.Pool.{taken, deposited}
 use Rattle.calls.proofs.carry.carry.Statement.{statement}
 use Rattle.calls.proofs.carry.carry.Tie as tie
 
@@ -24,6 +25,7 @@ writeback-event-requires : tie.Need-writeback-event-requires
 writeback-event-requires c κs = let s : tie.Start = search in s .pre
 
 returns : tie.Need-returns
+unfolding taken deposited
 returns c =
     let k : tie.After-design-event = search in
     rw (event k .event .given .1) (k .design-event .ensures)

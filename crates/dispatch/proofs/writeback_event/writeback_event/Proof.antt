@@ -5,6 +5,7 @@ use Rattle.writeback.proofs.ClaimLaws.{claim-ready}
 use Rattle.writeback.proofs.Ready.{done-ready, map-ready, update-ready}
 use Rattle.writeback.proofs.TruncateLaws.{truncate-ready}
 use Rattle.dispatch.proofs.WritebackLaws.{claim-own, update-own, page-done-own, map-done-own, truncate-own}
+use Rattle.model.specs.Pool.{taken, deposited}
 use Rattle.dispatch.proofs.writeback_event.writeback_event.Statement.{statement}
 use Rattle.dispatch.proofs.writeback_event.writeback_event.Tie as tie
 
@@ -40,29 +41,34 @@ map-done-requires : tie.Need-map-done-requires
 map-done-requires c κs = let s : tie.Start = search in map-ready _ _ (s .pre .fits) (s .pre .rules)
 
 returns : tie.Need-returns
+unfolding taken deposited
 returns c =
     let k : tie.After-claim = search in let m : tie.After-enum-told = search in
-    let d = k .claim .ensures in rw (m .enum-told .given .1, c .with-pool .ensures) (claim-own _ _ (start-told m .pre) d)
+    let d = k .claim .ensures in rw (m .enum-told .given .1, c .framed .ensures) (claim-own _ _ (start-told m .pre) d)
 
 returns-2 : tie.Need-returns-2
+unfolding taken deposited
 returns-2 c =
     let k : tie.After-truncate = search in let m : tie.After-event = search in
-    let d = k .truncate .ensures in rw (m .event .given .1, c .with-pool2 .ensures) (truncate-own _ _ (start m .pre) _ _ d)
+    let d = k .truncate .ensures in rw (m .event .given .1, c .framed2 .ensures) (truncate-own _ _ (start m .pre) _ _ d)
 
 returns-3 : tie.Need-returns-3
+unfolding taken deposited
 returns-3 c =
     let k : tie.After-update = search in let m : tie.After-event2 = search in
-    let d = k .update .ensures in rw (m .event2 .given .1, c .with-both .ensures) (update-own _ _ (start2 m .pre) _ d)
+    let d = k .update .ensures in rw (m .event2 .given .1, c .told .ensures) (update-own _ _ (start2 m .pre) _ d)
 
 returns-4 : tie.Need-returns-4
+unfolding taken deposited
 returns-4 c =
     let k : tie.After-page-done = search in let m : tie.After-event3 = search in
-    let d = k .page-done .ensures in rw (m .event3 .given .1, c .with-pool3 .ensures) (page-done-own _ _ (start3 m .pre) _ _ d)
+    let d = k .page-done .ensures in rw (m .event3 .given .1, c .framed3 .ensures) (page-done-own _ _ (start3 m .pre) _ _ d)
 
 returns-5 : tie.Need-returns-5
+unfolding taken
 returns-5 c =
     let k : tie.After-map-done = search in let m : tie.After-event4 = search in
-    let d = k .map-done .ensures in rw (m .event4 .given .1, c .with-frames .ensures) (map-done-own _ _ (start4 m .pre) _ _ d)
+    let d = k .map-done .ensures in rw (m .event4 .given .1, c .freed .ensures) (map-done-own _ _ (start4 m .pre) _ _ (d _ (start4 m .pre .rules .counts .free)))
 
 pub writeback-event-spec : {M : Type 1} → statement M
 writeback-event-spec =

@@ -2,12 +2,13 @@
 use borrow.Author.Needs.{needs}
 use borrow.Author.Tests.{eqb-true, eqb-false}
 use mathlib.Core.Path.{_≡_, refl, ap, sym, _∙_}
-use Prim.Native.Nat.{ℕ, _-_}
+use Prim.Native.Nat.{ℕ, _+_, _-_}
 use native.Mathlib.Omega.{arith}
 use mathlib.Core.Logic.{⊎-elim}
 use lib.ListN.{length}
 use Rattle.tables.specs.Base.{at}
 use mathlib.Core.List.{List}
+use Rattle.model.specs.State.{freeCount}
 use Rattle.leaves.specs.FreeMap.{freeMap}
 use Rattle.leaves.specs.Counts.{free-most}
 use Rattle.leaves.proofs.Freeing.{Freeing, begun, freed, passed, ended}
@@ -15,13 +16,13 @@ use Rattle.leaves.proofs.records.free_leaving.Statement.{statement}
 use Rattle.leaves.proofs.records.free_leaving.Tie as tie
 
 abbrev Inv-loop : tie.InvT-loop
-Inv-loop sizes states₀ owners₀ map₀ slot free count₀ r₀ states owners map count r = (length map ≡ length map₀) × Freeing sizes slot states₀ owners₀ r states owners map count
+Inv-loop sizes states₀ owners₀ map₀ slot count₀ r₀ states owners map count r = (length map ≡ length map₀) × Freeing sizes slot states₀ owners₀ r states owners map (freeCount sizes (at states₀) + count)
 
 abbrev μ-loop : tie.MeasureT-loop
-μ-loop sizes states₀ owners₀ map₀ slot free count₀ r₀ states owners map count r = length states₀ - r
+μ-loop sizes states₀ owners₀ map₀ slot count₀ r₀ states owners map count r = length states₀ - r
 
 loop-holds : tie.Need-loop-holds Inv-loop μ-loop
-loop-holds c = let s : tie.Start Inv-loop μ-loop = search in let a = s .args in (refl, begun (a .sizes) (a .slot) (a .states .now) (a .owners .now) (a .map .now) (a .free) (s .pre .3) (s .pre .2))
+loop-holds c = let s : tie.Start Inv-loop μ-loop = search in let a = s .args in (refl, begun (a .sizes) (a .slot) (a .states .now) (a .owners .now) (a .map .now) (freeCount (a .sizes) (at (a .states .now)) + 0) (s .pre .2) (omega arith))
 
 slice-read-if1 : tie.Need-slice-read-if1 Inv-loop μ-loop
 slice-read-if1 c = omega arith
@@ -52,11 +53,11 @@ loop-again c =
     ⊎-elim
     (λ w. (
       ap length (w .15) ∙ w .6 .kept .1 .1 .1 .0 ∙ i .0,
-      freed (l .loop .r) (i .1) (omega (arith, i .1 .fits .states-long)) (s .pre .0) (w .0 .taken) (eqb-true _ _ (w .2 .taken)) (w .13 ∙ w .6 .ensures .0) (w .14 ∙ w .6 .ensures .1) (w .15 ∙ w .6 .ensures .2 ∙ ap (λ (m : List ℕ). freeMap (s .args .sizes) (at m)) (sym (w .13))) (w .16),
+      freed (l .loop .r) (i .1) (omega (arith, i .1 .fits .states-long)) (s .pre .0) (w .0 .taken) (eqb-true _ _ (w .2 .taken)) (w .13 ∙ w .6 .ensures .0) (w .14 ∙ w .6 .ensures .1) (w .15 ∙ w .6 .ensures .2 ∙ ap (λ (m : List ℕ). freeMap (s .args .sizes) (at m)) (sym (w .13))) (omega (arith, w .16)),
     ))
     (λ w. (
       ap length (w .3) ∙ i .0,
-      passed (l .loop .r) (i .1) (λ a b. ⊎-elim (λ v. eqb-false _ _ (v .2 .left) b) (λ v. v .left a) (w .0 .came)) (w .1) (w .2) (w .3) (w .4),
+      passed (l .loop .r) (i .1) (λ a b. ⊎-elim (λ v. eqb-false _ _ (v .2 .left) b) (λ v. v .left a) (w .0 .came)) (w .1) (w .2) (w .3) (omega (arith, w .4)),
     ))
     (c .if1 .came)
 

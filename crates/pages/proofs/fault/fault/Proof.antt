@@ -64,7 +64,7 @@ ask-fault-requires : tie.Need-ask-fault-requires
 ask-fault-requires c κs = let s : tie.Start = search in (s .pre .0, λ e. page-range (s .args .sizes) (s .args .slot) (s .args .page) e)
 
 returns : tie.Need-returns
-returns c = let q = asked (c .before) in (fault-no q (c .if1 .taken), fault-none q (c .if1 .taken))
+returns c = let q = asked (c .before) in (fault-no q (c .if1 .taken), (fault-none q (c .if1 .taken), refl))
 
 page-of-requires : tie.Need-page-of-requires
 page-of-requires c κs = let r = range c in (start (c .before) .pre .0 .sizes, r .0, r .1)
@@ -110,9 +110,12 @@ returns-2 c =
     let x = held d in
     let q = asked (passed x .before) in (
       fault-yes q (passed x .if1 .left) (paged x .page-of .ensures) (way x .way-of .ensures) (queued x .first .ensures),
-      fault-done q (passed x .if1 .left) (paged x .page-of .ensures) (way x .way-of .ensures) (queued x .first .ensures)
-          (from x .pre .0 .sizes .pages) (v .serve .result) (d .hold .result) _ _ _ _ _ _ _ _ (x .at16 .result) (x .at16 .ensures)
-          (v .serve .ensures .0) (d .hold .ensures .0) (v .serve .ensures .1 .0) (o .pop .ensures) (v .serve .ensures .1 .1) (d .hold .ensures .1 .0) (d .hold .ensures .1 .1 .0) (d .hold .ensures .1 .1 .1 .0) (d .hold .ensures .1 .1 .1 .1) (g .charge .ensures),
+      (
+        fault-done q (passed x .if1 .left) (paged x .page-of .ensures) (way x .way-of .ensures) (queued x .first .ensures)
+            (from x .pre .0 .sizes .pages) (v .serve .result) (d .hold .result) _ _ _ _ _ _ _ _ (x .at16 .result) (x .at16 .ensures)
+            (v .serve .ensures .0) (d .hold .ensures .0) (v .serve .ensures .1 .0) (o .pop .ensures) (v .serve .ensures .1 .1) (d .hold .ensures .1 .0) (d .hold .ensures .1 .1 .0) (d .hold .ensures .1 .1 .1 .0) (d .hold .ensures .1 .1 .1 .1) (g .charge .ensures),
+        refl,
+      ),
     )
 
 pub fault-spec : {M : Type 1} → statement M

@@ -2,9 +2,8 @@
 use borrow.Author.Needs.{needs}
 use mathlib.Core.Path.{_≡_, ap, sym, _∙_}
 use native.Mathlib.Omega.{arith}
-use native.Mathlib.Nat.{mod-lt}
 use native.Mathlib.Numerals.{add-one}
-use Prim.Native.Nat.{ℕ, suc, _+_, _-_, _%_, _<_}
+use Prim.Native.Nat.{ℕ, suc, _<_}
 use lib.ListN.{set}
 use Rattle.tables.specs.Base.{at}
 use Rattle.tables.specs.Laws.{if-yes, if-no}
@@ -37,12 +36,12 @@ returns c =
     let s : tie.Start = search in
     let a = s .args in
     let w = c .if1 .taken in (
-      sym (if-no (a .way) 0 _ (a .pool) w),
+      sym (if-no (a .way) 0 _ 0 w),
       (sym (if-no (a .way) 0 _ (a .addresses .now) w), (sym (if-no (a .way) 0 _ (a .states .now) w), (sym (if-no (a .way) 0 _ (a .owners .now) w), sym (if-no (a .way) 0 _ (a .free-map .now) w)))),
     )
 
-add-put16 : tie.Need-add-put16
-add-put16 c = let k : tie.After-pick = search in omega (arith, most k)
+add-taken : tie.Need-add-taken
+add-taken c = let k : tie.After-pick = search in omega (arith, most k)
 
 cast-put16 : tie.Need-cast-put16
 cast-put16 c = let k : tie.After-pick = search in omega (arith, most k)
@@ -64,21 +63,8 @@ clear-mark-requires c κs =
     let a = s .args in
     (rw (chosen k) (chosen-inside (a .sizes) (a .pool) (a .addresses .now) (a .states .now) (a .free-map .now) (a .page) (s .pre .0) (s .pre .3)), rw (chosen k) (chosen-on (a .sizes) (a .pool) (a .addresses .now) (a .states .now) (a .free-map .now) (a .page) (s .pre .0) (s .pre .3) (s .pre .4 (e .if1 .left))))
 
-add-t16 : tie.Need-add-t16
-add-t16 c = let p : tie.After-put16 = search in omega (arith, most (picked p))
-
-cast-t29 : tie.Need-cast-t29
-cast-t29 c =
-    let p : tie.After-put16 = search in
-    let k = picked p in
-    let s = from (none k) in
-    omega (arith, mod-lt (k .pick .result + 1) (s .pre .0 .records), s .pre .0 .records-most)
-
-sub-t30 : tie.Need-sub-t30
-sub-t30 c =
-    let p : tie.After-put16 = search in
-    let e = none (picked p) in
-    from e .pre .4 (e .if1 .left)
+cast-result : tie.Need-cast-result
+cast-result c = let p : tie.After-put16 = search in omega (arith, most (picked p))
 
 returns-2 : tie.Need-returns-2
 returns-2 c =
@@ -91,7 +77,7 @@ returns-2 c =
     let a = from e .args in
     let w = e .if1 .left in
     let q = chosen k in (
-      ap (λ (n : ℕ). record { hand = n % a .sizes .records; free = a .pool .free - 1 }) (add-one (k .pick .result) ∙ ap suc q) ∙ sym (if-yes (a .way) 0 _ (a .pool) w),
+      add-one (k .pick .result) ∙ ap suc q ∙ sym (if-yes (a .way) 0 _ 0 w),
       (
         p .put16 .ensures ∙ ap (set (a .addresses .now) (a .page)) (add-one (k .pick .result) ∙ ap suc q) ∙ sym (if-yes (a .way) 0 _ (a .addresses .now) w),
         (
@@ -107,5 +93,5 @@ returns-2 c =
 pub hold-spec : {M : Type 1} → statement M
 hold-spec =
     tie.close
-    (tie.spec returns (λ c. search needs) (λ c κs. search needs) add-put16 cast-put16 (λ c κs. search needs) move-record-requires (λ c. search needs) (λ c κs. search needs) clear-mark-requires
-    add-t16 (λ c. search needs) cast-t29 sub-t30 (λ c. search needs) (λ c. search needs) (λ c. search needs) (λ c. search needs) returns-2)
+    (tie.spec returns (λ c. search needs) (λ c κs. search needs) add-taken cast-put16 (λ c κs. search needs) move-record-requires (λ c. search needs) (λ c κs. search needs) clear-mark-requires cast-result
+    (λ c. search needs) (λ c. search needs) (λ c. search needs) (λ c. search needs) returns-2)

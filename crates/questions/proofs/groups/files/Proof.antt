@@ -5,7 +5,8 @@ use Prim.Native.Nat.{ℕ}
 use native.Mathlib.Omega.{arith}
 use lib.ListN.{length-replicate}
 use Rattle.tables.specs.Turn.{learn, first-no, second-told, both}
-use Rattle.rules.proofs.Marked.{zeros, not-true}
+use Rattle.tables.specs.Laws.{at-zeros}
+use Rattle.rules.proofs.Marked.{not-true}
 use Rattle.questions.proofs.GroupLaws.{rows-held, held-fit, imaged-fit}
 use Rattle.questions.proofs.groups.files.Statement.{statement}
 use Rattle.questions.proofs.groups.files.Tie as tie
@@ -26,9 +27,9 @@ pages-ok-requires c κs =
       pre .5,
       pre .6,
       omega (arith, length-replicate {A = ℕ} 128 0, pre .0 .within .records-most),
-      λ k h. zeros 128 k,
+      λ k h. at-zeros 128 k,
       omega (arith, length-replicate {A = ℕ} 128 0, pre .0 .within .records-most),
-      λ k h. zeros 128 k,
+      λ k h. at-zeros 128 k,
     )
 
 returns : tie.Need-returns

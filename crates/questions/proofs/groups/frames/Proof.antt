@@ -7,8 +7,9 @@ use lib.ListN.{length-replicate}
 use Rattle.tables.specs.Queue as lists
 use Rattle.tables.specs.Rule.{_and_, Holds}
 use Rattle.tables.specs.Turn.{learn, unlearn, not-so, both}
+use Rattle.tables.specs.Laws.{at-zeros}
 use Rattle.model.specs.Bounds.{pages-most}
-use Rattle.rules.proofs.Marked.{zeros, not-true}
+use Rattle.rules.proofs.Marked.{not-true}
 use Rattle.questions.proofs.Shapes.{all-zero}
 use Rattle.questions.proofs.GroupLaws.{both-true, frames-fit, frames-decide}
 use Rattle.questions.proofs.groups.frames.Statement.{statement}
@@ -46,7 +47,7 @@ frames-ok-requires c κs =
     let a = s .args in (
       frames-fit (a .z) (a .accounts .now) (a .records .now) (a .words .now) (a .free-queue .now) (a .removal-list .now) (a .addresses .now) (a .states .now) (a .active .now) (s .pre .0) (s .pre .1) (s .pre .2),
       omega (arith, length-replicate {A = ℕ} 512 0, pages-most (a .z) (s .pre .0 .within), s .pre .0 .addresses-long),
-      λ k h. zeros 512 k,
+      λ k h. at-zeros 512 k,
       s .pre .3,
       s .pre .4,
     )

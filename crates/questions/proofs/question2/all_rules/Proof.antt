@@ -5,11 +5,11 @@ use Prim.Native.Nat.{ℕ, _<_}
 use native.Mathlib.Omega.{arith}
 use lib.ListN.{take, length-replicate}
 use Rattle.tables.specs.Turn.{learn}
+use Rattle.tables.specs.Laws.{at-zeros}
 use Rattle.model.specs.State.{State, frameAt}
 use Rattle.model.specs.Fit.{Fit, fit}
 use Rattle.model.specs.Bounds.{pages-most}
 use Rattle.model.specs.Lent.{stateOf}
-use Rattle.rules.proofs.Marked.{zeros}
 use Rattle.questions.proofs.Shapes.{all-zero}
 use Rattle.questions.proofs.RulesLaw.{disk-long, files-long, frames-long, counts-long, no-disk, no-files, no-frames, counts-decide, frames-taken, sums-small}
 use Rattle.questions.proofs.question2.all_rules.Statement.{statement}
@@ -35,7 +35,7 @@ begun disk = search
 disk-requires : tie.Need-disk-requires
 disk-requires c κs =
     let s : tie.Start = search in
-    (disk-long (s .args .z) (lent s) (fits s), omega (arith, length-replicate {A = ℕ} 128 0, fits s .sizes .records-most), λ k h. zeros 128 k)
+    (disk-long (s .args .z) (lent s) (fits s), omega (arith, length-replicate {A = ℕ} 128 0, fits s .sizes .records-most), λ k h. at-zeros 128 k)
 
 returns : tie.Need-returns
 returns c =

@@ -4,9 +4,9 @@ use mathlib.Core.Path.{_∙_}
 use Prim.Native.Nat.{ℕ}
 use native.Mathlib.Omega.{arith}
 use lib.ListN.{length-replicate}
+use Rattle.tables.specs.Laws.{at-zeros}
 use Rattle.model.specs.Fit.{within}
 use Rattle.model.specs.Lent.{diskOf}
-use Rattle.rules.proofs.Marked.{zeros}
 use Rattle.questions.proofs.DiskLaw.{disk-told}
 use Rattle.questions.proofs.question2.disk_rules.Statement.{statement}
 use Rattle.questions.proofs.question2.disk_rules.Tie as tie
@@ -14,7 +14,7 @@ use Rattle.questions.proofs.question2.disk_rules.Tie as tie
 disk-requires : tie.Need-disk-requires
 disk-requires c κs =
     let s₀ : tie.Start = search in let pre = s₀ .pre in let args = s₀ .args in
-    (record { within = within (args .z) (pre .0); numbers-long = pre .1 .1 .0; accounts-long = pre .1 .1 .1 .0; maps-long = pre .1 .1 .1 .1 .0 }, omega (arith, length-replicate {A = ℕ} 128 0, within (args .z) (pre .0) .records-most), λ k h. zeros 128 k)
+    (record { within = within (args .z) (pre .0); numbers-long = pre .1 .1 .0; accounts-long = pre .1 .1 .1 .0; maps-long = pre .1 .1 .1 .1 .0 }, omega (arith, length-replicate {A = ℕ} 128 0, within (args .z) (pre .0) .records-most), λ k h. at-zeros 128 k)
 
 returns : tie.Need-returns
 returns c =
