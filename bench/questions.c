@@ -1,4 +1,4 @@
-/* Questions 3 to 23, in number order for each event. */
+/* Questions 3 to 22, in number order for each event. */
 #include "inside.h"
 
 static bool in_range(const struct keeper *k, const struct request *r)
@@ -99,18 +99,6 @@ static uint32_t truncate(const struct keeper *k, size_t from, size_t end)
     return wired ? 16 : 0;
 }
 
-static uint32_t map_done(const struct keeper *k, size_t slot, uint32_t good)
-{
-    if (!k->memory.updating.at[slot])
-        return 22;
-    for (size_t page = slot * k->sizes.pages; good && page < (slot + 1) * k->sizes.pages; page++) {
-        uint16_t entry = k->memory.images.at[page];
-        if (entry != 0 && k->memory.states.at[entry - 1] == LEAVING)
-            return 23;
-    }
-    return 0;
-}
-
 uint32_t first_refusal(const struct keeper *k, const struct request *r)
 {
     if (!in_range(k, r))
@@ -135,7 +123,7 @@ uint32_t first_refusal(const struct keeper *k, const struct request *r)
     case FAULT: return fault(k, slot, page);
     case TRUNCATE: return truncate(k, page, (slot + 1) * pages);
     case UPDATE: return k->memory.updating.at[slot] ? 10 : 0;
-    case MAP_DONE: return map_done(k, slot, r->second);
+    case MAP_DONE: return k->memory.updating.at[slot] ? 0 : 22;
     default: return touch(k, r->kind, page);
     }
 }

@@ -117,8 +117,8 @@ enum {
     KEEPER_NO_RECORD = 19,      /* fault: no record is free */
     KEEPER_NO_FRAME = 20,       /* fault: no frame is free */
     KEEPER_NOTHING_TO_CLAIM = 21, /* claim: the removal list is empty */
-    KEEPER_NO_TRANSFER = 22,    /* done: no such transfer or update is under way */
-    KEEPER_LEAVING = 23         /* map done: a leaving record in the image; question 2 keeps it from being answered */
+    KEEPER_NO_TRANSFER = 22     /* done: no such transfer or update is under way */
+    /* 23 is reserved: no call answers it */
 };
 
 /* tables and calls: made by tools/tables.py from tools/tables.txt */

@@ -374,7 +374,6 @@ static inline const char *keeper_text(uint32_t refusal)
     case KEEPER_NO_FRAME: return "fault: no frame is free";
     case KEEPER_NOTHING_TO_CLAIM: return "claim: the removal list is empty";
     case KEEPER_NO_TRANSFER: return "done: no such transfer or update is under way";
-    case KEEPER_LEAVING: return "map done: a leaving record in the image; question 2 keeps it from being answered";
     default: return "no refusal of this keeper";
     }
 }

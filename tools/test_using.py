@@ -106,14 +106,14 @@ class Requests(unittest.TestCase):
             event = name.strip("`").replace("KEEPER_", "").title().replace("_", "")
             numbers = re.findall(r"\bq(\d+)\b", asked[event].replace("served", served))
             with self.subTest(event):
-                self.assertEqual(refusals.split(), [n for n in numbers if n not in ("3", "23")])
+                self.assertEqual(refusals.split(), [n for n in numbers if n != "3"])
 
 
 class Answers(unittest.TestCase):
     def test_numbers_and_names(self):
         table = [(row[1].strip("`").replace("KEEPER_", ""), row[0]) for row in rows("number")[1:]]
         self.assertEqual(table, enum("/* The refusals.")[1:])
-        self.assertEqual([number for _, number in table], [str(n) for n in range(1, 24)])
+        self.assertEqual([number for _, number in table], [str(n) for n in range(1, 23)])
 
 
 class Example(unittest.TestCase):

@@ -5,7 +5,6 @@ use mathlib.Core.Logic.{inl, inr}
 use Prim.Native.Nat.{ℕ, zero, suc, _<_, _≤_}
 use native.Mathlib.Omega.{arith}
 use native.Mathlib.Decide.{ℕ-discrete}
-use lib.Arith.{digits-lt}
 use lib.Dec.{eqb}
 use lib.ListN.{length}
 use lib.Seq.{getD-set-other}
@@ -20,8 +19,7 @@ use Rattle.model.specs.declared.frame.Frame.{Frame}
 use Rattle.model.specs.declared.event.Writeback.the-variants.{PageDone, MapDone}
 use Rattle.model.specs.declared.event.Event.{Event}
 use Rattle.model.specs.declared.event.Event.the-variants as Event
-use Rattle.model.specs.Lines.{LEAVING}
-use Rattle.model.specs.State.{Disk, State, files, frames, noFrame, READING, WRITING, allPages, pageOf, slotOf}
+use Rattle.model.specs.State.{Disk, State, files, frames, noFrame, READING, WRITING, allPages, slotOf}
 use Rattle.model.specs.Ruled.{Ruled}
 use Rattle.model.specs.Setters.{counted}
 use Rattle.model.specs.Parts.{ofSlot}
@@ -108,13 +106,7 @@ module _ (z : Sizes) (st₀ : State) where
 
   -- a good done of an update under way is not refused
   may-end : (s : ℕ) → s < z .slots → (st : State) (l : Ledger) → Led st l → files st .updating s ≡ 1 → Asked (questions z st (Event.Writeback (MapDone s 1)))
-  may-end s h st l k e = let r = k .ruled .records in let on = r .update-active s h e in ((h, omega arith), (λ x. omega (arith, x, r .active-filled s h on), (on, (e, (λ x p g n q y. not-leaving (pageOf z s p) (digits-lt h g) n q y, tt)))))
-    where
-      not-leaving : (i : ℕ) → i < allPages z → (n : ℕ) → files st .image i ≡ suc n → ¬ (files st .state n ≡ LEAVING)
-      not-leaving i g n q y = let r = k .ruled .records in elim (r .imaged i g n q) [
-        | inl a ↦ elim (r .held i g n a .1) [ inl b ↦ omega (arith, b, y) | inr b ↦ omega (arith, b, y) ]
-        | inr a ↦ omega (arith, a .1, y)
-      ]
+  may-end s h st l k e = let r = k .ruled .records in let on = r .update-active s h e in ((h, omega arith), (λ x. omega (arith, x, r .active-filled s h on), (on, (e, tt))))
 
   one-update : (s : ℕ) → s < z .slots → (d : Disk) (l : Ledger) → files st₀ .updating s ≡ 1 → Stored s d l → Stored (suc s) (Writeback.storeImage z st₀ s d) (finishUpdate s l)
   unfolding carried counted Writeback.mapDone Writeback.storeImage Writeback.updateOver fed note

@@ -1,13 +1,22 @@
--- Rules of question 2 that follow from others, so that none of them refuses tables alone: three ranges, where states past R read 0, and that an inactive slot has no frame.
+-- What follows from rules of question 2: that no begun image lists a leaving record, so that question 23 is not asked (Unasked); and rules that follow from others,
+-- so that none of them refuses tables alone: three ranges, where states past R read 0, and that an inactive slot has no frame.
 use mathlib.Core.Path.{_≡_, refl}
 use mathlib.Core.Logic.{inl, inr}
 use Prim.Native.Nat.{ℕ, zero, suc, _<_}
 use native.Mathlib.Omega.{arith}
 use native.Mathlib.Decide.{decLt, ℕ-discrete}
-use Rattle.tables.specs.Rule.{Holds}
+use Rattle.tables.specs.Rule.{Holds, same, non, each, named}
 use Rattle.model.specs.declared.sizes.Sizes.{Sizes}
-use Rattle.model.specs.State.{Files, Frames, slotOf}
+use Rattle.model.specs.Lines.{LEAVING}
+use Rattle.model.specs.State.{Files, Frames, allPages, slotOf}
 use Rattle.model.specs.Rules.{isActive, mapFit, addressFit, imageFit, held, filed, mapped, imaged, addressActive, frameFit, framedHeld, frameActive}
+
+-- From the rules tested at 2: no begun image lists a leaving record. What it lists is held by its page, so nulled or live, or it is released.
+pub no-leaving-imaged : (z : Sizes) (v : Files) → Holds (held z v) → Holds (imaged z v) → Holds (each (allPages z) λ i. named (v .image i) λ r. non (same (v .state r) LEAVING))
+no-leaving-imaged z v h m i l r e leaves = elim (m i l r e) [
+  | inl a ↦ elim (h i l r a .1) [ inl n ↦ omega (arith, n, leaves) | inr n ↦ omega (arith, n, leaves) ]
+  | inr a ↦ omega (arith, a .1, leaves)
+]
 
 module _ (z : Sizes) (v : Files) (past : (r : ℕ) → ¬ (r < z .records) → v .state r ≡ 0) where
   -- what a page holds is nulled or live

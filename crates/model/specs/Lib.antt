@@ -38,3 +38,4 @@ pub mod Refusals
 pub mod Runs
 pub mod Worlds
 pub mod Implied
+pub mod Unasked

@@ -1,9 +1,9 @@
--- The questions that come after 1 and 2: each stands once here, under paper 01's sentence and with its number.
+-- The questions that come after 1 and 2: each stands once here, under paper 01's sentence and with its number. Number 23 is not used (Unasked).
 use Prim.Native.Nat.{ℕ, suc}
 use Rattle.tables.specs.Base.{at, if}
 use Rattle.tables.specs.Queue.{size}
 use Rattle.tables.specs.Questions.{Questions, none, ask}
-use Rattle.tables.specs.Rule.{Rule, same, below, non, _and_, _or_, _then_, each, named, test}
+use Rattle.tables.specs.Rule.{Rule, same, below, non, _and_, _or_, _then_, each, test}
 use Rattle.model.specs.declared.sizes.Sizes.{Sizes}
 use Rattle.model.specs.declared.event.Design.{Design}
 use Rattle.model.specs.declared.event.Design.the-variants.{Limit, Create, Delete, Activate, Deactivate}
@@ -13,7 +13,7 @@ use Rattle.model.specs.declared.event.Writeback.{Writeback}
 use Rattle.model.specs.declared.event.Writeback.the-variants.{Claim, Truncate, Update, PageDone, MapDone}
 use Rattle.model.specs.declared.event.Event.{Event}
 use Rattle.model.specs.declared.event.Event.the-variants as Event
-use Rattle.model.specs.Lines.{NULLED, RELEASED, LEAVING}
+use Rattle.model.specs.Lines.{NULLED, RELEASED}
 use Rattle.model.specs.State.{State, Files, Frames, files, frames, NONE, pageOf, framed, live, payer}
 use Rattle.model.specs.Rules.{isActive}
 
@@ -125,10 +125,6 @@ module _ (z : Sizes) (st : State) where
   abbrev q22 : Rule → Questions → Questions
   q22 underWay = ask 22 underWay
 
-  -- 23. Good map done: no leaving record in the image?
-  abbrev q23 : ℕ → ℕ → Questions → Questions
-  q23 s good = ask 23 (same good 1 then each (z .pages) λ p. named (v .image (page s p)) λ r. non (same (v .state r) LEAVING))
-
   -- ── the questions of each event ──
   abbrev slotRange : ℕ → Rule
   slotRange s = below s (z .slots)
@@ -166,7 +162,7 @@ module _ (z : Sizes) (st : State) where
   writebackQuestions (Truncate s k) = q3 (below s (z .slots) and below k (suc (z .pages))) (q4 s (q8 s (q14 (fromUp s k still) (q16 (fromUp s k unwired) none))))
   writebackQuestions (Update s) = q3 (slotRange s) (q4 s (q8 s (q10 s none)))
   writebackQuestions (PageDone f good) = q3 (below f (z .frames) and below good 2) (q22 (non (same (c .frame f .transfer) NONE)) none)
-  writebackQuestions (MapDone s good) = q3 (below s (z .slots) and below good 2) (q4 s (q8 s (q22 (same (v .updating s) 1) (q23 s good none))))
+  writebackQuestions (MapDone s good) = q3 (below s (z .slots) and below good 2) (q4 s (q8 s (q22 (same (v .updating s) 1) none)))
 
   abbrev pub questions : Event → Questions
   questions (Event.Design e) = designQuestions e

@@ -1,4 +1,4 @@
-// The refusals: each is the number of the question that says no, under the question itself. include/keeper.h has the same names for C.
+// The refusals: each is the number of the question that says no, under the question itself. include/keeper.h has the same names for C. Number 23 stays unused.
 
 // Sizes within limits, every slice of its exact length?
 pub const NO_FIT: u32 = 1;
@@ -65,6 +65,3 @@ pub const NOTHING_TO_CLAIM: u32 = 21;
 
 // Done: such a transfer under way?
 pub const NO_TRANSFER: u32 = 22;
-
-// Good map done: no leaving record in the image?
-pub const LEAVING: u32 = 23;

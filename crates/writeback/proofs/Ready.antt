@@ -79,8 +79,6 @@ module _ (z : Sizes) (st : State) (fit : Fit z st) (ruled : Ruled z st) where
   pub map-ready : MapReady z (st .disk .maps) (st .memory .held .states) (st .memory .held .owners) (st .memory .held .free-map) (st .memory .slots .images)
   map-ready = record {
     pages-some = fit .sizes .pages;
-    pages-most = fit .sizes .pages-most;
-    slots-most = fit .sizes .slots-most;
     records-most = fit .sizes .records-most;
     maps-long = fit .disk .maps;
     images-long = fit .memory .images;

@@ -24,13 +24,11 @@ seen pool numbers maps states owners free-map active updating images =
     stateOf [] pool [] numbers [] maps [] [] [] [] [] states owners free-map active updating images []
 
 -- .. and its questions
-abbrev pub asked : List ℕ → List ℕ → List ℕ → List ℕ → List ℕ → State
-asked numbers states active updating images = seen noPool numbers [] states [] [] active updating images
+abbrev pub asked : List ℕ → List ℕ → List ℕ → State
+asked numbers active updating = seen noPool numbers [] [] [] [] active updating []
 
 pub record MapReady (z : Sizes) (maps states owners free-map images : List ℕ) : Type 0 where
   pub pages-some : 0 < z .pages
-  pub pages-most : z .pages < 257
-  pub slots-most : z .slots < 65
   pub records-most : z .records < 4097
   pub maps-long : length maps ≡ allPages z
   pub images-long : length images ≡ allPages z

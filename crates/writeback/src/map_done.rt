@@ -1,18 +1,14 @@
 // Map done: an update of a slot's map has ended, good or failed.
 ghost use mathlib.Core.Path.{_≡_};
-ghost use Prim.Native.Nat.{_+_, _*_, _<_};
 ghost use Rattle.tables.specs.Base.{at};
 ghost use Rattle.tables.specs.Questions.{firstNo};
-ghost use Rattle.tables.specs.Rule.{same, non, each, named, test};
 ghost use Rattle.model.specs.declared.frame.Pool.{Pool};
-ghost use Rattle.model.specs.Lines.{LEAVING};
 ghost use Rattle.model.specs.State.{freeCount};
 ghost use Rattle.model.specs.Pool.{deposited};
 ghost use Rattle.model.specs.Questions.{questions};
 ghost use Rattle.model.specs.Own.{own};
 ghost use Rattle.writeback.specs.MapDone.{mapDone, asked, entered, MapReady, Left};
 use leaves::cells::at8;
-use leaves::cells::at16;
 use leaves::cells::at32;
 use leaves::cells::put8;
 use leaves::records::free_leaving;
@@ -30,38 +26,16 @@ pub struct Freed {
     pub answer: Answer,
 }
 
-// Whether no entry of the slot's image names a leaving record.
-fn none_leaving(pages: usize, slot: usize, states: &[u8], images: &[u16]) -> bool
-    requires { ⌜ (pages < 257) × (slot < 65) ⌝ }
-    ensures { λ r. ⌜ r ≡ test (each pages λ p. named (at (now (images .entry)) (slot * pages + p)) λ r. non (same (at (now (states .entry)) r) LEAVING)) ⌝ }
-{
-    let start = slot * pages;
-    let mut p = 0;
-    while p < pages {
-        let entry = at16(images, start + p);
-        if entry != 0 {
-            if at8(states, entry as usize - 1) == LEAVING {
-                return false;
-            }
-        }
-        p += 1;
-    }
-    true
-}
-
-// Questions 3, 4, 8, 22 and 23.
+// Questions 3, 4, 8 and 22.
 fn ask_map_done(
     sizes: Sizes,
     slot: usize,
     good: usize,
     numbers: &[u32],
-    states: &[u8],
     active: &[u8],
     updating: &[u8],
-    images: &[u16],
 ) -> u32
-    requires { ⌜ (sizes .pages < 257) × (sizes .slots < 65) ⌝ }
-    ensures { λ r. ⌜ r ≡ firstNo (questions sizes (asked (now (numbers .entry)) (now (states .entry)) (now (active .entry)) (now (updating .entry)) (now (images .entry))) (mapDone slot good)) ⌝ }
+    ensures { λ r. ⌜ r ≡ firstNo (questions sizes (asked (now (numbers .entry)) (now (active .entry)) (now (updating .entry))) (mapDone slot good)) ⌝ }
 {
     if slot >= sizes.slots {
         return 3;
@@ -77,11 +51,6 @@ fn ask_map_done(
     }
     if at8(updating, slot) != 1 {
         return 22;
-    }
-    if good == 1 {
-        if none_leaving(sizes.pages, slot, states, images) {} else {
-            return 23;
-        }
     }
     0
 }
@@ -103,7 +72,7 @@ pub fn map_done(
     ensures { λ r. ⌜ ((pool : Pool) → pool .free ≡ freeCount sizes (at (now (states .entry)))
         → Left (own sizes (entered pool numbers maps states owners «free_map» active updating images) (mapDone slot good)) (deposited (r .deposited) pool) (r .answer) maps states owners «free_map» updating images) ⌝ }
 {
-    let refusal = ask_map_done(sizes, slot, good, numbers, states, active, updating, images);
+    let refusal = ask_map_done(sizes, slot, good, numbers, active, updating);
     if refusal != 0 {
         return counted(0, refusal);
     }

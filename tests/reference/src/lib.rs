@@ -9,7 +9,7 @@ pub mod fit; // question 1
 pub mod keeper; // the public calls
 pub mod linked; // keepers that are linked in, to drive beside this one
 pub mod program; // the event program
-pub mod questions; // questions 3 to 23
+pub mod questions; // questions 3 to 22
 pub mod queue; // the free queue and the removal list
 pub mod restart; // memory built anew from the disk part
 pub mod rules; // question 2

@@ -1,14 +1,14 @@
-//! Questions 3 to 23, asked in number order; each says yes to the events that it does not concern.
+//! Questions 3 to 22, asked in number order; each says yes to the events that it does not concern.
 
 use crate::event::Event;
 use crate::keeper::Keeper;
 use crate::queue;
-use crate::tables::{LEAVING, LIVE, NO_TRANSFER, NULLED, RELEASED};
+use crate::tables::{LIVE, NO_TRANSFER, NULLED, RELEASED};
 use std::ops::Range;
 
 type Question = fn(&Keeper, Event) -> bool;
 
-const ASKED: [(u32, Question); 21] = [
+const ASKED: [(u32, Question); 20] = [
     (3, in_range),
     (4, slot_filled),
     (5, slot_empty),
@@ -29,7 +29,6 @@ const ASKED: [(u32, Question); 21] = [
     (20, frame_free),
     (21, list_not_empty),
     (22, under_way),
-    (23, none_leaving),
 ];
 
 /// The number of the first question that says no, else 0.
@@ -220,16 +219,6 @@ fn under_way(keeper: &Keeper, event: Event) -> bool {
     match event {
         Event::PageDone { frame, .. } => keeper.memory.frames[frame].transfer != NO_TRANSFER,
         Event::MapDone { slot, .. } => keeper.memory.updating[slot] == 1,
-        _ => true,
-    }
-}
-
-fn none_leaving(keeper: &Keeper, event: Event) -> bool {
-    match event {
-        Event::MapDone { slot, good: 1 } => keeper.pages_of(slot).all(|page| {
-            let entry = keeper.memory.images[page] as usize;
-            entry == 0 || keeper.memory.states[entry - 1] != LEAVING
-        }),
         _ => true,
     }
 }

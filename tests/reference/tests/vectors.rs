@@ -25,7 +25,7 @@ fn every_vector() {
     println!("{} vectors", inputs.len());
 }
 
-/// 1, 2 and 23 cannot come from the event program.
+/// 1 and 2 cannot come from the event program.
 #[test]
 fn vectors_show_every_refusal() {
     let mut seen = BTreeSet::new();

@@ -3,7 +3,6 @@ use borrow.Author.Needs.{needs}
 use mathlib.Core.Path.{sym, _∙_}
 use native.Mathlib.Omega.{arith}
 use Rattle.tables.specs.Questions.{yes-all}
-use Rattle.tables.specs.Turn.{said-yes, said-no}
 use Rattle.model.specs.Own.{first-yes, first-no}
 use Rattle.writeback.proofs.map_done.ask_map_done.Statement.{statement}
 use Rattle.writeback.proofs.map_done.ask_map_done.Tie as tie
@@ -27,35 +26,8 @@ returns-5 c = let u = c .before in let b = u .before in let a = b .before in let
     ∙ first-no 22 _ _ (λ h. c .if5 .taken (u .at82 .ensures ∙ h)))
 
 returns-6 : tie.Need-returns-6
-returns-6 c = let x = c .before in let g = x .before in let v = g .before in let u = v .before in let b = u .before in let a = b .before in let n = a .before in
-    sym (first-yes 3 _ _ (omega arith, omega arith) ∙ first-yes 4 _ _ (λ h. n .if3 .left (n .before .at32 .ensures ∙ h)) ∙ first-yes 8 _ _ (sym (a .at8 .ensures) ∙ b .if4 .left)
-    ∙ first-yes 22 _ _ (sym (u .at82 .ensures) ∙ v .if5 .left) ∙ first-no 23 _ _ (λ h. said-no _ (x .none-leaving .ensures) (c .if7 .left) (h (g .if6 .taken))))
-
-returns-7 : tie.Need-returns-7
-returns-7 c = let x = c .before in let g = x .before in let v = g .before in let u = v .before in let b = u .before in let a = b .before in let n = a .before in
-    sym (yes-all _ (
-      (omega arith, omega arith),
-      (
-        λ h. n .if3 .left (n .before .at32 .ensures ∙ h),
-        (
-          sym (a .at8 .ensures) ∙ b .if4 .left,
-          (sym (u .at82 .ensures) ∙ v .if5 .left, (λ h. said-yes _ (x .none-leaving .ensures) (c .if7 .taken), tt)),
-        ),
-      ),
-    ))
-
-returns-8 : tie.Need-returns-8
-returns-8 c = let v = c .before in let u = v .before in let b = u .before in let a = b .before in let n = a .before in
-    sym (yes-all _ (
-      (omega arith, omega arith),
-      (
-        λ h. n .if3 .left (n .before .at32 .ensures ∙ h),
-        (
-          sym (a .at8 .ensures) ∙ b .if4 .left,
-          (sym (u .at82 .ensures) ∙ v .if5 .left, (λ h. absurd (c .if6 .left h), tt)),
-        ),
-      ),
-    ))
+returns-6 c = let u = c .before in let b = u .before in let a = b .before in let n = a .before in
+    sym (yes-all _ ((omega arith, omega arith), (λ h. n .if3 .left (n .before .at32 .ensures ∙ h), (sym (a .at8 .ensures) ∙ b .if4 .left, (sym (u .at82 .ensures) ∙ c .if5 .left, tt)))))
 
 pub ask-map-done-spec : {M : Type 1} → statement M
-ask-map-done-spec = tie.close (tie.spec returns returns-2 (λ c κs. search needs) returns-3 (λ c κs. search needs) returns-4 (λ c κs. search needs) returns-5 (λ c κs. search needs) returns-6 returns-7 returns-8)
+ask-map-done-spec = tie.close (tie.spec returns returns-2 (λ c κs. search needs) returns-3 (λ c κs. search needs) returns-4 (λ c κs. search needs) returns-5 returns-6)

@@ -75,6 +75,6 @@ returns-3 c =
 pub map-done-spec : {M : Type 1} → statement M
 map-done-spec =
     tie.close
-    (tie.spec (λ c κs. search needs) (λ c κs. search needs) (λ c. search needs) (λ c. search needs) (λ c. search needs) returns (λ c κs. search needs) copy-slot-requires clear-slot-requires free-leaving-requires
+    (tie.spec (λ c κs. search needs) (λ c κs. search needs) (λ c. search needs) returns (λ c κs. search needs) copy-slot-requires clear-slot-requires free-leaving-requires
     (λ c κs. search needs) (λ c. search needs) (λ c. search needs) (λ c. search needs) (λ c. search needs) (λ c. search needs) (λ c. search needs) returns-2 clear-slot-requires-2 move-all-requires
     (λ c κs. search needs) (λ c. search needs) (λ c. search needs) (λ c. search needs) (λ c. search needs) returns-3)
