@@ -265,7 +265,7 @@ static void page_done(struct keeper *k, size_t number, bool good)
         k->memory.states.at[record] = LIVE;
         free_frame(k, number);
     } else {
-        *frame = (struct frame){.page = frame->page, .modified = 1};
+        *frame = (struct frame){.page = frame->page, .used = frame->used, .modified = 1};
         push_end(k->memory.removal_list, number);
     }
 }

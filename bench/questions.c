@@ -78,7 +78,7 @@ static uint32_t touch(const struct keeper *k, uint32_t kind, size_t page)
     if (number < 0)
         return 13;
     const struct frame *frame = &k->memory.frames.at[number];
-    if (frame->transfer != NO_TRANSFER)
+    if (kind == READ || kind == LOOK ? frame->transfer == READING : frame->transfer != NO_TRANSFER)
         return 14;
     if (kind == WIRE && frame->wired)
         return 16;

@@ -94,6 +94,15 @@ static uint32_t weave(uint32_t slot, uint32_t page, uint32_t first)
     return frame;
 }
 
+/* The words of a page whose write is under way: the weaver does not wait for its end. */
+static void read_on(uint32_t slot, uint32_t page)
+{
+    printf("mill %u reads page %u while it is being written:", slot, page);
+    for (uint32_t word = 0; word < W; word++)
+        printf(" %u", (unsigned)ask("read", KEEPER_READ, slot, page, word, 0));
+    puts("");
+}
+
 static void show(uint32_t slot, uint32_t page)
 {
     bring(slot, page);
@@ -144,9 +153,11 @@ int main(void)
         ask("page done", KEEPER_PAGE_DONE, weave(mill, 1, mill == 0 ? 30 : 40), 1, 0, 0);
         ask("update", KEEPER_UPDATE, mill, 0, 0, 0);
     }
-    /* The first pages are woven again, and are on their way. */
+    /* The first pages are woven again, and are on their way; the weavers read on. */
     weave(0, 0, 50);
     uint32_t frame = weave(1, 0, 60);
+    for (uint32_t mill = 0; mill < S; mill++)
+        read_on(mill, 0);
 
     puts("the power fails: mill 0's map and mill 1's page have landed, mill 1's map and mill 0's page have not");
     land_map(0);

@@ -109,7 +109,7 @@ enum {
     KEEPER_PAGES_IN = 11,       /* deactivate: a page of it is in a frame */
     KEEPER_MAP_OLD = 12,        /* deactivate: its map is not up to date, or a record of it is nulled or released */
     KEEPER_PAGE_OUT = 13,       /* the page is in no frame */
-    KEEPER_IN_TRANSFER = 14,    /* a page concerned is in transfer */
+    KEEPER_IN_TRANSFER = 14,    /* a page concerned is in transfer; of a read or a look: it is being read */
     KEEPER_PAGE_IN = 15,        /* fault: the page is in a frame */
     KEEPER_WIRED = 16,          /* a page concerned is wired */
     KEEPER_NOT_WIRED = 17,      /* unwire: the page is not wired */

@@ -365,7 +365,7 @@ static inline const char *keeper_text(uint32_t refusal)
     case KEEPER_PAGES_IN: return "deactivate: a page of it is in a frame";
     case KEEPER_MAP_OLD: return "deactivate: its map is not up to date, or a record of it is nulled or released";
     case KEEPER_PAGE_OUT: return "the page is in no frame";
-    case KEEPER_IN_TRANSFER: return "a page concerned is in transfer";
+    case KEEPER_IN_TRANSFER: return "a page concerned is in transfer; of a read or a look: it is being read";
     case KEEPER_PAGE_IN: return "fault: the page is in a frame";
     case KEEPER_WIRED: return "a page concerned is wired";
     case KEEPER_NOT_WIRED: return "unwire: the page is not wired";

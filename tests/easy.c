@@ -377,6 +377,24 @@ static void test_save_order(void)
     CHECK(others == 3 && now == 3 && memcmp(before, after, sizeof before[0] * 3) == 0);
 }
 
+/* A page is read and looked at while a save writes it; that write fails, and the next save takes the page. */
+static void test_read_while_saved(void)
+{
+    uint32_t left;
+    designs();
+    weave(0, 0, 51);
+    KeeperSave state = keeper_save_begin(0);
+    KeeperStep step = keeper_save(&keeper, &state);
+    CHECK(step.what == KEEPER_STEP_TRANSFER && step.transfer.way == KEEPER_WRITING && step.transfer.page == 0);
+    CHECK(keeper_read(&keeper, 0, 0, 0).result == 51 && keeper_words(&keeper, 0, 0) == step.transfer.words);
+    CHECK(keeper_write(&keeper, 0, 0, 0, 52).refusal == KEEPER_IN_TRANSFER);
+    report(step, 0);
+    CHECK(keeper.frames[step.transfer.frame].used == 1);
+    CHECK(save(0, 0, 1, &left) == KEEPER_DONE && left == 0 && transfers == 1);
+    cut();
+    CHECK(first_word(0, 0) == 51);
+}
+
 int main(void)
 {
     test_place();
@@ -387,6 +405,7 @@ int main(void)
     test_save();
     test_save_under_way();
     test_save_order();
+    test_read_while_saved();
     free(keeper.records);
     printf("%u passed, %u failed\n", passed, failed);
     return failed != 0;

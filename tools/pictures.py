@@ -89,7 +89,7 @@ PAGE_ARROWS = [
     ("rest", "listed", "ACTIVATE:|live", 12, -22, -10, "end"),
 ]
 PAGE_NOTES = [
-    "Served, written or wired, a page can be read, written and looked at.",
+    "Served, written or wired, a page can be read, written and looked at; writing, it can be read and looked at.",
     "Live at the update: its address was live then, in a frame or not.",
     "A truncated page stays listed until an update begun later is finished; a cut before brings its old words back.",
     "A cut and restart lead from every box to the design at rest, with what the map on the disk lists then.",

@@ -101,7 +101,7 @@ class Requests(unittest.TestCase):
 
     def test_refusals(self):
         asked = dict(re.findall(r"^  (?:design|page|writeback)Questions \(?([A-Za-z]+).*? = (.*)$", QUESTIONS, re.M))
-        served = re.search(r"^  served range s p = (.*)$", QUESTIONS, re.M).group(1)
+        served = re.search(r"^  served range quiet s p = (.*)$", QUESTIONS, re.M).group(1)
         for name, _, _, refusals in rows("kind")[1:]:
             event = name.strip("`").replace("KEEPER_", "").title().replace("_", "")
             numbers = re.findall(r"\bq(\d+)\b", asked[event].replace("served", served))
@@ -120,7 +120,7 @@ class Example(unittest.TestCase):
     def test_printed(self):
         section = USING[USING.index("## The example") : USING.index("## The answers")]
         quoted = re.findall(r"`((?:mill \d|restart:|\d calls|not opened)[^`]*)`", section)
-        self.assertEqual(len(quoted), 11)
+        self.assertEqual(len(quoted), 12)
         for line in quoted:
             self.assertIn(line + "\n", PRINTED)
 

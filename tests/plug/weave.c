@@ -147,9 +147,13 @@ static void weave(Run *run, uint32_t slot, uint32_t page)
     remember(run);
 }
 
+/* A page that is being written is looked at as it is, before its write has ended. */
 static void look(Run *run, uint32_t slot, uint32_t page)
 {
-    if (bring(run, slot, page) != KEEPER_DONE)
+    const Keeper *keeper = run->own->keeper;
+    const size_t frame = keeper_frame_of(keeper, slot, page);
+    const int written = frame < keeper->sizes.frames && keeper->frames[frame].transfer == KEEPER_WRITING;
+    if (!written && bring(run, slot, page) != KEEPER_DONE)
         return;
     const uint32_t *words = keeper_words(run->own->keeper, slot, page);
     if (words)

@@ -14,10 +14,10 @@ use Rattle.model.specs.declared.frame.Frame.{Frame}
 use Rattle.model.specs.declared.sizes.Sizes.{Sizes}
 use Rattle.model.specs.State.{State, noFrame, frameAt, NONE, READING, WRITING}
 use Rattle.model.specs.Ruled.{Ruled}
-use Rattle.model.specs.Setters.{counted, setTransfer, setModified}
+use Rattle.model.specs.Setters.{counted, setTransfer, setModified, setInitial}
 use Rattle.model.specs.Parts.{setPart, wordAt}
 use Rattle.model.specs.Pages.{fresh}
-use Rattle.model.specs.Writeback.{cooled, recordIn, freeFrame, readGood, readFailed, writeFailed}
+use Rattle.model.specs.Writeback.{recordIn, freeFrame, readGood, readFailed, writeFailed}
 use Rattle.model.specs.Fit.{Fit}
 use Rattle.model.specs.Ledger.{Ledger, put, strikeWrite}
 use Rattle.invariant.proofs.Stands.{seat-at, moving-place}
@@ -96,7 +96,7 @@ module _ (z : Sizes) (st : State) (l : Ledger) (fit : Fit z st) (rules : Ruled z
   })
     where
       new : Frame
-      new = setTransfer NONE (setModified 1 (cooled old))
+      new = setTransfer NONE (setModified 1 (setInitial 0 old))
 
   -- a good read: the frame takes the record's words
   pub good-read : old .transfer ≡ READING → Tied z (counted z (readGood z st f)) l

@@ -15,7 +15,7 @@ use Rattle.model.specs.declared.sizes.Sizes.{Sizes}
 use Rattle.model.specs.declared.event.Page.the-variants.{Read}
 use Rattle.model.specs.declared.event.Event.{Event}
 use Rattle.model.specs.declared.event.Event.the-variants as Event
-use Rattle.model.specs.State.{frames, framed, NONE, pageOf}
+use Rattle.model.specs.State.{frames, framed, READING, pageOf}
 use Rattle.model.specs.Parts.{frameOf}
 use Rattle.model.specs.Questions.{questions, lookQuestions}
 use Rattle.model.specs.Pages
@@ -48,13 +48,13 @@ module _ (z : Sizes) (w : World) (k : Good z w) where
       some-of (w .ledger .finished) _ (lastInto (b .0) (w .ledger .finished)) (last-in (b .0) (w .ledger .finished) (o .some))
       ((o .design, (o .page, o .counts)), (each-of (w .ledger .finished) _ (λ y n q l. omega (arith, b .2 y n q (omega (arith, l)))), k .memory up .kept i h u (b .0) (inl (b .1))))
 
-  -- a page that is in a frame, in no transfer, reads as its text
+  -- a page that is in a frame, and not being read, reads as its text
   in-frame : (s p n : ℕ) → T (w .up) → n < z .words → Holds (framed z (frames (w .state)) (pageOf z s p))
-      → ((g : ℕ) → g < z .frames → frames (w .state) .frame g .page ≡ suc (pageOf z s p) → frames (w .state) .frame g .transfer ≡ NONE)
+      → ((g : ℕ) → g < z .frames → frames (w .state) .frame g .page ≡ suc (pageOf z s p) → ¬ (frames (w .state) .frame g .transfer ≡ READING))
       → at (w .state .memory .core .words) (frameOf z (frames (w .state)) (pageOf z s p) * z .words + n) ≡ w .ledger .pages .text (pageOf z s p) n
-  in-frame s p n up l h still =
+  in-frame s p n up l h arrived =
       let t = frame-of z (frames (w .state)) (pageOf z s p) h in
-      k .memory up .framed (frameOf z (frames (w .state)) (pageOf z s p)) (t .0) .holding (pageOf z s p) (t .1) .said (λ x. omega (arith, x, still (frameOf z (frames (w .state)) (pageOf z s p)) (t .0) (t .1))) n l
+      k .memory up .framed (frameOf z (frames (w .state)) (pageOf z s p)) (t .0) .holding (pageOf z s p) (t .1) .said (arrived (frameOf z (frames (w .state)) (pageOf z s p)) (t .0) (t .1)) n l
 
   read-right : (s p n : ℕ) → T (w .up) → (let o = step z (w .state) (Event.Page (Read s p n)) in o .answer .refusal ≡ 0 → o .answer .result ≡ w .ledger .pages .text (pageOf z s p) n)
   unfolding step answer result Pages.wordRead

@@ -27,7 +27,7 @@ use Rattle.model.specs.declared.event.Page.the-variants.{Read}
 use Rattle.model.specs.declared.event.Writeback.the-variants.{Claim, Truncate}
 use Rattle.model.specs.Lines.{RELEASED}
 use Rattle.model.specs.Sizes.{sizesFit}
-use Rattle.model.specs.State.{State, files, frames, frameAt, noFrame, NONE, pageOf, framed, freeWord, usedOf, mapWords}
+use Rattle.model.specs.State.{State, files, frames, frameAt, noFrame, READING, pageOf, framed, freeWord, usedOf, mapWords}
 use Rattle.model.specs.Setters.{counted}
 use Rattle.model.specs.Parts.{frameOf, fromPage, wordAt}
 use Rattle.model.specs.Index.{place-below}
@@ -115,19 +115,19 @@ claim-looks z st g h w = ap (λ (o : Outcome State). o .answer) (accepted z st g
         ∙ omega (arith, size-members list)
 
 -- ── read ──
--- a page in service: in a frame, in no transfer, of an active slot
-pub record InService (z : Sizes) (st : State) (s p : ℕ) : Type 0 where
+-- a page of an active slot that is in a frame, in service or being written
+pub record Present (z : Sizes) (st : State) (s p : ℕ) : Type 0 where
   pub slot : s < z .slots
   pub page : p < z .pages
   pub filled : ¬ (files st .number s ≡ 0)
   pub active : files st .active s ≡ 1
   pub framed : Holds (framed z (frames st) (pageOf z s p))
-  pub still : (f : ℕ) → f < z .frames → frames st .frame f .page ≡ suc (pageOf z s p) → frames st .frame f .transfer ≡ NONE
+  pub arrived : (f : ℕ) → f < z .frames → frames st .frame f .page ≡ suc (pageOf z s p) → ¬ (frames st .frame f .transfer ≡ READING)
 
-read-inside : (z : Sizes) (st : State) → Good z st → (s p w : ℕ) → InService z st s p → w < z .words
+read-inside : (z : Sizes) (st : State) → Good z st → (s p w : ℕ) → Present z st s p → w < z .words
     → step z st (Event.Page (Read s p w)) .answer ≡ record { refusal = 0; result = wordAt z (st .memory .core .words) (frameOf z (frames st) (pageOf z s p)) w }
 unfolding result Pages.wordRead
-read-inside z st g s p w i h = ap (λ (o : Outcome State). o .answer) (accepted z st g (Event.Page (Read s p w)) ((i .slot, (i .page, h)), (i .filled, (i .active, (i .framed, (i .still, tt))))))
+read-inside z st g s p w i h = ap (λ (o : Outcome State). o .answer) (accepted z st g (Event.Page (Read s p w)) ((i .slot, (i .page, h)), (i .filled, (i .active, (i .framed, (i .arrived, tt))))))
 
 -- ── truncate to N ──
 counted-same : (z : Sizes) (st : State) → Fit z st → Ruled z st → counted z st ≡ st
@@ -189,7 +189,7 @@ pub record EdgesAll : Type 0 where
   -- 2. create with number 0 gives 3.
   e2 : (z : Sizes) (st : State) → Good z st → (s q : ℕ) → step z st (Event.Design (Create s q 0)) ≡ refusal 3 st
   -- 3. word W−1 is read; word W gives 3.
-  e3-last : (z : Sizes) (st : State) → Good z st → (s p : ℕ) → InService z st s p
+  e3-last : (z : Sizes) (st : State) → Good z st → (s p : ℕ) → Present z st s p
       → step z st (Event.Page (Read s p (z .words - 1))) .answer ≡ record { refusal = 0; result = wordAt z (st .memory .core .words) (frameOf z (frames st) (pageOf z s p)) (z .words - 1) }
   e3-past : (z : Sizes) (st : State) → Good z st → (s p w : ℕ) → z .words ≤ w → step z st (Event.Page (Read s p w)) ≡ refusal 3 st
   -- 4. truncate to N changes nothing; N+1 gives 3.

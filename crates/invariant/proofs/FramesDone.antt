@@ -17,12 +17,12 @@ use Rattle.model.specs.declared.event.Writeback.the-variants.{PageDone}
 use Rattle.model.specs.declared.event.Event.the-variants as Event
 use Rattle.model.specs.Lines.{LIVE}
 use Rattle.model.specs.State.{State, files, frames, frameAt, NONE, READING}
-use Rattle.model.specs.Setters.{onDisk, onHeld, setStates, setTransfer, setModified}
+use Rattle.model.specs.Setters.{onDisk, onHeld, setStates, setTransfer, setModified, setInitial}
 use Rattle.model.specs.Questions.{questions}
 use Rattle.model.specs.Parts.{setPart, wordAt}
 use Rattle.model.specs.Pages.{fresh}
 use Rattle.model.specs.Writeback
-use Rattle.model.specs.Writeback.{recordIn, cooled}
+use Rattle.model.specs.Writeback.{recordIn}
 use Rattle.model.specs.Ruled.{Ruled, once-list}
 use Rattle.model.specs.Fit.{Fit}
 use Rattle.invariant.proofs.Lengths.{long}
@@ -128,11 +128,11 @@ module _ (z : Sizes) (st : State) (f : Fit z st) (r : Ruled z st) where
     -- ── failed write ──
     write-failed : Framing z (Writeback.writeFailed z st k)
     unfolding Writeback.writeFailed
-    write-failed = switched-framing z st f r k below queued (setTransfer NONE (setModified 1 (cooled old))) (push-back (st .memory .core .removal-list) k) (st .memory .core .words) 1
+    write-failed = switched-framing z st f r k below queued (setTransfer NONE (setModified 1 (setInitial 0 old))) (push-back (st .memory .core .removal-list) k) (st .memory .core .words) 1
         (moved-back (z .frames) (st .memory .core .removal-list) (f .memory .removal-list) (r .queues .removal-list) (once-list z st r) k below removing) (f .memory .words) (λ h l d w b. refl)
         (record {
           page = refl;
-          used = omega arith;
+          used = its .used-fit;
           modified = omega arith;
           wired = its .wired-fit;
           initial = omega arith;

@@ -17,7 +17,7 @@ use Rattle.model.specs.declared.frame.Frame.{Frame}
 use Rattle.model.specs.declared.event.Design.the-variants.{Limit}
 use Rattle.model.specs.declared.event.Page.the-variants.{Read, Write, Wire, Unwire}
 use Rattle.model.specs.declared.event.Event.the-variants as Event
-use Rattle.model.specs.State.{Core, State, files, frames, frameAt, noFrame, NONE, pageOf, framed}
+use Rattle.model.specs.State.{Core, State, files, frames, frameAt, noFrame, NONE, READING, pageOf, framed}
 use Rattle.model.specs.Setters.{onCore, setWords, setRemovalList, setUsedSwitch, setModified, setWired, setInitial}
 use Rattle.model.specs.Questions.{questions}
 use Rattle.model.specs.Parts.{frameOf}
@@ -83,8 +83,8 @@ module _ (z : Sizes) (st : State) (f : Fit z st) (r : Ruled z st) where
     lengths = record { sizes = f .sizes; disk = record { records = f .disk .records; numbers = f .disk .numbers; accounts = f .disk .accounts; maps = f .disk .maps; limits = length-set (st .disk .limits) q n ∙ f .disk .limits }; memory = f .memory };
   }
 
-  -- ── a page in service ──
-  module _ (i : ℕ) (in-frame : Holds (framed z (frames st) i)) (still : (h : ℕ) → h < z .frames → frames st .frame h .page ≡ suc i → frames st .frame h .transfer ≡ NONE) where
+  -- ── a page in a frame ──
+  module _ (i : ℕ) (in-frame : Holds (framed z (frames st) i)) where
     abbrev k : ℕ
     k = frameOf z (frames st) i
 
@@ -97,23 +97,15 @@ module _ (z : Sizes) (st : State) (f : Fit z st) (r : Ruled z st) where
     page : old .page ≡ suc i
     page = frame-of z (frames st) i in-frame .1
 
-    none : old .transfer ≡ NONE
-    none = still k below page
-
     its : SeatAt z (files st) (frames st) (at (st .disk .records)) k
     its = seat-at z st r k below
 
     queued : frames st .queued k ≡ 0
     queued = unqueued its (λ e. omega (arith, e, page))
 
-    place : frames st .removing k + old .wired ≡ 1
-    place = omega (arith, still-place its none, queued)
-
-    no-transfer : (n : ℕ) → n ≡ 1 → n + if (eqb (old .transfer) NONE) 0 1 ≡ 1
-    no-transfer n e = rw (e, none)
-
-    read-framed : Framed z (onCore (λ c. onFrame k (setUsedSwitch 1) c) st)
-    read-framed = switched-framed k below queued (setUsedSwitch 1 old) (st .memory .core .removal-list) (st .memory .core .words) (frames st .removing k)
+    -- in service or being written
+    read-framed : ((h : ℕ) → h < z .frames → frames st .frame h .page ≡ suc i → ¬ (frames st .frame h .transfer ≡ READING)) → Framed z (onCore (λ c. onFrame k (setUsedSwitch 1) c) st)
+    read-framed arrived = switched-framed k below queued (setUsedSwitch 1 old) (st .memory .core .removal-list) (st .memory .core .words) (frames st .removing k)
         (unmoved (z .frames) (st .memory .core .removal-list) (f .memory .removal-list) (r .queues .removal-list) k (frames st .removing k) refl) (f .memory .words) (λ h l d w b. refl)
         (record {
           page = refl;
@@ -122,60 +114,71 @@ module _ (z : Sizes) (st : State) (f : Fit z st) (r : Ruled z st) where
           wired = its .wired-fit;
           initial = its .initial-fit;
           transfer = its .transfer-fit;
-          place = no-transfer _ place;
-          unread = λ e. omega (arith, e, none);
-          writing = λ e. absurd (omega (arith, e, none));
+          place = omega (arith, its .place, queued);
+          unread = arrived k below page;
+          writing = its .writing;
           clean = λ e m. (e, m, λ w l. refl);
         })
 
-    write-framed : (w x : ℕ) → w < z .words → Framed z (onCore (λ c. onFrame k (λ g. setUsedSwitch 1 (setModified 1 g)) (setWords (set (c .words) (k * z .words + w) x) c)) st)
-    write-framed w x lw = switched-framed k below queued (setUsedSwitch 1 (setModified 1 old)) (st .memory .core .removal-list) (set (st .memory .core .words) (k * z .words + w) x) (frames st .removing k)
-        (unmoved (z .frames) (st .memory .core .removal-list) (f .memory .removal-list) (r .queues .removal-list) k (frames st .removing k) refl)
-        (length-set (st .memory .core .words) (k * z .words + w) x ∙ f .memory .words) (λ h l d u b. word-other (st .memory .core .words) (z .words) k w h u x lw b d)
-        (record {
-          page = refl;
-          used = omega arith;
-          modified = omega arith;
-          wired = its .wired-fit;
-          initial = its .initial-fit;
-          transfer = its .transfer-fit;
-          place = no-transfer _ place;
-          unread = λ e. omega (arith, e, none);
-          writing = λ e. absurd (omega (arith, e, none));
-          clean = λ e m. absurd (omega (arith, m));
-        })
+    -- in service
+    module _ (still : (h : ℕ) → h < z .frames → frames st .frame h .page ≡ suc i → frames st .frame h .transfer ≡ NONE) where
+      none : old .transfer ≡ NONE
+      none = still k below page
 
-    wire-framed : ¬ (old .wired ≡ 1) → Framed z (onCore (λ c. onFrame k (setWired 1) (setRemovalList (remove (c .removal-list) k) c)) st)
-    wire-framed off = switched-framed k below queued (setWired 1 old) (remove (st .memory .core .removal-list) k) (st .memory .core .words) 0
-        (moved-out (z .frames) (st .memory .core .removal-list) (f .memory .removal-list) (r .queues .removal-list) (once-list z st r) k (omega (arith, place, off))) (f .memory .words) (λ h l d w b. refl)
-        (record {
-          page = refl;
-          used = its .used-fit;
-          modified = its .modified-fit;
-          wired = omega arith;
-          initial = its .initial-fit;
-          transfer = its .transfer-fit;
-          place = no-transfer _ refl;
-          unread = λ e. omega (arith, e, none);
-          writing = λ e. absurd (omega (arith, e, none));
-          clean = λ e m. (e, m, λ w l. refl);
-        })
+      place : frames st .removing k + old .wired ≡ 1
+      place = omega (arith, still-place its none, queued)
 
-    unwire-framed : old .wired ≡ 1 → Framed z (onCore (λ c. onFrame k (λ g. setWired 0 (setInitial 0 g)) (setRemovalList (push-back (c .removal-list) k) c)) st)
-    unwire-framed on = switched-framed k below queued (setWired 0 (setInitial 0 old)) (push-back (st .memory .core .removal-list) k) (st .memory .core .words) 1
-        (moved-back (z .frames) (st .memory .core .removal-list) (f .memory .removal-list) (r .queues .removal-list) (once-list z st r) k below (omega (arith, place, on))) (f .memory .words) (λ h l d w b. refl)
-        (record {
-          page = refl;
-          used = its .used-fit;
-          modified = its .modified-fit;
-          wired = omega arith;
-          initial = omega arith;
-          transfer = its .transfer-fit;
-          place = no-transfer _ refl;
-          unread = λ e. omega (arith, e, none);
-          writing = λ e. absurd (omega (arith, e, none));
-          clean = λ e m. (e, m, λ w l. refl);
-        })
+      no-transfer : (n : ℕ) → n ≡ 1 → n + if (eqb (old .transfer) NONE) 0 1 ≡ 1
+      no-transfer n e = rw (e, none)
+
+      write-framed : (w x : ℕ) → w < z .words → Framed z (onCore (λ c. onFrame k (λ g. setUsedSwitch 1 (setModified 1 g)) (setWords (set (c .words) (k * z .words + w) x) c)) st)
+      write-framed w x lw = switched-framed k below queued (setUsedSwitch 1 (setModified 1 old)) (st .memory .core .removal-list) (set (st .memory .core .words) (k * z .words + w) x) (frames st .removing k)
+          (unmoved (z .frames) (st .memory .core .removal-list) (f .memory .removal-list) (r .queues .removal-list) k (frames st .removing k) refl)
+          (length-set (st .memory .core .words) (k * z .words + w) x ∙ f .memory .words) (λ h l d u b. word-other (st .memory .core .words) (z .words) k w h u x lw b d)
+          (record {
+            page = refl;
+            used = omega arith;
+            modified = omega arith;
+            wired = its .wired-fit;
+            initial = its .initial-fit;
+            transfer = its .transfer-fit;
+            place = no-transfer _ place;
+            unread = λ e. omega (arith, e, none);
+            writing = λ e. absurd (omega (arith, e, none));
+            clean = λ e m. absurd (omega (arith, m));
+          })
+
+      wire-framed : ¬ (old .wired ≡ 1) → Framed z (onCore (λ c. onFrame k (setWired 1) (setRemovalList (remove (c .removal-list) k) c)) st)
+      wire-framed off = switched-framed k below queued (setWired 1 old) (remove (st .memory .core .removal-list) k) (st .memory .core .words) 0
+          (moved-out (z .frames) (st .memory .core .removal-list) (f .memory .removal-list) (r .queues .removal-list) (once-list z st r) k (omega (arith, place, off))) (f .memory .words) (λ h l d w b. refl)
+          (record {
+            page = refl;
+            used = its .used-fit;
+            modified = its .modified-fit;
+            wired = omega arith;
+            initial = its .initial-fit;
+            transfer = its .transfer-fit;
+            place = no-transfer _ refl;
+            unread = λ e. omega (arith, e, none);
+            writing = λ e. absurd (omega (arith, e, none));
+            clean = λ e m. (e, m, λ w l. refl);
+          })
+
+      unwire-framed : old .wired ≡ 1 → Framed z (onCore (λ c. onFrame k (λ g. setWired 0 (setInitial 0 g)) (setRemovalList (push-back (c .removal-list) k) c)) st)
+      unwire-framed on = switched-framed k below queued (setWired 0 (setInitial 0 old)) (push-back (st .memory .core .removal-list) k) (st .memory .core .words) 1
+          (moved-back (z .frames) (st .memory .core .removal-list) (f .memory .removal-list) (r .queues .removal-list) (once-list z st r) k below (omega (arith, place, on))) (f .memory .words) (λ h l d w b. refl)
+          (record {
+            page = refl;
+            used = its .used-fit;
+            modified = its .modified-fit;
+            wired = omega arith;
+            initial = omega arith;
+            transfer = its .transfer-fit;
+            place = no-transfer _ refl;
+            unread = λ e. omega (arith, e, none);
+            writing = λ e. absurd (omega (arith, e, none));
+            clean = λ e m. (e, m, λ w l. refl);
+          })
 
     -- the questions of wire and unwire speak of each frame with that page
     its-wired : ¬ ((h : ℕ) → h < z .frames → frames st .frame h .page ≡ suc i → ¬ (frames st .frame h .wired ≡ 1)) → old .wired ≡ 1
@@ -194,8 +197,8 @@ module _ (z : Sizes) (st : State) (f : Fit z st) (r : Ruled z st) where
 
   pub wire-frames : (s p : ℕ) → Asked (questions z st (Event.Page (Wire s p))) → Framed z (Pages.wire z st s p)
   unfolding Pages.wire
-  wire-frames s p a = let i = pageOf z s p in wire-framed i (a .1 .1 .1 .0) (a .1 .1 .1 .1 .0) (its-unwired i (a .1 .1 .1 .0) (a .1 .1 .1 .1 .0) (a .1 .1 .1 .1 .1 .0))
+  wire-frames s p a = let i = pageOf z s p in wire-framed i (a .1 .1 .1 .0) (a .1 .1 .1 .1 .0) (its-unwired i (a .1 .1 .1 .0) (a .1 .1 .1 .1 .1 .0))
 
   pub unwire-frames : (s p : ℕ) → Asked (questions z st (Event.Page (Unwire s p))) → Framed z (Pages.unwire z st s p)
   unfolding Pages.unwire
-  unwire-frames s p a = let i = pageOf z s p in unwire-framed i (a .1 .1 .1 .0) (a .1 .1 .1 .1 .0) (its-wired i (a .1 .1 .1 .0) (a .1 .1 .1 .1 .0) (a .1 .1 .1 .1 .1 .0))
+  unwire-frames s p a = let i = pageOf z s p in unwire-framed i (a .1 .1 .1 .0) (a .1 .1 .1 .1 .0) (its-wired i (a .1 .1 .1 .0) (a .1 .1 .1 .1 .1 .0))

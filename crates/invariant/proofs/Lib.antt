@@ -34,3 +34,4 @@ pub mod Kept
 pub mod Never
 pub mod Tidy
 pub mod EdgesAll
+pub mod Transfer

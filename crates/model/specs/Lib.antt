@@ -33,6 +33,7 @@ pub mod Demand3
 pub mod Linked
 pub mod Lists
 pub mod Edges
+pub mod TransferEdges
 pub mod RuleList
 pub mod Refusals
 pub mod Runs

@@ -14,7 +14,7 @@ use Rattle.model.specs.declared.event.Writeback.the-variants.{Claim, Tru
 use Rattle.model.specs.declared.event.Event.{Event}
 use Rattle.model.specs.declared.event.Event.the-variants as Event
 use Rattle.model.specs.Lines.{NULLED, RELEASED}
-use Rattle.model.specs.State.{State, Files, Frames, files, frames, NONE, pageOf, framed, live, payer}
+use Rattle.model.specs.State.{State, Files, Frames, files, frames, NONE, READING, pageOf, framed, live, payer}
 use Rattle.model.specs.Rules.{isActive}
 
 module _ (z : Sizes) (st : State) where
@@ -32,8 +32,12 @@ module _ (z : Sizes) (st : State) where
   page s p = pageOf z s p
 
   -- the page is in no transfer
-  abbrev still : ℕ → Rule
+  abbrev pub still : ℕ → Rule
   still i = each (z .frames) λ f. same (c .frame f .page) (suc i) then same (c .frame f .transfer) NONE
+
+  -- no read of the page is under way (its write may be)
+  abbrev pub arrived : ℕ → Rule
+  arrived i = each (z .frames) λ f. same (c .frame f .page) (suc i) then non (same (c .frame f .transfer) READING)
 
   -- the page is in no wired frame
   abbrev unwired : ℕ → Rule
@@ -90,6 +94,7 @@ module _ (z : Sizes) (st : State) where
   q13 i = ask 13 (framed z c i)
 
   -- 14. These, fault, truncate: no page concerned (truncate: from k up) in transfer?
+  -- (02) Read and page look shall be accepted while the page's write is under way. Write, wire, unwire, fault and truncate still get 14, and reads under way still get 14 for all.
   abbrev q14 : Rule → Questions → Questions
   q14 concerned = ask 14 concerned
 
@@ -135,9 +140,9 @@ module _ (z : Sizes) (st : State) where
   abbrev wordRange : ℕ → ℕ → ℕ → Rule
   wordRange s p w = below s (z .slots) and below p (z .pages) and below w (z .words)
 
-  -- the questions of a read, a write and a page look
-  abbrev pub served : Rule → ℕ → ℕ → Questions
-  served range s p = q3 range (q4 s (q8 s (q13 (page s p) (q14 (still (page s p)) none))))
+  -- the questions of a read, a write and a page look; quiet is what 14 asks of the page
+  abbrev pub served : Rule → (ℕ → Rule) → ℕ → ℕ → Questions
+  served range quiet s p = q3 range (q4 s (q8 s (q13 (page s p) (q14 (quiet (page s p)) none))))
 
   -- the pages that a truncate to k concerns
   abbrev fromUp : ℕ → ℕ → (ℕ → Rule) → Rule
@@ -152,8 +157,8 @@ module _ (z : Sizes) (st : State) where
 
   abbrev pub pageQuestions : Page → Questions
   pageQuestions (Fault s p) = q3 (pageRange s p) (q4 s (q8 s (q14 (still (page s p)) (q15 (page s p) (q18 s (page s p) (q19 (page s p) (q20 none)))))))
-  pageQuestions (Read s p w) = served (wordRange s p w) s p
-  pageQuestions (Write s p w x) = served (wordRange s p w) s p
+  pageQuestions (Read s p w) = served (wordRange s p w) arrived s p
+  pageQuestions (Write s p w x) = served (wordRange s p w) still s p
   pageQuestions (Wire s p) = q3 (pageRange s p) (q4 s (q8 s (q13 (page s p) (q14 (still (page s p)) (q16 (unwired (page s p)) none)))))
   pageQuestions (Unwire s p) = q3 (pageRange s p) (q4 s (q8 s (q13 (page s p) (q14 (still (page s p)) (q17 (page s p) none)))))
 
@@ -171,4 +176,4 @@ module _ (z : Sizes) (st : State) where
 
   -- a page look asks as a read does
   abbrev pub lookQuestions : ℕ → ℕ → Questions
-  lookQuestions s p = served (pageRange s p) s p
+  lookQuestions s p = served (pageRange s p) arrived s p

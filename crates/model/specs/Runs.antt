@@ -8,7 +8,7 @@ use Rattle.model.specs.Rules.{allRules}
 use Rattle.model.specs.Acts.{Act, World, act, legal}
 use Rattle.model.specs.Demand3.{lastInto, lastUpdate, eachOf, someOf, ownWords, liveListed, liveReads, demand3}
 use Rattle.model.specs.Linked.{linked}
-use Rattle.model.specs.Lists.{limit, create, delete, activate, deactivate, fault, read, write, wire, unwire, claim, truncate, update, pageDone, mapDone, restart, small, cut, said, begin}
+use Rattle.model.specs.Lists.{limit, create, delete, activate, deactivate, fault, read, write, wire, unwire, claim, truncate, update, pageDone, mapDone, look, restart, small, cut, said, begin}
 
 -- the claim and the invariant hold, and once restarted the rules
 unfoldable pub right : World → Bool
@@ -107,3 +107,9 @@ r₁₀ = tt
 r₁₁ : T (holds (opened ++ put 0 9 0 ++ update 0 ∷ mapDone 0 1 ∷ truncate 0 0 ∷ fault 0 1 ∷ claim ∷ update 0 ∷ mapDone 0 0 ∷ update 0 ∷ mapDone 0 1 ∷ put 2 4 0 ++ cut [] [] ∷ restart ∷ []))
 unfolding holds
 r₁₁ = tt
+
+-- a page is read and looked at while its write is under way: the write fails, is begun again and lands at a cut
+r₁₂ : T (holds (opened ++ fault 0 0 ∷ write 0 0 1 9 ∷ claim ∷ read 0 0 1 ∷ look 0 0 ∷ pageDone 0 0 ∷ read 0 0 1 ∷ write 0 0 0 4 ∷ claim ∷ read 0 0 0 ∷ pageDone 0 1 ∷ update 0 ∷ mapDone 0 1
+    ∷ fault 0 0 ∷ pageDone 1 1 ∷ write 0 0 1 5 ∷ claim ∷ read 0 0 1 ∷ look 0 0 ∷ cut (1 ∷ []) [] ∷ reread))
+unfolding holds
+r₁₂ = tt

@@ -132,9 +132,9 @@ module _ (z : Sizes) (st : State) where
   unfoldable pub writeGood : ℕ → State
   writeGood f = freeFrame f (onHeld (λ h. setStates (set (h .states) (recordIn z st f) LIVE) h) (onDisk (storeFrame f) st))
 
-  -- Failed write: list's end, modified on, used and initial off.
+  -- Failed write: list's end, modified on, initial off. (02) A failed write leaves used as those reads left it.
   unfoldable pub writeFailed : ℕ → State
-  writeFailed f = onCore (λ c. setRemovalList (push-back (c .removal-list) f) (onFrame f (λ g. setTransfer NONE (setModified 1 (cooled g))) c)) st
+  writeFailed f = onCore (λ c. setRemovalList (push-back (c .removal-list) f) (onFrame f (λ g. setTransfer NONE (setModified 1 (setInitial 0 g))) c)) st
 
   unfoldable pub pageDone : ℕ → ℕ → State
   pageDone f good = counted z

@@ -40,6 +40,7 @@ pub const MAP_OLD: u32 = 12;
 pub const PAGE_OUT: u32 = 13;
 
 // These, fault, truncate: no page concerned (truncate: from k up) in transfer?
+// (Read and page look: no read of the page under way? Its write may be.)
 pub const IN_TRANSFER: u32 = 14;
 
 // Fault: page in no frame?

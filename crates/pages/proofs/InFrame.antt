@@ -1,5 +1,6 @@
 -- The events about a page in a frame, and the page look: their questions as the code asks them, and what the code stores is what the model leaves.
 use mathlib.Core.Path.{_≡_, refl, ap, sym, _∙_}
+use mathlib.Core.Bool.{Bool, true, false}
 use mathlib.Core.List.{List}
 use Prim.Native.Nat.{ℕ, _+_, _*_, _<_, _≤_}
 use native.Mathlib.Nat.{mul-le-mul-right}
@@ -18,7 +19,7 @@ use Rattle.model.specs.declared.event.Answer.{Answer}
 use Rattle.model.specs.declared.event.Event.the-variants as Event
 use Rattle.model.specs.declared.event.Page.the-variants as Page
 use Rattle.model.specs.State.{State, frames, frameAt}
-use Rattle.model.specs.Questions.{served}
+use Rattle.model.specs.Questions.{served, still, lookQuestions}
 use Rattle.model.specs.Pages as Pages
 use Rattle.model.specs.Part.{part, no-part}
 use Rattle.model.specs.Setters.{setUsedSwitch, setModified, setWired, setInitial}
@@ -32,7 +33,7 @@ use Rattle.pages.specs.Asks.{frameAsked, unwiredAsked, wiredAsked}
 use Rattle.pages.specs.Looks.{placed}
 use Rattle.pages.specs.Needs.{Seats, RemovalList}
 use Rattle.pages.proofs.ItsFrame.{its-found, its-changed, its-tells, its-told}
-use Rattle.pages.proofs.Served.{Call, state, flat, pageTest, pageRange, page-test, served-answer, wordTest, wordRange, word-test}
+use Rattle.pages.proofs.Served.{Call, state, flat, quietOf, pageTest, pageRange, page-test, served-answer, wordTest, wordRange, word-test}
 
 module _ (a : Call) where
   abbrev z : Sizes
@@ -64,12 +65,28 @@ module _ (a : Call) where
   its-place f ef = ef ∙ its-found z fs i (frames st) (λ k j. refl)
 
   abbrev asked : Questions
-  asked = served z st (pageRange z s p) s p
+  asked = served z st (pageRange z s p) (still z st) s p
 
-  -- ── the questions: n is the answer to the first five ──
-  module _ (n : ℕ) (e : n ≡ firstNo (slotAsked (pageTest z s p) s (a .numbers) (a .active) also frameAsked z (take (z .frames) fs) i)) where
+  -- ── the questions of a page look: n is their answer ──
+  module _ (n : ℕ) (e : n ≡ firstNo (slotAsked (pageTest z s p) s (a .numbers) (a .active) also frameAsked true z (take (z .frames) fs) i)) where
+    shown : n ≡ firstNo (lookQuestions z st s p)
+    shown = served-answer a (pageRange z s p) n (pageTest z s p) (page-test z s p) true e
+
+    pub placed-no : ¬ (n ≡ 0) → _≡_ {A = Part} (record { refusal = n; start = 0; count = 0 }) (placed z st s p)
+    unfolding placed
+    placed-no h = no-part n (Pages.lookStart z st s p) (z .words) h ∙ ap (λ (m : ℕ). part m (Pages.lookStart z st s p) (z .words)) shown
+
+    pub placed-yes : n ≡ 0 → (f k : ℕ) → f ≡ frameIn (z .frames) fs i → k ≡ f * z .words + 0 → _≡_ {A = Part} (record { refusal = 0; start = k; count = z .words }) (placed z st s p)
+    unfolding placed Pages.lookStart
+    placed-yes h f k ef ek =
+        let q : k ≡ f * z .words = ek ∙ omega arith in
+        ap (λ (m : ℕ). part 0 m (z .words)) (q ∙ ap (λ (j : ℕ). j * z .words) (its-place f ef))
+        ∙ ap (λ (m : ℕ). part m (Pages.lookStart z st s p) (z .words)) (sym h ∙ shown)
+
+  -- ── the questions of wire and unwire: n is the answer to the first five ──
+  module _ (n : ℕ) (e : n ≡ firstNo (slotAsked (pageTest z s p) s (a .numbers) (a .active) also frameAsked false z (take (z .frames) fs) i)) where
     answered : n ≡ firstNo asked
-    answered = served-answer a (pageRange z s p) n (pageTest z s p) (page-test z s p) e
+    answered = served-answer a (pageRange z s p) n (pageTest z s p) (page-test z s p) false e
 
     more-no : (q : Questions) → ¬ (n ≡ 0) → n ≡ firstNo (asked also q)
     more-no q h = answered ∙ sym (also-no asked q (λ x. h (answered ∙ x)))
@@ -77,24 +94,11 @@ module _ (a : Call) where
     more-yes : (q : Questions) → n ≡ 0 → firstNo q ≡ firstNo (asked also q)
     more-yes q h = sym (also-yes 0 asked q tt (sym answered ∙ h))
 
-    -- wire and unwire
     pub wire-no : ¬ (n ≡ 0) → refusal n st ≡ own z st (Event.Page (Page.Wire s p))
     wire-no h = own-no z st (Event.Page (Page.Wire s p)) n (more-no (unwiredAsked z (take (z .frames) fs) i) h) h
 
     pub unwire-no : ¬ (n ≡ 0) → refusal n st ≡ own z st (Event.Page (Page.Unwire s p))
     unwire-no h = own-no z st (Event.Page (Page.Unwire s p)) n (more-no (wiredAsked z (take (z .frames) fs) i) h) h
-
-    -- a page look
-    pub placed-no : ¬ (n ≡ 0) → _≡_ {A = Part} (record { refusal = n; start = 0; count = 0 }) (placed z st s p)
-    unfolding placed
-    placed-no h = no-part n (Pages.lookStart z st s p) (z .words) h ∙ ap (λ (m : ℕ). part m (Pages.lookStart z st s p) (z .words)) answered
-
-    pub placed-yes : n ≡ 0 → (f k : ℕ) → f ≡ frameIn (z .frames) fs i → k ≡ f * z .words + 0 → _≡_ {A = Part} (record { refusal = 0; start = k; count = z .words }) (placed z st s p)
-    unfolding placed Pages.lookStart
-    placed-yes h f k ef ek =
-        let q : k ≡ f * z .words = ek ∙ omega arith in
-        ap (λ (m : ℕ). part 0 m (z .words)) (q ∙ ap (λ (j : ℕ). j * z .words) (its-place f ef))
-        ∙ ap (λ (m : ℕ). part m (Pages.lookStart z st s p) (z .words)) (sym h ∙ answered)
 
     -- g is the page's frame
     module _ (yes : n ≡ 0) (h : frameIn (z .frames) fs i < z .frames) (seats : Seats z (take (z .frames) fs)) (g : Frame) (eg : g ≡ frameAt fs (frameIn (z .frames) fs i)) where
@@ -116,8 +120,9 @@ module _ (a : Call) where
 
   -- ── read and write ──
   module _ (w : ℕ) where
-    pub word-answer : (n : ℕ) → n ≡ firstNo (slotAsked (wordTest z s p w) s (a .numbers) (a .active) also frameAsked z (take (z .frames) fs) i) → n ≡ firstNo (served z st (wordRange z s p w) s p)
-    word-answer n = served-answer a (wordRange z s p w) n (wordTest z s p w) (word-test z s p w)
+    pub word-answer : (reads : Bool) (n : ℕ) → n ≡ firstNo (slotAsked (wordTest z s p w) s (a .numbers) (a .active) also frameAsked reads z (take (z .frames) fs) i)
+        → n ≡ firstNo (served z st (wordRange z s p w) (quietOf reads z st) s p)
+    word-answer reads n = served-answer a (wordRange z s p w) n (wordTest z s p w) (word-test z s p w) reads
 
     -- f, g and l are the page's frame, what it holds, and the frames that the code stores
     module _ (h : frameIn (z .frames) fs i < z .frames) (f : ℕ) (g : Frame) (l : List Frame) (ef : f ≡ frameIn (z .frames) fs i) (eg : g ≡ frameAt fs f) where

@@ -1,6 +1,6 @@
 -- The questions of a read, a write and a page look: as the code asks them, and what they give.
 use mathlib.Core.Path.{_≡_, _∙_}
-use mathlib.Core.Bool.{Bool, true, _&&_}
+use mathlib.Core.Bool.{Bool, true, false, _&&_}
 use mathlib.Core.List.{List}
 use Prim.Native.Nat.{ℕ, _<_}
 use lib.Dec.{ltb}
@@ -12,7 +12,7 @@ use Rattle.tables.specs.Also.{_also_}
 use Rattle.model.specs.declared.sizes.Sizes.{Sizes}
 use Rattle.model.specs.declared.frame.Frame.{Frame}
 use Rattle.model.specs.State.{State, pageOf}
-use Rattle.model.specs.Questions.{served}
+use Rattle.model.specs.Questions.{served, still, arrived}
 use Rattle.pages.specs.Seen.{seen}
 use Rattle.leaves.specs.Asks.{slotAsked, asked-range, two-below, three-below}
 use Rattle.pages.specs.Asks.{frameAsked}
@@ -42,6 +42,11 @@ page-range z s p = said-yes (pageRange z s p) (page-test z s p)
 pub word-range : (z : Sizes) (s p w : ℕ) → wordTest z s p w ≡ true → (s < z .slots) × (p < z .pages) × (w < z .words)
 word-range z s p w e = let r = said-yes (wordRange z s p w) (word-test z s p w) e in (r .0, r .1 .0, r .1 .1)
 
+-- what 14 asks of the page; reads: of a read or a look
+abbrev pub quietOf : Bool → Sizes → State → ℕ → Rule
+quietOf true z st i = arrived z st i
+quietOf false z st i = still z st i
+
 -- what an event about a page in a frame is passed
 pub record Call : Type 0 where
   pub sizes : Sizes
@@ -63,6 +68,7 @@ module _ (a : Call) where
 
   -- n answers 3, 4, 8, 13 and 14, as the code asks them: b tells the range
   module _ (range : Rule) (n : ℕ) (b : Bool) (t : b ≡ test range) where
-    pub served-answer : n ≡ firstNo (slotAsked b (a .slot) (a .numbers) (a .active) also frameAsked (a .sizes) (take (a .sizes .frames) (a .frames)) flat)
-        → n ≡ firstNo (served (a .sizes) state range (a .slot) (a .page))
-    served-answer e = e ∙ asked-range b range _ t
+    pub served-answer : (reads : Bool) → n ≡ firstNo (slotAsked b (a .slot) (a .numbers) (a .active) also frameAsked reads (a .sizes) (take (a .sizes .frames) (a .frames)) flat)
+        → n ≡ firstNo (served (a .sizes) state range (quietOf reads (a .sizes) state) (a .slot) (a .page))
+    served-answer true e = e ∙ asked-range b range _ t
+    served-answer false e = e ∙ asked-range b range _ t

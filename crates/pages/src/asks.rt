@@ -5,17 +5,19 @@ ghost use Prim.Native.Nat.{_+_, _*_, _<_};
 ghost use lib.ListN.{take};
 ghost use Rattle.tables.specs.Questions.{firstNo};
 ghost use Rattle.tables.specs.Also.{_also_};
+ghost use Rattle.tables.specs.Rule.{test};
 ghost use Rattle.model.specs.State.{pageOf};
 ghost use Rattle.model.specs.Fit.{Within};
 ghost use Rattle.leaves.specs.Asks.{slotAsked};
 ghost use Rattle.leaves.specs.FrameLaws.{frameIn};
-ghost use Rattle.pages.specs.Asks.{frameAsked};
+ghost use Rattle.pages.specs.Asks.{frameAsked, isQuiet};
 ghost use Rattle.pages.specs.Needs.{Seats};
 use leaves::asks::ask_slot;
 use leaves::frames::frame_at;
 use leaves::frames::frame_of;
 use model::frame::Frame;
 use model::frame::NONE;
+use model::frame::READING;
 use model::refusals::IN_TRANSFER;
 use model::refusals::PAGE_OUT;
 use model::sizes::Sizes;
@@ -36,24 +38,35 @@ pub fn word_of(sizes: Sizes, frame: usize, word: usize) -> usize
     frame * sizes.words + word
 }
 
-// Questions 13 and 14.
-pub fn ask_frame(sizes: Sizes, frames: [Frame; 64], page: usize) -> u32
+// Whether question 14 lets the frame pass: for a read or a look, no read of it is under way; for the others, no transfer.
+fn is_quiet(reads: bool, frame: Frame) -> bool
+    ensures { λ r. ⌜ r ≡ test (isQuiet reads frame) ⌝ }
+{
+    if reads {
+        return frame.transfer != READING;
+    }
+    frame.transfer == NONE
+}
+
+// Questions 13 and 14; reads: of a read or a look.
+pub fn ask_frame(reads: bool, sizes: Sizes, frames: [Frame; 64], page: usize) -> u32
     requires { ⌜ Seats sizes (take (sizes .frames) frames) × (page < 65535) ⌝ }
-    ensures { λ r. ⌜ r ≡ firstNo (frameAsked sizes (take (sizes .frames) frames) page) ⌝ }
+    ensures { λ r. ⌜ r ≡ firstNo (frameAsked reads sizes (take (sizes .frames) frames) page) ⌝ }
 {
     let f = frame_of(frames, sizes.frames, page);
     if f >= sizes.frames {
         return PAGE_OUT;
     }
     let frame = frame_at(frames, f);
-    if frame.transfer != NONE {
-        return IN_TRANSFER;
+    if is_quiet(reads, frame) {
+        return 0;
     }
-    0
+    IN_TRANSFER
 }
 
-// Questions 3, 4, 8, 13 and 14: those of a read, a write and a page look.
+// Questions 3, 4, 8, 13 and 14: those of a read, a write and a page look; reads: not of a write.
 pub fn ask_served(
+    reads: bool,
     sizes: Sizes,
     in_range: bool,
     slot: usize,
@@ -63,7 +76,7 @@ pub fn ask_served(
     active: &[u8],
 ) -> u32
     requires { ⌜ Seats sizes (take (sizes .frames) frames) × ((«in_range» ≡ true) → (slot < sizes .slots) × (page < sizes .pages)) ⌝ }
-    ensures answer { λ r. ⌜ r ≡ firstNo (slotAsked «in_range» slot (now (numbers .entry)) (now (active .entry)) also frameAsked sizes (take (sizes .frames) frames) (pageOf sizes slot page)) ⌝ }
+    ensures answer { λ r. ⌜ r ≡ firstNo (slotAsked «in_range» slot (now (numbers .entry)) (now (active .entry)) also frameAsked reads sizes (take (sizes .frames) frames) (pageOf sizes slot page)) ⌝ }
     ensures given { λ r. ⌜ (r ≡ 0 → («in_range» ≡ true) × (frameIn (sizes .frames) frames (pageOf sizes slot page) < sizes .frames)) ⌝ }
 {
     let no = ask_slot(in_range, slot, numbers, active);
@@ -71,7 +84,7 @@ pub fn ask_served(
         return no;
     }
     let i = page_of(sizes, slot, page);
-    ask_frame(sizes, frames, i)
+    ask_frame(reads, sizes, frames, i)
 }
 
 // The frame that the page is in, or the count of frames.

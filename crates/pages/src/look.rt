@@ -26,7 +26,7 @@ pub fn place(
     ensures within { λ r. ⌜ r .start + r .count ≤ sizes .frames * sizes .words ⌝ }
 {
     let in_range = (slot < sizes.slots) & (page < sizes.pages);
-    let refusal = ask_served(sizes, in_range, slot, page, frames, numbers, active);
+    let refusal = ask_served(true, sizes, in_range, slot, page, frames, numbers, active);
     if refusal != 0 {
         return Part {
             refusal,

@@ -1,4 +1,4 @@
-// Read: one word of a page in a frame; the frame's used switch goes on.
+// Read: one word of a page in a frame, in service or being written; the frame's used switch goes on.
 ghost use mathlib.Core.Path.{_≡_};
 ghost use lib.ListN.{take};
 ghost use Rattle.model.specs.declared.event.Event.the-variants as Event;
@@ -32,7 +32,7 @@ pub fn read(
     ensures frames { λ r. ⌜ take (sizes .frames) (r .frames) ≡ own sizes (enteredWords (take (sizes .frames) frames) numbers words active) (Event.Page (Page.Read slot page word)) .left .memory .core .frames ⌝ }
 {
     let in_range = (slot < sizes.slots) & ((page < sizes.pages) & (word < sizes.words));
-    let refusal = ask_served(sizes, in_range, slot, page, frames, numbers, active);
+    let refusal = ask_served(true, sizes, in_range, slot, page, frames, numbers, active);
     if refusal != 0 {
         return answered(frames, refusal, 0);
     }

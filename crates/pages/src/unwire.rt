@@ -32,7 +32,7 @@ pub fn unwire(
     ensures list { λ r. ⌜ now («removal_list» .exit) ≡ own sizes (enteredList (take (sizes .frames) frames) numbers «removal_list» active) (Event.Page (Page.Unwire slot page)) .left .memory .core .removal-list ⌝ }
 {
     let in_range = (slot < sizes.slots) & (page < sizes.pages);
-    let refusal = ask_served(sizes, in_range, slot, page, frames, numbers, active);
+    let refusal = ask_served(false, sizes, in_range, slot, page, frames, numbers, active);
     if refusal != 0 {
         return answered(frames, refusal, 0);
     }

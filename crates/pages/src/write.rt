@@ -34,7 +34,7 @@ pub fn write(
     ensures words { λ r. ⌜ now (words .exit) ≡ own sizes (enteredWords (take (sizes .frames) frames) numbers words active) (Event.Page (Page.Write slot page word value)) .left .memory .core .words ⌝ }
 {
     let in_range = (slot < sizes.slots) & ((page < sizes.pages) & (word < sizes.words));
-    let refusal = ask_served(sizes, in_range, slot, page, frames, numbers, active);
+    let refusal = ask_served(false, sizes, in_range, slot, page, frames, numbers, active);
     if refusal != 0 {
         return answered(frames, refusal, 0);
     }

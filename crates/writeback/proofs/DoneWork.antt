@@ -16,7 +16,7 @@ use Rattle.model.specs.declared.frame.Frame.{Frame}
 use Rattle.model.specs.declared.applied.Framed.{Framed}
 use Rattle.model.specs.Lines.{NULLED, LIVE}
 use Rattle.model.specs.State.{State, NONE, READING, frameAt, noFrame}
-use Rattle.model.specs.Setters.{counted, setModified, setTransfer}
+use Rattle.model.specs.Setters.{counted, setModified, setInitial, setTransfer}
 use Rattle.model.specs.Pages.{fresh}
 use Rattle.model.specs.Questions.{questions}
 use Rattle.model.specs.Writeback
@@ -32,7 +32,7 @@ answered fs n m = record { frames = fs; answer = record { refusal = n; result = 
 
 -- a frame whose write has failed
 abbrev pub unwritten : Frame → Frame
-unwritten g = setTransfer NONE (setModified 1 (Writeback.cooled g))
+unwritten g = setTransfer NONE (setModified 1 (setInitial 0 g))
 
 -- the outcome by another name
 left-by : {o p : Outcome State} {n : ℕ} {x : Framed} {rs ws fq rl ss : List ℕ} → o ≡ p → DoneLeft p n (x .frames) (x .answer) rs ws fq rl ss → DoneLeft o n (x .frames) (x .answer) rs ws fq rl ss

@@ -2,7 +2,7 @@
 ghost use mathlib.Core.Path.{_≡_};
 ghost use Prim.Native.Nat.{_<_, pred};
 ghost use Rattle.model.specs.State.{NONE, WRITING};
-ghost use Rattle.model.specs.Setters.{setModified, setTransfer};
+ghost use Rattle.model.specs.Setters.{setModified, setInitial, setTransfer};
 ghost use Rattle.model.specs.Pages.{fresh};
 ghost use Rattle.model.specs.Writeback.{cooled};
 use model::frame::Frame;
@@ -38,13 +38,13 @@ pub fn cool(frame: Frame) -> Frame
     }
 }
 
-// The write has failed: modified on, used and initial off.
+// The write has failed: modified on, initial off; used is as the reads since left it.
 pub fn unwritten(frame: Frame) -> Frame
-    ensures { λ r. ⌜ r ≡ setTransfer NONE (setModified 1 (cooled frame)) ⌝ }
+    ensures { λ r. ⌜ r ≡ setTransfer NONE (setModified 1 (setInitial 0 frame)) ⌝ }
 {
     Frame {
         page: frame.page,
-        used: 0,
+        used: frame.used,
         modified: 1,
         wired: frame.wired,
         initial: 0,

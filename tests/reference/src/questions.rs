@@ -3,7 +3,7 @@
 use crate::event::Event;
 use crate::keeper::Keeper;
 use crate::queue;
-use crate::tables::{LIVE, NO_TRANSFER, NULLED, RELEASED};
+use crate::tables::{LIVE, NO_TRANSFER, NULLED, READING, RELEASED};
 use std::ops::Range;
 
 type Question = fn(&Keeper, Event) -> bool;
@@ -153,8 +153,13 @@ fn in_a_frame(keeper: &Keeper, event: Event) -> bool {
     }
 }
 
+/// A read or a look waits for a read of the page only, every other event for its write too.
 fn not_in_transfer(keeper: &Keeper, event: Event) -> bool {
-    frames_concerned(keeper, event).all(|frame| keeper.memory.frames[frame].transfer == NO_TRANSFER)
+    let waits = |transfer: u8| match event {
+        Event::Read { .. } | Event::Look { .. } => transfer == READING,
+        _ => transfer != NO_TRANSFER,
+    };
+    frames_concerned(keeper, event).all(|frame| !waits(keeper.memory.frames[frame].transfer))
 }
 
 fn in_no_frame(keeper: &Keeper, event: Event) -> bool {

@@ -1,4 +1,4 @@
-//! The edges of paper 01, 1 to 12.
+//! The edges of paper 01, 1 to 12, and those of a page in transfer.
 
 use reference::event::{Answer, Request};
 use reference::keeper::Keeper;
@@ -218,4 +218,40 @@ fn edge_12_used_over_the_limit() {
     assert_eq!((keeper.memory.used[0], keeper.disk.limits[0]), (2, 1));
     does(&mut keeper, 0x03, &[0]);
     refuses(&mut keeper, 0x05, &[0, 1], 18);
+}
+
+/// While page 0's write is under way: read and look are accepted, the others get 14, and used is as the reads leave it.
+#[test]
+fn read_while_written() {
+    let mut keeper = with_design(2);
+    does(&mut keeper, 0x05, &[0, 0]);
+    does(&mut keeper, 0x07, &[0, 0, 1, 9]);
+    assert_eq!(does(&mut keeper, 0x08, &[]), 2);
+    let claimed = keeper.clone();
+    assert_eq!(keeper.page_look(0, 0).refusal, 0);
+    assert!(keeper == claimed, "a look changed a table");
+    for (kind, values) in [(0x07, &[0, 0, 1, 5][..]), (0x09, &[0, 0]), (0x0A, &[0, 0]), (0x05, &[0, 0]), (0x0B, &[0, 0])] {
+        refuses(&mut keeper, kind, values, 14);
+    }
+    refuses(&mut keeper, 0x06, &[0, 1, 1], 13);
+    assert_eq!(does(&mut keeper, 0x06, &[0, 0, 1]), 9);
+    does(&mut keeper, 0x0D, &[0, 0]);
+    let frame = &keeper.memory.frames[0];
+    assert_eq!((frame.used, frame.modified, frame.initial, frame.transfer), (1, 1, 0, 0));
+    assert_eq!(does(&mut keeper, 0x08, &[]), 2);
+    does(&mut keeper, 0x0D, &[0, 0]);
+    assert_eq!(keeper.memory.frames[0].used, 0);
+    assert_eq!(does(&mut keeper, 0x08, &[]), 1);
+}
+
+/// While it is being read all of them get 14.
+#[test]
+fn none_while_read() {
+    let mut keeper = with_design(2);
+    store(&mut keeper, 0, 0, 9);
+    does(&mut keeper, 0x05, &[0, 0]);
+    for kind in [0x05, 0x06, 0x07, 0x09, 0x0A, 0x0B] {
+        refuses(&mut keeper, kind, &[0, 0, 0, 0], 14);
+    }
+    assert_eq!(keeper.page_look(0, 0).refusal, 14);
 }

@@ -10,6 +10,7 @@ fn lists_keep_the_promises() {
     assert_eq!(counts.kinds_missing(), Vec::<&str>::new(), "never carried out");
     assert_eq!(counts.refusals_missing(), Vec::<u32>::new(), "never given");
     assert!(!counts.taken.rare(), "records taken near another, out of order, of two equally near: {:?}", counts.taken);
+    assert!(!counts.written.rare(), "reads and looks of pages being written, failed writes of pages read: {:?}", counts.written);
     let rules = rules::disk::DISK.iter().map(|rule| rule.0).chain(rules::MEMORY.iter().map(|rule| rule.0));
     let idle = rules.filter(|name| !counts.alone.contains_key(name));
     assert_eq!(idle.collect::<Vec<&str>>(), Vec::<&str>::new(), "rules that never stood alone");

@@ -5,7 +5,7 @@ use super::aims::{self, Aim};
 use super::random::Random;
 use super::shadow::marked;
 use crate::keeper::Keeper;
-use crate::tables::{Sizes, NO_TRANSFER};
+use crate::tables::{Sizes, NO_TRANSFER, WRITING};
 
 pub struct Chooser {
     pub random: Random,
@@ -119,7 +119,7 @@ impl Chooser {
 
     fn look(&mut self, keeper: &Keeper) -> Call {
         let sizes = keeper.sizes;
-        let (slot, page) = match self.in_service(keeper, 2) {
+        let (slot, page) = match self.shown(keeper) {
             Some((slot, page)) if self.random.percent(80) => (slot, page),
             _ => (self.random.below(sizes.slots + 1), self.random.below(sizes.pages + 1)),
         };
@@ -136,6 +136,19 @@ impl Chooser {
         let frame = self.random.find(frames.len(), fits)?;
         let page = frames[frame].page as usize - 1;
         Some((page / keeper.sizes.pages, page % keeper.sizes.pages))
+    }
+
+    /// A page for a read or a look: one that is being written, if there is one, every other time.
+    fn shown(&mut self, keeper: &Keeper) -> Option<(usize, usize)> {
+        let frames = &keeper.memory.frames;
+        let written = self.random.find(frames.len(), |number| frames[number].transfer == WRITING);
+        match written {
+            Some(frame) if self.random.percent(50) => {
+                let page = frames[frame].page as usize - 1;
+                Some((page / keeper.sizes.pages, page % keeper.sizes.pages))
+            }
+            _ => self.in_service(keeper, 2),
+        }
     }
 
     /// An event that the tables allow; any event if a few tries find none.
@@ -221,14 +234,12 @@ impl Chooser {
     /// Read, write, wire or unwire.
     fn touch(&mut self, keeper: &Keeper) -> Option<Call> {
         let kind = self.random.pick(&[0x06, 0x06, 0x07, 0x07, 0x07, 0x07, 0x09, 0x0A]);
-        let (slot, page) = self.in_service(
-            keeper,
-            match kind {
-                0x09 => 0,
-                0x0A => 1,
-                _ => 2,
-            },
-        )?;
+        let (slot, page) = match kind {
+            0x06 => self.shown(keeper)?,
+            0x07 => self.in_service(keeper, 2)?,
+            0x09 => self.in_service(keeper, 0)?,
+            _ => self.in_service(keeper, 1)?,
+        };
         let value = self.random.pick(&[0, 0, 1, 2, u32::MAX as usize]);
         Some(Call::request(kind, [slot, page, self.random.below(keeper.sizes.words), value]))
     }

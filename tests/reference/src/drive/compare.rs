@@ -1,9 +1,10 @@
 //! What must hold of one call: the two subjects agree, and each keeps the paper's promises.
 
 use super::act::{Call, Outcome};
+use crate::event::Request;
 use crate::keeper::Keeper;
 use crate::rules;
-use crate::tables::{FILED, FREE, LEAVING, LIVE, NULLED, RELEASED};
+use crate::tables::{FILED, FREE, LEAVING, LIVE, NO_TRANSFER, NULLED, RELEASED};
 
 /// One subject's side of a call.
 pub struct Side<'a> {
@@ -73,6 +74,7 @@ pub fn promises(call: &Call, before: &Keeper, side: &Side) -> Result<(), String>
         }
         _ => {
             check(rules::kept(side.after), "an event broke a rule")?;
+            check(transfers_untouched(call, before, side.after), "an event changed the words of a frame in transfer")?;
             check(along_the_lines(before, side.after), "a record moved along no line")
         }
     }
@@ -104,4 +106,14 @@ const LINES: [(u8, u8); 11] = [
 fn along_the_lines(before: &Keeper, after: &Keeper) -> bool {
     let moves = before.memory.states.iter().zip(&after.memory.states);
     moves.into_iter().all(|(&from, &to)| from == to || LINES.contains(&(from, to)))
+}
+
+/// No event but its page done changes the words of a frame in transfer.
+fn transfers_untouched(call: &Call, before: &Keeper, after: &Keeper) -> bool {
+    let own = |frame| matches!(*call, Call::Apply(Request { kind: 13, first, .. }) if first as usize == frame);
+    let moving = |frame: usize| before.memory.frames[frame].transfer != NO_TRANSFER;
+    (0..before.sizes.frames).filter(|&frame| moving(frame) && !own(frame)).all(|frame| {
+        let words = before.words_of_frame(frame);
+        before.memory.frame_words[words.clone()] == after.memory.frame_words[words]
+    })
 }

@@ -4,6 +4,7 @@ use super::act::{Call, Outcome};
 use crate::event::Request;
 use crate::events::pages::{free_records, neighbour};
 use crate::keeper::Keeper;
+use crate::tables::WRITING;
 use std::collections::BTreeMap;
 use std::fmt;
 
@@ -37,6 +38,7 @@ pub struct Counts {
     pub calls: u64,
     pub cuts: u64,
     pub taken: Taken,
+    pub written: Written,
 }
 
 /// Records taken by faults, and among them: where a lower page of the design had a record, where a higher one had (the pages come out
@@ -72,6 +74,49 @@ impl Taken {
     }
 }
 
+/// Reads and looks that were carried out, and failed writes; and among them those of a page whose write was under way, and those that
+/// found used on, as a read had left it.
+#[derive(Debug, Default)]
+pub struct Written {
+    pub reads: u64,
+    pub reads_of_written: u64,
+    pub looks: u64,
+    pub looks_of_written: u64,
+    pub failed: u64,
+    pub failed_used: u64,
+}
+
+impl Written {
+    fn note(&mut self, call: &Call, before: &Keeper) {
+        let writing = |slot: u32, page: u32| {
+            let frame = before.frame_of(before.flat(slot as usize, page as usize));
+            frame.is_some_and(|frame| before.memory.frames[frame].transfer == WRITING) as u64
+        };
+        match *call {
+            Call::Look { slot, page } => {
+                self.looks += 1;
+                self.looks_of_written += writing(slot, page);
+            }
+            Call::Apply(Request { kind: 6, first, second, .. }) => {
+                self.reads += 1;
+                self.reads_of_written += writing(first, second);
+            }
+            Call::Apply(Request { kind: 13, first, second: 0, .. }) => {
+                let frame = &before.memory.frames[first as usize];
+                self.failed += (frame.transfer == WRITING) as u64;
+                self.failed_used += (frame.transfer == WRITING && frame.used == 1) as u64;
+            }
+            _ => {}
+        }
+    }
+
+    /// Each of them is at least one in fifty.
+    pub fn rare(&self) -> bool {
+        let among = [(self.reads_of_written, self.reads), (self.looks_of_written, self.looks), (self.failed_used, self.failed)];
+        among.into_iter().any(|(count, all)| count * 50 < all || count == 0)
+    }
+}
+
 impl Counts {
     fn count(&mut self, call: &Call, outcome: &Outcome) {
         self.calls += 1;
@@ -87,11 +132,14 @@ impl Counts {
         }
     }
 
-    /// Counts a call, and the record that a fault took.
+    /// Counts a call, the record that a fault took, and what was asked of pages being written.
     pub fn count_call(&mut self, call: &Call, outcome: &Outcome, before: &Keeper, after: &Keeper) {
         self.count(call, outcome);
         if matches!(call, Call::Apply(Request { kind: 5, .. })) && outcome.refusal() == 0 {
             self.taken.note(before, after);
+        }
+        if outcome.refusal() == 0 {
+            self.written.note(call, before);
         }
     }
 
@@ -110,6 +158,7 @@ impl fmt::Display for Counts {
     fn fmt(&self, out: &mut fmt::Formatter) -> fmt::Result {
         writeln!(out, "{} calls, {} cuts", self.calls, self.cuts)?;
         writeln!(out, "{:?}", self.taken)?;
+        writeln!(out, "{:?}", self.written)?;
         writeln!(out, "carried out: {:?}", self.carried_out)?;
         writeln!(out, "refused: {:?}", self.refused)?;
         writeln!(out, "rules that alone refused a damaged table:")?;

@@ -76,11 +76,11 @@ fn good_write(keeper: &mut Keeper, frame: usize) {
     free_frame(keeper, frame);
 }
 
+/// Used stays as the reads since the claim left it.
 fn failed_write(keeper: &mut Keeper, frame: usize) {
     let entry = &mut keeper.memory.frames[frame];
     entry.transfer = NO_TRANSFER;
     entry.modified = 1;
-    entry.used = 0;
     entry.initial = 0;
     queue::push_end(&mut keeper.memory.removal_list, frame);
 }

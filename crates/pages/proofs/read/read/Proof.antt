@@ -1,6 +1,7 @@
 -- `read` meets its contract: the questions, then the page's frame and its word.
 use borrow.Author.Needs.{needs}
 use mathlib.Core.Path.{_∙_}
+use mathlib.Core.Bool.{true}
 use mathlib.Core.List.{[]}
 use lib.ListN.{take}
 use Rattle.model.specs.declared.event.Event.{Event}
@@ -32,7 +33,7 @@ returns c =
     let x = c .answered .ensures in
     let k = c .before .before in
     let a = s .args in
-    let q = word-answer (call s) (a .word) (k .ask-served .result) (k .ask-served .ensures .0) in
+    let q = word-answer (call s) (a .word) true (k .ask-served .result) (k .ask-served .ensures .0) in
     let o = own-no (a .sizes) (state (call s)) (event s) (k .ask-served .result) q (c .before .if1 .taken) in
     ((λ i. x i .answer) ∙ (λ i. o i .answer), (λ i. take (a .sizes .frames) (x i .frames)) ∙ (λ i. o i .left .memory .core .frames))
 
@@ -61,7 +62,7 @@ returns-2 c =
     let k = f .before .before in
     let s = start k in
     let a = s .args in
-    let q = word-answer (call s) (a .word) (k .ask-served .result) (k .ask-served .ensures .0) in
+    let q = word-answer (call s) (a .word) true (k .ask-served .result) (k .ask-served .ensures .0) in
     let h = k .ask-served .ensures .1 (f .before .if1 .left) .1 in
     let o = own-yes (a .sizes) (state (call s)) (event s) (k .ask-served .result) q (f .before .if1 .left) in (
       (λ i. x i .answer) ∙ read-answer (call s) (a .word) h (f .its-frame .result) (g .frame-at .result) (l .with-frame .result) (f .its-frame .ensures) (g .frame-at .ensures) (w .word-of .result) (e .at32 .result) (w .word-of .ensures) (e .at32 .ensures) ∙ (λ i. o i .answer),

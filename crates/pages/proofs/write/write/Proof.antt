@@ -1,6 +1,7 @@
 -- `write` meets its contract: the questions, then the page's frame, and the word stored.
 use borrow.Author.Needs.{needs}
 use mathlib.Core.Path.{_∙_}
+use mathlib.Core.Bool.{false}
 use mathlib.Core.List.{[]}
 use lib.ListN.{take}
 use Rattle.model.specs.declared.event.Event.{Event}
@@ -33,7 +34,7 @@ returns c =
     let x = c .answered .ensures in
     let k = c .before .before in
     let a = s .args in
-    let q = word-answer (call s) (a .word) (k .ask-served .result) (k .ask-served .ensures .0) in
+    let q = word-answer (call s) (a .word) false (k .ask-served .result) (k .ask-served .ensures .0) in
     let o = own-no (a .sizes) (state (call s)) (event s) (k .ask-served .result) q (c .before .if1 .taken) in
     ((λ i. x i .answer) ∙ (λ i. o i .answer), ((λ i. take (a .sizes .frames) (x i .frames)) ∙ (λ i. o i .left .memory .core .frames), λ i. o i .left .memory .core .words))
 
@@ -63,7 +64,7 @@ returns-2 c =
     let k = f .before .before in
     let s = start k in
     let a = s .args in
-    let q = word-answer (call s) (a .word) (k .ask-served .result) (k .ask-served .ensures .0) in
+    let q = word-answer (call s) (a .word) false (k .ask-served .result) (k .ask-served .ensures .0) in
     let h = k .ask-served .ensures .1 (f .before .if1 .left) .1 in
     let o = own-yes (a .sizes) (state (call s)) (event s) (k .ask-served .result) q (f .before .if1 .left) in (
       (λ i. x i .answer) ∙ (λ i. o i .answer),
