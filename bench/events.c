@@ -75,30 +75,67 @@ static void deactivate(struct keeper *k, size_t slot)
     m->active.at[slot] = 0;
 }
 
-static int is_free(const struct keeper *k, size_t record)
+#ifdef OLD_SEARCH
+#include "old_search.h"
+#else
+enum { NONE = -1 };
+
+/* The first free record from `from` up, below `end`: a word of the map at a time. */
+static int free_up(const struct keeper *k, int from, int end)
 {
-    return k->memory.free_map.at[record / 32] >> (record % 32) & 1;
+    const uint32_t *map = k->memory.free_map.at;
+    if (from >= end)
+        return NONE;
+    int word = from / 32;
+    uint32_t bits = map[word] & UINT32_MAX << (from % 32);
+    while (bits == 0 && ++word * 32 < end)
+        bits = map[word];
+    if (bits == 0)
+        return NONE;
+    int record = word * 32 + __builtin_ctz(bits);
+    return record < end ? record : NONE;
+}
+
+/* The last free record from `from` down, not below `end`. */
+static int free_down(const struct keeper *k, int from, int end)
+{
+    const uint32_t *map = k->memory.free_map.at;
+    if (from < end)
+        return NONE;
+    int word = from / 32;
+    uint32_t bits = map[word] & UINT32_MAX >> (31 - from % 32);
+    while (bits == 0 && word-- * 32 > end)
+        bits = map[word];
+    if (bits == 0)
+        return NONE;
+    int record = word * 32 + 31 - __builtin_clz(bits);
+    return record >= end ? record : NONE;
 }
 
 /* The first free record counting up from the hand. */
 static size_t pick_by_hand(const struct keeper *k)
 {
-    size_t record = k->memory.pool->hand;
-    while (!is_free(k, record))
-        record = record + 1 == k->sizes.records ? 0 : record + 1;
-    return record;
+    int hand = (int)k->memory.pool->hand;
+    int record = free_up(k, hand, (int)k->sizes.records);
+    return (size_t)(record != NONE ? record : free_up(k, 0, hand));
 }
 
-/* The free record nearest to one that is held, of two equally near the lower. */
+/* The free record nearest to one that is held, of two equally near the lower: as far again each time, on both sides. */
 static size_t pick_near(const struct keeper *k, size_t held)
 {
-    for (size_t distance = 1;; distance++) {
-        if (distance <= held && is_free(k, held - distance))
-            return held - distance;
-        if (held + distance < k->sizes.records && is_free(k, held + distance))
-            return held + distance;
+    int at = (int)held, records = (int)k->sizes.records;
+    for (int passed = 0, reach = 32;; passed = reach, reach *= 2) {
+        int lowest = reach < at ? at - reach : 0;
+        int end = reach < records - at ? at + reach : records;
+        int low = free_down(k, at - passed, lowest);
+        if (low != NONE)
+            end = 2 * at - low < end ? 2 * at - low : end;
+        int high = free_up(k, at + passed, end);
+        if (high != NONE || low != NONE)
+            return (size_t)(high != NONE ? high : low);
     }
 }
+#endif
 
 /* Near the closest lower page of the design that has a record, or by the hand. */
 static size_t pick(const struct keeper *k, size_t page)

@@ -2,6 +2,7 @@
 """The speed of the proved keeper beside the C port and the reference, as tables in Markdown. The keeper's library must be built.
 
 run.py [--into FILE]    measures and prints the tables; or puts them into FILE, in place of all below its heading '## Tables'
+run.py --search         measures and prints the table of the search for a free record alone
 """
 import datetime
 import os
@@ -14,6 +15,11 @@ ROOT = pathlib.Path(__file__).resolve().parent.parent
 LIBRARY = ROOT / "target" / "staticlib" / "libkeeper.a"
 OUT = ROOT / "target" / "bench"
 BENCH = ROOT / "target" / "cargo" / "bench-run" / "bench"
+SEARCH = OUT / "search"
+PORT = ["keeper", "rules", "questions", "events"]
+# what the C port's files share; in the port with the old search each name is another
+CALLS = ["keeper_format", "keeper_restart", "keeper_apply", "keeper_page_look"]
+INSIDE = ["fits_disk", "fits_memory", "keeps_disk_rules", "keeps_memory_rules", "first_refusal", "carry_out"]
 BUILD = "cargo build --quiet --offline --profile bench-run --manifest-path tests/reference/Cargo.toml --target-dir target/cargo --bin bench"
 # callgrind counts a repeated string instruction once a step: in the counting run the C library is to use none
 NO_REPEATS = {"GLIBC_TUNABLES": "glibc.cpu.hwcaps=-ERMS,-FSRM"}
@@ -64,6 +70,52 @@ def measured(size):
     return f"{size.capitalize()}: {sizes}", rounds, rows
 
 
+def built_search():
+    """Builds bench/search.c with the proved keeper and two C ports: as it is, and with the old search."""
+    gcc = ["gcc", "-O2", "-Wall", "-Wextra", "-Werror"]
+    sides = {"c": [f"-D{call}={call.replace('keeper', 'c_port')}" for call in CALLS],
+             "old": ["-DOLD_SEARCH", *(f"-D{call}={call.replace('keeper', 'old_port')}" for call in CALLS), *(f"-D{name}=old_{name}" for name in INSIDE)]}
+    objects = []
+    for side, names in sides.items():
+        for file in PORT:
+            objects.append(str(OUT / f"{side}_{file}.o"))
+            output(*gcc, "-std=c11", *names, "-c", "-o", objects[-1], f"bench/{file}.c")
+    output(*gcc, "-std=gnu11", "-o", str(SEARCH), "bench/search.c", *objects, str(LIBRARY))
+
+
+def counted_search():
+    """Instructions of each fault of the search, by case and side: callgrind writes a file for each fault."""
+    file = OUT / "search.callgrind"
+    for old in OUT.glob("search.callgrind*"):
+        old.unlink()
+    run = ["valgrind", "--quiet", "--tool=callgrind", "--instr-atstart=no", f"--callgrind-out-file={file}"]
+    cases = output(*run, str(SEARCH), more=NO_REPEATS).splitlines()
+    texts = [OUT.joinpath(f"search.callgrind.{n + 1}").read_text() for n in range(3 * len(cases))]
+    counts = [int(re.search(r"^totals: (\d+)", text, re.MULTILINE)[1]) for text in texts]
+    return {case: counts[3 * n:3 * n + 3] for n, case in enumerate(cases)}
+
+
+def search():
+    """The table of the search: its own part is what a fault takes more than one that finds the hand's record free."""
+    print("search ..", file=sys.stderr)
+    built_search()
+    first, *lines = output(str(SEARCH), SECONDS).splitlines()
+    times = {line.rsplit("\t", 3)[0]: [float(cell) for cell in line.split("\t")[3:]] for line in lines}
+    counts = counted_search()
+    nothing = next(iter(times))
+    yield f"### The search for a free record: R 4096, one record free\n\n{first.split()[1]} rounds. The old search is the C port's with that of `bench/old_search.h`.\n"
+    yield "| from | free record | search, instructions: old | new | C | fault, instructions: keeper | C | fault, nanoseconds: keeper | C | C, old search |"
+    yield "|---|---|" + "--:|" * 8
+    for case, (keeper, c_port, old) in times.items():
+        by, distance, side = case.split("\t")
+        many = counts[case]
+        own = [f"{many[n] - counts[nothing][n]:,}" for n in (2, 0, 1)]
+        whole = [f"{many[0]:,}", f"{many[1]:,}", f"{keeper:,.0f}", f"{c_port:,.0f}", f"{old:,.0f}"]
+        place = "at the hand" if case == nothing else f"{int(distance):,} {side}"
+        yield f"| {'hand' if case == nothing else by} | {place} | {' | '.join(own + whole)} |"
+    yield ""
+
+
 def ratios(_, keeper, c_port, reference, keeper_count, c_count):
     return f"{keeper / c_port:.2f} | {keeper / reference:.2f} | {keeper_count / c_count:.2f}"
 
@@ -96,14 +148,19 @@ def machine():
 
 def main():
     into = pathlib.Path(sys.argv[2]) if sys.argv[1:2] == ["--into"] and len(sys.argv) == 3 else None
-    if sys.argv[1:] and not into:
+    alone = sys.argv[1:] == ["--search"]
+    if sys.argv[1:] and not into and not alone:
         sys.exit(__doc__)
     if not LIBRARY.exists():
         sys.exit("run.py: the keeper's library is not built: make bench, or rt staticlib keeper")
-    subprocess.run(BUILD.split(), cwd=ROOT, check=True)
     OUT.mkdir(parents=True, exist_ok=True)
+    searches = list(search())
+    if alone:
+        print("\n".join([*machine(), *searches]))
+        return
+    subprocess.run(BUILD.split(), cwd=ROOT, check=True)
     sizes = [measured(size) for size in SIZES]
-    lines = [*machine(), *summary(sizes), *(line for size in sizes for line in table(*size))]
+    lines = [*machine(), *summary(sizes), *searches, *(line for size in sizes for line in table(*size))]
     text = "\n".join(lines)
     if into:
         above = into.read_text().split(HEADING)[0]

@@ -2,3 +2,5 @@
 pub mod Along
 pub mod Freeing
 pub mod Queues
+pub mod Searched
+pub mod WordBits

@@ -8,3 +8,4 @@ pub mod Freed
 pub mod Near
 pub mod Picks
 pub mod Released
+pub mod Search

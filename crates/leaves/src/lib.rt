@@ -8,6 +8,7 @@ pub mod near; // the choice of a record near another
 pub mod pool; // the choice of a free record
 pub mod queue; // the free queue and the removal list
 pub mod records; // leaving records become free
+pub mod search; // the search of a map, word by word
 pub mod slots; // the entries of one slot
 pub mod states; // records move along the lines
 pub mod words; // the words of frames and records

@@ -1,35 +1,13 @@
 // The pool: the choice of a free record, by the map of one mark a record; a record taken out, and records deposited, by value.
 ghost use mathlib.Core.Path.{_≡_};
-ghost use Prim.Native.Nat.{_-_, _*_, _%_, _<_, _≤_};
-ghost use lib.Dec.{eqb};
+ghost use Prim.Native.Nat.{_*_, _%_, _<_, _≤_};
 ghost use lib.ListN.{length};
-ghost use Rattle.tables.specs.Base.{find};
 ghost use Rattle.model.specs.Parts.{byHand};
 ghost use Rattle.model.specs.Pool.{taken, deposited};
-ghost use Rattle.tables.specs.Marks.{bitOf};
 ghost use Rattle.leaves.specs.FreeMap.{toldBy};
+use crate::search::first_mark;
 use model::frame::Pool;
 use model::sizes::Sizes;
-
-// The first record from `from` up to `to` whose bit is on, or `to` where there is none.
-fn find_free(map: &[u32], from: usize, to: usize) -> usize
-    requires { ⌜ (from ≤ to) × (to ≤ 32 * length (now map)) × (to < 65536) ⌝ }
-    ensures { λ r. ⌜ r ≡ find (to - from) (λ i. eqb (bitOf (now (map .entry)) i) 1) from ⌝ }
-{
-    let mut r = from;
-    while r < to {
-        let rest = map[r / 32] >> (r % 32);
-        if rest % 2 == 1 {
-            return r;
-        }
-        if rest == 0 {
-            r = (r / 32 + 1) * 32;
-        } else {
-            r += 1;
-        }
-    }
-    to
-}
 
 // The first free record counting up from the hand; after the last comes 0.
 pub fn by_hand(sizes: Sizes, map: &[u32], hand: usize) -> usize
@@ -37,11 +15,11 @@ pub fn by_hand(sizes: Sizes, map: &[u32], hand: usize) -> usize
     ensures { λ r. ⌜ r ≡ byHand sizes (toldBy (now (map .entry))) hand ⌝ }
 {
     let records = sizes.records;
-    let high = find_free(map, hand, records);
+    let high = first_mark(map, hand, records);
     if high < records {
         return high;
     }
-    find_free(map, 0, hand)
+    first_mark(map, 0, hand)
 }
 
 // Record `n` - 1 is taken out, or none where `n` is 0: the hand then stands just past it, and one is free less.

@@ -25,6 +25,13 @@ pub fn used(sizes: Sizes, random: &mut Random) -> Keeper {
         keeper.disk.accounts[slot] = (slot % sizes.accounts) as u16;
     }
     let listed = (sizes.records * 7 / 8).min(filled * sizes.pages);
+    list(&mut keeper, filled, listed, random);
+    keeper
+}
+
+/// So many records, any, are listed by the designs of the first slots, page by page.
+pub fn list(keeper: &mut Keeper, filled: usize, listed: usize, random: &mut Random) {
+    let sizes = keeper.sizes;
     for (place, record) in shuffled(sizes.records, random).into_iter().take(listed).enumerate() {
         let page = keeper.flat(place % filled, place / filled);
         keeper.disk.maps[page] = record as u16 + 1;
@@ -32,7 +39,6 @@ pub fn used(sizes: Sizes, random: &mut Random) -> Keeper {
         let words = keeper.words_of_record(record);
         keeper.disk.records[words].fill_with(|| marked(random.up_to(0xFFFF) as u32, number));
     }
-    keeper
 }
 
 /// The numbers below n in any order.

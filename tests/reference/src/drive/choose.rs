@@ -7,6 +7,9 @@ use super::shadow::marked;
 use crate::keeper::Keeper;
 use crate::tables::{Sizes, NO_TRANSFER, WRITING};
 
+/// From so many records on, half of the lists start from a disk that is nearly full.
+pub const LARGE: usize = 64;
+
 pub struct Chooser {
     pub random: Random,
     /// Calls that come first: format, restart, limits.
@@ -15,18 +18,25 @@ pub struct Chooser {
     /// After a cut, until the restart.
     lost: bool,
     numbers: u32,
+    /// The list starts from a disk that is nearly full, and not with a format.
+    pub full: bool,
 }
 
 impl Chooser {
     pub fn new(seed: u64, sizes: &Sizes) -> Chooser {
         let mut random = Random::new(seed);
         let mut first = Vec::new();
+        let full = sizes.records >= LARGE && random.percent(50);
         for account in 0..sizes.accounts {
-            let pages = random.pick(&[1, 2, sizes.frames, sizes.all_pages(), 65_535]);
+            let pages =
+                if full { 65_535 } else { random.pick(&[1, 2, sizes.frames, sizes.all_pages(), 65_535]) };
             first.push(Call::request(0x0F, [account, pages, 0, 0]));
         }
-        first.extend([Call::Restart, Call::Format]);
-        Chooser { random, first, aim: None, lost: false, numbers: 0 }
+        first.push(Call::Restart);
+        if !full {
+            first.push(Call::Format);
+        }
+        Chooser { random, first, aim: None, lost: false, numbers: 0, full }
     }
 
     /// The next act; a write's value is marked with the number of the design that it is for.

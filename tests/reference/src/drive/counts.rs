@@ -1,6 +1,7 @@
 //! How often each kind was carried out, each refusal given, and each rule broken alone.
 
 use super::act::{Call, Outcome};
+use super::choose::LARGE;
 use crate::event::Request;
 use crate::events::pages::{free_records, neighbour};
 use crate::keeper::Keeper;
@@ -42,33 +43,49 @@ pub struct Counts {
 }
 
 /// Records taken by faults, and among them: where a lower page of the design had a record, where a higher one had (the pages come out
-/// of order), and where two free records were equally near.
+/// of order), where two free records were equally near; and where at most three of 64 or more were free, and the one taken was more than
+/// a word of the free map away.
 #[derive(Debug, Default)]
 pub struct Taken {
     pub all: u64,
     pub near: u64,
     pub out_of_order: u64,
     pub ties: u64,
+    pub few_free: u64,
+    pub far: u64,
 }
 
 impl Taken {
     /// Notes the records that a call gave to pages.
     fn note(&mut self, before: &Keeper, after: &Keeper) {
         let pages = 0..before.memory.addresses.len().min(after.memory.addresses.len());
-        for page in pages.filter(|&page| before.memory.addresses[page] == 0 && after.memory.addresses[page] != 0) {
+        for page in
+            pages.filter(|&page| before.memory.addresses[page] == 0 && after.memory.addresses[page] != 0)
+        {
             let last = page - page % before.sizes.pages + before.sizes.pages;
+            let free = free_records(before).count();
             self.all += 1;
-            self.out_of_order += before.memory.addresses[page + 1..last].iter().any(|&address| address != 0) as u64;
+            self.few_free += (before.sizes.records >= LARGE && free <= 3) as u64;
+            self.out_of_order +=
+                before.memory.addresses[page + 1..last].iter().any(|&address| address != 0) as u64;
             if let Some(near) = neighbour(before, page) {
-                let distances: Vec<usize> = free_records(before).map(|record| record.abs_diff(near)).collect();
+                let distances: Vec<usize> =
+                    free_records(before).map(|record| record.abs_diff(near)).collect();
                 let least = distances.iter().min();
                 self.near += 1;
-                self.ties += (distances.iter().filter(|distance| Some(*distance) == least).count() == 2) as u64;
+                self.far += least.is_some_and(|&least| least > 32 && free <= 3) as u64;
+                self.ties +=
+                    (distances.iter().filter(|distance| Some(*distance) == least).count() == 2) as u64;
             }
         }
     }
 
-    /// Each of them is at least one in fifty.
+    /// Whether faults on nearly full larger disks are too few to tell anything, near and far.
+    pub fn never_full(&self) -> bool {
+        self.few_free < 20 || self.far < 5
+    }
+
+    /// Each of the first three is at least one in fifty.
     pub fn rare(&self) -> bool {
         [self.near, self.out_of_order, self.ties].into_iter().any(|count| count * 50 < self.all)
     }

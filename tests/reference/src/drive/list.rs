@@ -1,12 +1,13 @@
 //! A run: many lists of events at mixed sizes, two subjects side by side.
 
 use super::act::{Act, Before};
-use super::choose::Chooser;
+use super::choose::{Chooser, LARGE};
 use super::compare::{compare, promises, Side};
 use super::counts::Counts;
 use super::random::Random;
 use super::shadow::Shadow;
 use super::{cut, damage, misfit, Subject};
+use crate::bench::disk;
 use crate::keeper::Keeper;
 use crate::rules;
 use crate::tables::Sizes;
@@ -40,16 +41,47 @@ fn mixed(random: &mut Random) -> Sizes {
         3..=9 => [64, 300, 64, 16, 32, 16],
         10..=39 => [8, 60, 12, 6, 12, 4],
         40..=49 => return crate::program::SIZES,
+        50..=64 => return roomy(random),
         _ => [3, 12, 5, 4, 5, 3],
     };
     let [words, records, frames, slots, pages, accounts] = most.map(|most| random.up_to(most));
     Sizes { words, records, frames, slots, pages, accounts }
 }
 
-/// One list, from format on.
+/// More records than a few words of the free map tell, and more pages than records.
+fn roomy(random: &mut Random) -> Sizes {
+    Sizes {
+        words: 1,
+        records: LARGE + random.below(400),
+        frames: random.up_to(8),
+        slots: 8,
+        pages: 70,
+        accounts: 2,
+    }
+}
+
+/// A disk on which at most three records are free, if the designs have pages enough; one slot is empty, if there are two.
+fn nearly_full(sizes: Sizes, random: &mut Random) -> Keeper {
+    let mut keeper = Keeper::lent(sizes);
+    let filled = (sizes.slots - 1).max(1);
+    for slot in 0..filled {
+        keeper.disk.numbers[slot] = slot as u32 + 1;
+        keeper.disk.accounts[slot] = random.below(sizes.accounts) as u16;
+    }
+    let free = random.up_to(3);
+    let listed = sizes.records.saturating_sub(free).min(filled * sizes.pages);
+    disk::list(&mut keeper, filled, listed, random);
+    keeper
+}
+
+/// One list, from format on; or from a disk that is nearly full.
 fn list(subjects: &[Subject; 2], sizes: Sizes, seed: u64, length: usize, counts: &mut Counts) {
     let mut chooser = Chooser::new(seed, &sizes);
-    let mut keepers = [Keeper::lent(sizes), Keeper::lent(sizes)];
+    let start = match chooser.full {
+        true => nearly_full(sizes, &mut chooser.random),
+        false => Keeper::lent(sizes),
+    };
+    let mut keepers = [start.clone(), start];
     let mut shadow = Shadow::new(&keepers[0]);
     for number in 0..length {
         let act = chooser.next(&keepers[0]);

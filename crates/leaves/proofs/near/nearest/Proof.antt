@@ -1,111 +1,80 @@
--- `nearest` meets its contract: no record nearer than the distance reached is free.
+-- `nearest` meets its contract: the words passed on both sides have no free record.
 use borrow.Author.Needs.{needs}
-use Prim.Native.Nat.{_+_, _-_, _≤_}
+use mathlib.Core.Path.{_≡_, subst}
+use mathlib.Core.List.{List}
+use Prim.Native.Nat.{ℕ, suc, _+_, _-_, _*_, _/_, _<_, _≤_}
 use native.Mathlib.Omega.{arith}
-use lib.Dec.{leb, leb→le}
-use Rattle.tables.specs.Laws.{and-left}
-use Rattle.model.specs.Parts.{isFree}
-use Rattle.leaves.specs.FreeMap.{toldBy}
-use Rattle.leaves.specs.Near.{Farther, from-here, farther, below-found, above-found, none-near, said, unsaid}
+use Rattle.tables.specs.Base.{find}
+use Rattle.model.specs.declared.sizes.Sizes.{Sizes}
+use Rattle.leaves.specs.Search.{markAround, Around}
+use Rattle.leaves.proofs.Searched.{find-most, least-left, least-right, words-off, off-not-free, free-below}
 use Rattle.leaves.proofs.near.nearest.Statement.{statement}
 use Rattle.leaves.proofs.near.nearest.Tie as tie
 
-abbrev Inv-loop : tie.InvT-loop
-Inv-loop sizes map «record» end distance₀ distance = (distance ≤ end + 1) × Farther sizes (toldBy map) «record» distance
+module _ (z : Sizes) (map : List ℕ) (r : ℕ) where
+  -- past the last record
+  past : z .records ≤ r → Around z map r (z .records) r
+  past h = record { low = omega arith; most = omega arith; high = omega arith; none = λ i k l t. omega (arith, k, free-below z map i t) }
 
-abbrev μ-loop : tie.MeasureT-loop
-μ-loop sizes map «record» end distance₀ distance = end + 1 - distance
+  -- no word is passed
+  here : r < z .records → Around z map r (r + 1) r
+  here h = record { low = omega arith; most = omega arith; high = omega arith; none = λ i k l. absurd (omega arith) }
 
-loop-holds : tie.Need-loop-holds Inv-loop μ-loop
-loop-holds c =
-    let s : tie.Start Inv-loop μ-loop = search in
-    (omega arith, from-here (s .args .sizes) (toldBy (s .args .map .now)) (s .args .record))
+  -- k words are
+  wider : (n k d : ℕ) → r < z .records → ¬ (k ≡ 0) → k ≡ find n (markAround map (r / 32)) 0 → d ≡ r / 32 + 1 - k → Around z map r (d * 32) ((r / 32 + k) * 32)
+  wider n k d h o e f = record { low = omega (arith, o, f); most = omega (arith, h, o, f); high = omega (arith, o); none = λ i a b. off-not-free z map i (words-off map n (r / 32) k e i (omega (arith, a, f)) b) }
 
-sub-result : tie.Need-sub-result Inv-loop μ-loop
-sub-result c =
-    let s : tie.Start Inv-loop μ-loop = search in
-    let l : tie.At-loop Inv-loop μ-loop = search in
-    let d = l .loop .distance in
-    let r = s .args .record in
-    leb→le d r (and-left (leb d r) (isFree (s .args .sizes) (toldBy (s .args .map .now)) (r - d)) (said (c .before .free-below .ensures) (c .if1 .taken)))
+beyond-requires : tie.Need-beyond-requires
+beyond-requires c κs = let s : tie.Start = search in let a = s .args in (s .pre .0, s .pre .1, s .pre .2, s .pre .3, past (a .sizes) (a .map .now) (a .record) (c .if1 .taken))
 
-returns : tie.Need-returns Inv-loop μ-loop
-returns c =
-    let s : tie.Start Inv-loop μ-loop = search in
-    let l : tie.At-loop Inv-loop μ-loop = search in
-    let i : tie.In-loop Inv-loop μ-loop = search in
-    below-found (s .args .sizes) (toldBy (s .args .map .now)) (s .args .record) (l .loop .distance) (i .loop-test .taken) (l .loop .inv .1) (said (c .before .free-below .ensures) (c .if1 .taken))
+add-least : tie.Need-add-least
+add-least c = let s : tie.Start = search in omega (arith, s .pre .3)
 
-add-free-at : tie.Need-add-free-at Inv-loop μ-loop
-add-free-at c =
-    let s : tie.Start Inv-loop μ-loop = search in
-    let i : tie.In-loop Inv-loop μ-loop = search in
-    omega (arith, i .loop-test .taken, s .pre)
+add-least-2 : tie.Need-add-least-2
+add-least-2 c = let s : tie.Start = search in omega (arith, s .pre .2)
 
-add-result : tie.Need-add-result Inv-loop μ-loop
-add-result c =
-    let s : tie.Start Inv-loop μ-loop = search in
-    let i : tie.In-loop Inv-loop μ-loop = search in
-    omega (arith, i .loop-test .taken, s .pre)
+sub-least : tie.Need-sub-least
+sub-least c = let e : tie.Else1 = search in omega (arith, e .if1 .left)
 
-returns-2 : tie.Need-returns-2 Inv-loop μ-loop
-returns-2 c =
-    let s : tie.Start Inv-loop μ-loop = search in
-    let l : tie.At-loop Inv-loop μ-loop = search in
-    let i : tie.In-loop Inv-loop μ-loop = search in
-    let e : tie.Else1 Inv-loop μ-loop = search in
-    above-found (s .args .sizes) (toldBy (s .args .map .now)) (s .args .record) (l .loop .distance) (i .loop-test .taken) (l .loop .inv .1) (unsaid (e .before .free-below .ensures) (e .if1 .left)) (said (c .before .free-at .ensures) (c .if2 .taken))
+-- both sides have so many words
+both : (x : tie.After-least) → (x .least .result ≤ x .before .before .before .args .record / 32 + 1) × (x .least .result ≤ (x .before .before .before .args .sizes .records + 31) / 32 - x .before .before .before .args .record / 32)
+both x = let s : tie.Start = search in let w = s .args .record / 32 in let n = (s .args .sizes .records + 31) / 32 in (least-left (w + 1) (n - w) (x .least .result) (x .least .ensures), least-right (w + 1) (n - w) (x .least .result) (x .least .ensures))
 
-add-distance : tie.Need-add-distance Inv-loop μ-loop
-add-distance c =
-    let s : tie.Start Inv-loop μ-loop = search in
-    let i : tie.In-loop Inv-loop μ-loop = search in
-    omega (arith, i .loop-test .taken, s .pre)
+words-passed-requires : tie.Need-words-passed-requires
+words-passed-requires c κs = let s : tie.Start = search in let e : tie.Else1 = search in let b = both c in (b .0, omega (arith, b .1, e .if1 .left, s .pre .0), omega (arith, s .pre .3))
 
-loop-less : tie.Need-loop-less Inv-loop μ-loop
-loop-less c =
-    let i : tie.In-loop Inv-loop μ-loop = search in
-    omega (arith, i .loop-test .taken)
+add-beyond : tie.Need-add-beyond
+add-beyond c = let s : tie.Start = search in omega (arith, s .pre .3)
 
-loop-again : tie.Need-loop-again Inv-loop μ-loop
-loop-again c =
-    let s : tie.Start Inv-loop μ-loop = search in
-    let l : tie.At-loop Inv-loop μ-loop = search in
-    let i : tie.In-loop Inv-loop μ-loop = search in
-    let e : tie.Else1 Inv-loop μ-loop = search in
-    (omega (arith, i .loop-test .taken), farther (s .args .sizes) (toldBy (s .args .map .now)) (s .args .record) (l .loop .distance) (l .loop .inv .1) (unsaid (e .before .free-below .ensures) (e .if1 .left)) (unsaid (c .before .free-at .ensures) (c .if2 .left)))
+beyond-requires-2 : tie.Need-beyond-requires-2
+beyond-requires-2 c κs = let s : tie.Start = search in let e : tie.Else1 = search in let a = s .args in (s .pre .0, s .pre .1, s .pre .2, s .pre .3, here (a .sizes) (a .map .now) (a .record) (omega (arith, e .if1 .left)))
 
-add-result-2 : tie.Need-add-result-2 Inv-loop μ-loop
-add-result-2 c =
-    let s : tie.Start Inv-loop μ-loop = search in
-    let l : tie.At-loop Inv-loop μ-loop = search in
-    omega (arith, l .loop .inv .0, s .pre)
+add-less : tie.Need-add-less
+add-less c = let s : tie.Start = search in omega (arith, s .pre .3)
 
-returns-3 : tie.Need-returns-3 Inv-loop μ-loop
-returns-3 c =
-    let s : tie.Start Inv-loop μ-loop = search in
-    let l : tie.At-loop Inv-loop μ-loop = search in
-    let a : tie.After-loop Inv-loop μ-loop = search in
-    none-near (s .args .sizes) (toldBy (s .args .map .now)) (s .args .record) (l .loop .distance) (omega (arith, l .loop .inv .0, a .loop-test .left)) (l .loop .inv .1)
+-- so many words at most
+most : (x : tie.After-words-passed) → x .words-passed .result ≤ 2048
+most x = let s : tie.Start = search in let l : tie.After-least = search in let a = s .args in omega (arith, s .pre .3, both l .0, find-most (l .least .result) (markAround (a .map .now) (a .record / 32)) 0 (x .words-passed .result) (x .words-passed .ensures))
+
+mul-beyond : tie.Need-mul-beyond
+mul-beyond c = let s : tie.Start = search in let l : tie.After-less = search in omega (arith, l .less .ensures, s .pre .3)
+
+add-beyond-2 : tie.Need-add-beyond-2
+add-beyond-2 c = let s : tie.Start = search in let x : tie.After-words-passed = search in omega (arith, most x, s .pre .3)
+
+mul-beyond-2 : tie.Need-mul-beyond-2
+mul-beyond-2 c = let s : tie.Start = search in let x : tie.After-words-passed = search in omega (arith, most x, s .pre .3)
+
+beyond-requires-3 : tie.Need-beyond-requires-3
+beyond-requires-3 c κs =
+    let s : tie.Start = search in
+    let e : tie.Else1 = search in
+    let m : tie.After-least = search in
+    let x : tie.After-words-passed = search in
+    let n : tie.Else2 = search in
+    let l : tie.After-less = search in
+    let a = s .args in
+    (s .pre .0, s .pre .1, s .pre .2, s .pre .3, wider (a .sizes) (a .map .now) (a .record) (m .least .result) (x .words-passed .result) (l .less .result) (omega (arith, e .if1 .left)) (n .if2 .left) (x .words-passed .ensures) (l .less .ensures))
 
 pub nearest-spec : {M : Type 1} → statement M
-nearest-spec =
-    tie.close
-    (tie.spec
-    Inv-loop
-    μ-loop
-    (λ c. search needs)
-    loop-holds
-    (λ c κs. search needs)
-    sub-result
-    returns
-    add-free-at
-    (λ c κs. search needs)
-    add-result
-    returns-2
-    add-distance
-    loop-less
-    loop-again
-    add-result-2
-    (λ c. search needs)
-    returns-3)
+nearest-spec = tie.close (tie.spec beyond-requires (λ c. search needs) add-least add-least-2 sub-least (λ c κs. search needs) words-passed-requires add-beyond beyond-requires-2 (λ c. search needs) add-less (λ c κs. search needs) mul-beyond add-beyond-2 mul-beyond-2 beyond-requires-3 (λ c. search needs))

@@ -23,7 +23,7 @@ returns c =
     let f = c .before in
     let s = f .before .before in
     let m = s .args .map .now in
-    let e = f .find-free .ensures ∙ told m (s .args .sizes .records - s .args .hand) (s .args .hand) in
+    let e = f .first-mark .ensures ∙ told m (s .args .sizes .records - s .args .hand) (s .args .hand) in
     e ∙ sym (hand-high (s .args .sizes) (toldBy m) (s .args .hand) (s .pre .1) (rw (sym e) (c .if1 .taken)))
 
 returns-2 : tie.Need-returns-2
@@ -31,9 +31,9 @@ returns-2 c =
     let f = c .before .before in
     let s = f .before .before in
     let m = s .args .map .now in
-    let e = f .find-free .ensures ∙ told m (s .args .sizes .records - s .args .hand) (s .args .hand) in
+    let e = f .first-mark .ensures ∙ told m (s .args .sizes .records - s .args .hand) (s .args .hand) in
     let all : s .args .hand - 0 ≡ s .args .hand = omega arith in
-    c .find-free2 .ensures ∙ told m (s .args .hand - 0) 0 ∙ ap (λ (n : ℕ). find n (λ r. eqb (toldBy m r) FREE) 0) all ∙ sym (hand-low (s .args .sizes) (toldBy m) (s .args .hand) (s .pre .1) (λ h. omega (arith, c .before .if1 .left, rw (sym e) at h)))
+    c .first-mark2 .ensures ∙ told m (s .args .hand - 0) 0 ∙ ap (λ (n : ℕ). find n (λ r. eqb (toldBy m r) FREE) 0) all ∙ sym (hand-low (s .args .sizes) (toldBy m) (s .args .hand) (s .pre .1) (λ h. omega (arith, c .before .if1 .left, rw (sym e) at h)))
 
 pub by-hand-spec : {M : Type 1} → statement M
 by-hand-spec = tie.close (tie.spec (λ c κs. search needs) returns (λ c κs. search needs) returns-2)

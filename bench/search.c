@@ -1,0 +1,197 @@
+/* The search for a free record: faults that take the only free one of 4,096, at one distance after the other, by the proved keeper, by the C port, and by
+   the C port with the search as it was (old_search.h). bench/run.py builds it and makes the table.
+   search SECONDS prints the least times in nanoseconds; search alone makes each fault once, for callgrind to count, a file for each. */
+#include <stdbool.h>
+#include <stdio.h>
+#include <stdlib.h>
+#include <string.h>
+#include <time.h>
+#include <x86intrin.h>
+#include "../include/keeper.h"
+#undef KEEPER_H
+#define keeper_format c_port_format
+#define keeper_restart c_port_restart
+#define keeper_apply c_port_apply
+#define keeper_page_look c_port_page_look
+#include "keeper.h"
+#undef keeper_apply
+struct answer old_port_apply(struct keeper *keeper, struct request request);
+
+/* one word a record: the words of a page are not what is measured */
+enum { W = 1, R = MOST_RECORDS, F = MOST_FRAMES, S = MOST_SLOTS, N = MOST_PAGES, Q = MOST_ACCOUNTS, SIDES = 3, CASES = 25 };
+
+static struct {
+    uint32_t records[R * W], numbers[S];
+    uint16_t accounts[S], maps[S * N], limits[Q];
+} disk;
+static struct tables {
+    struct frame frames[F];
+    uint32_t frame_words[F * W];
+    uint16_t free_queue[F], removal_list[F], addresses[S * N];
+    uint8_t states[R], owners[R];
+    uint32_t free_map[R / 32];
+    uint8_t active[S], updating[S];
+    uint16_t images[S * N], used[Q];
+    struct pool pool;
+} memory, start;
+
+#define SLICE(table) {table, sizeof table / sizeof *table}
+static struct keeper keeper = {
+    {W, R, F, S, N, Q},
+    {SLICE(disk.records), SLICE(disk.numbers), SLICE(disk.accounts), SLICE(disk.maps), SLICE(disk.limits)},
+    {SLICE(memory.frames), SLICE(memory.frame_words), SLICE(memory.free_queue), SLICE(memory.removal_list), SLICE(memory.addresses),
+     SLICE(memory.states), SLICE(memory.owners), SLICE(memory.free_map), SLICE(memory.active), SLICE(memory.updating), SLICE(memory.images),
+     SLICE(memory.used), &memory.pool},
+};
+
+/* A fault on a page of slot 0, and the record that it must take; near: the record of page 0, or R for none. */
+struct one { const char *by, *side; size_t distance, near, hand, free, page; };
+
+/* All records but one are listed by designs that are not active; slot 0's is. */
+static void fill(const struct one *c)
+{
+    memset(&disk, 0, sizeof disk);
+    memset(disk.limits, 0xFF, sizeof disk.limits);
+    for (size_t slot = 0; slot < S; slot++)
+        disk.numbers[slot] = (uint32_t)slot + 1;
+    if (c->near < R)
+        disk.maps[0] = (uint16_t)(c->near + 1);
+    for (size_t record = 0, page = N; record < R; record++)
+        if (record != c->free && record != c->near)
+            disk.maps[page++] = (uint16_t)(record + 1);
+    struct request activate = {ACTIVATE, 0, 0, 0, 0};
+    if (c_port_restart(&keeper).refusal != 0 || c_port_apply(&keeper, activate).refusal != 0)
+        exit(1);
+    memory.pool.hand = (uint32_t)c->hand;
+    start = memory;
+}
+
+#define LENT(slice) (slice).at, (slice).len
+__attribute__((noinline)) static uint32_t fault(int side, uint32_t page)
+{
+    struct request request = {FAULT, 0, page, 0, 0};
+    if (side == 1)
+        return c_port_apply(&keeper, request).refusal;
+    if (side == 2)
+        return old_port_apply(&keeper, request).refusal;
+    KeeperSizes sizes = {W, R, F, S, N, Q};
+    KeeperRequest asked = {FAULT, 0, page, 0, 0};
+    struct disk *d = &keeper.disk;
+    struct memory *m = &keeper.memory;
+    return keeper_apply(sizes, asked, (KeeperFrame *)m->frames.at, m->frames.len, (KeeperPool *)m->pool, LENT(d->records), LENT(d->numbers),
+                        LENT(d->accounts), LENT(d->maps), LENT(d->limits), LENT(m->frame_words), LENT(m->free_queue), LENT(m->removal_list),
+                        LENT(m->addresses), LENT(m->states), LENT(m->owners), LENT(m->free_map), LENT(m->active), LENT(m->updating),
+                        LENT(m->images), LENT(m->used)).refusal;
+}
+
+/* The fault was carried out, the page has that record, and the hand stands past it. */
+static void check(const struct one *c, uint32_t refusal)
+{
+    if (refusal == 0 && memory.addresses[c->page] == c->free + 1 && memory.pool.hand == (c->free + 1) % R && memory.pool.free == 0)
+        return;
+    fprintf(stderr, "search: %s %zu %s: refusal %u, record %d\n", c->by, c->distance, c->side, refusal, memory.addresses[c->page] - 1);
+    exit(1);
+}
+
+/* Nothing to search for; then each distance, above and below. */
+static void list(struct one *cases)
+{
+    static const size_t distances[] = {1, 31, 32, 33, 1000, 4095};
+    *cases++ = (struct one){"none", "above", 0, R, 0, 0, 0};
+    for (size_t i = 0; i < 6; i++) {
+        size_t d = distances[i];
+        *cases++ = (struct one){"hand", "above", d, R, 0, d, 0};
+        *cases++ = (struct one){"hand", "below", d, R, R - 1, R - 1 - d, 0};
+        *cases++ = (struct one){"neighbour", "above", d, 0, 0, d, 1};
+        *cases++ = (struct one){"neighbour", "below", d, R - 1, 0, R - 1 - d, 1};
+    }
+}
+
+static uint64_t ticks(void)
+{
+    _mm_lfence();
+    uint64_t now = __rdtsc();
+    _mm_lfence();
+    return now;
+}
+
+static double seconds(void)
+{
+    struct timespec now;
+    clock_gettime(CLOCK_MONOTONIC, &now);
+    return (double)now.tv_sec + (double)now.tv_nsec * 1e-9;
+}
+
+/* Faults for so long, the sides in turn; prints each case's least time by each side. */
+static void measure(const struct one *cases, double wanted)
+{
+    static uint64_t least[CASES][SIDES];
+    memset(least, 0xFF, sizeof least);
+    double begun = seconds();
+    uint64_t from = ticks(), own = UINT64_MAX;
+    long rounds = 0;
+    for (; rounds < 3 || seconds() - begun < wanted; rounds++)
+        for (int n = 0; n < CASES; n++) {
+            fill(&cases[n]);
+            for (int turn = 0; turn < 10 * SIDES; turn++) {
+                memory = start;
+                uint64_t first = ticks(), before = ticks();
+                uint32_t refusal = fault(turn % SIDES, (uint32_t)cases[n].page);
+                uint64_t took = ticks() - before;
+                check(&cases[n], refusal);
+                own = before - first < own ? before - first : own;
+                if (took < least[n][turn % SIDES])
+                    least[n][turn % SIDES] = took;
+            }
+        }
+    double nanoseconds = (seconds() - begun) * 1e9 / (double)(ticks() - from);
+    printf("rounds\t%ld\n", rounds * 10);
+    for (int n = 0; n < CASES; n++) {
+        printf("%s\t%zu\t%s", cases[n].by, cases[n].distance, cases[n].side);
+        for (int side = 0; side < SIDES; side++)
+            printf("\t%.0f", (double)(least[n][side] - own) * nanoseconds);
+        printf("\n");
+    }
+}
+
+/* CALLGRIND_DUMP_STATS, _START_INSTRUMENTATION and _STOP_ of valgrind/callgrind.h, by the instructions that valgrind knows them by */
+enum { DUMP = 0x43540000, START = 0x43540004, STOP = 0x43540005 };
+
+static void callgrind(uint64_t request)
+{
+    uint64_t values[6] = {request}, result = 0;
+    __asm__ volatile("rolq $3, %%rdi; rolq $13, %%rdi; rolq $61, %%rdi; rolq $51, %%rdi; xchgq %%rbx, %%rbx"
+                     : "+d"(result) : "a"(values) : "cc", "memory");
+}
+
+static void count(const struct one *cases)
+{
+    fill(cases);
+    for (int side = 0; side < SIDES; side++) { /* so that no first call of a library function is counted */
+        memory = start;
+        check(cases, fault(side, 0));
+    }
+    for (int n = 0; n < CASES; n++) {
+        fill(&cases[n]);
+        for (int side = 0; side < SIDES; side++) {
+            memory = start;
+            callgrind(START);
+            uint32_t refusal = fault(side, (uint32_t)cases[n].page);
+            callgrind(STOP);
+            callgrind(DUMP);
+            check(&cases[n], refusal);
+        }
+        printf("%s\t%zu\t%s\n", cases[n].by, cases[n].distance, cases[n].side);
+    }
+}
+
+int main(int words, char **word)
+{
+    static struct one cases[CASES];
+    list(cases);
+    if (words > 1)
+        measure(cases, atof(word[1]));
+    else
+        count(cases);
+    return 0;
+}
