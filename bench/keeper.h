@@ -64,11 +64,14 @@ struct keeper {
 /* kind: the event program's tag; then its values in that program's order */
 struct request { uint32_t kind, first, second, third, fourth; };
 struct answer { uint32_t refusal, result; };
+struct change { uint32_t slot, page, old, reason; };
+struct changes { struct change *at; size_t len; };
 struct part { uint32_t refusal; size_t start, count; };
 
 struct answer keeper_format(struct keeper *keeper);
 struct answer keeper_restart(struct keeper *keeper);
 struct answer keeper_apply(struct keeper *keeper, struct request request);
+struct answer keeper_mend(struct keeper *keeper, struct changes changes);
 struct part keeper_page_look(const struct keeper *keeper, size_t slot, size_t page);
 
 #endif

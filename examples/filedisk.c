@@ -161,10 +161,10 @@ static void name_sizes(char *text, size_t room, const Keeper *keeper, const uint
         used += (size_t)snprintf(text + used, room - used, " %c %u", keeper_size(keeper->sizes, number).letter, (unsigned)sizes[number]);
 }
 
-/* Whether this keeper may use the disk with that header. */
-static int compare(FileDisk *disk, const Keeper *keeper, const HeaderBlock *wanted, const HeaderBlock *found)
+/* Whether it is a header, of this version and for these tables. */
+static int recognise(FileDisk *disk, const HeaderBlock *found)
 {
-    char line[sizeof disk->line], here[80], there[80];
+    char line[sizeof disk->line];
     if (memcmp(found->header.magic, MAGIC, sizeof MAGIC) != 0)
         return refused(disk, FILEDISK_NO_DISK, "no disk of the keeper: never formatted, or a cut fell in the format");
     if (!is_sealed(found))
@@ -175,6 +175,35 @@ static int compare(FileDisk *disk, const Keeper *keeper, const HeaderBlock *want
     }
     if (found->header.size_count != KEEPER_SIZE_COUNT || found->header.table_count != KEEPER_DISK_COUNT)
         return refused(disk, FILEDISK_OTHER_SIZES, "the disk was formatted by a keeper with other tables");
+    return FILEDISK_GOOD;
+}
+
+int filedisk_sizes(FileDisk *disk, FileBlocks blocks, KeeperSizes *sizes)
+{
+    HeaderBlock found;
+    unsigned char last;
+    memset(disk, 0, sizeof *disk);
+    if (blocks.read(blocks.self, 0, found.bytes, FILEDISK_BLOCK) != 0)
+        return refused(disk, FILEDISK_DEVICE, "the device failed: the header block cannot be read");
+    const int answer = recognise(disk, &found);
+    if (answer != FILEDISK_GOOD)
+        return answer;
+    uint64_t end = FILEDISK_BLOCK + FILEDISK_JOURNAL;
+    for (size_t number = 0; number < KEEPER_DISK_COUNT; number++)
+        end += whole_blocks((uint64_t)found.header.width[number] * found.header.count[number]);
+    if (blocks.read(blocks.self, end - 1, &last, 1) != 0)
+        return refused(disk, FILEDISK_DEVICE, "the device failed: it is shorter than its tables");
+    *sizes = keeper_sizes_of(found.header.sizes);
+    return FILEDISK_GOOD;
+}
+
+/* Whether this keeper may use the disk with that header. */
+static int compare(FileDisk *disk, const Keeper *keeper, const HeaderBlock *wanted, const HeaderBlock *found)
+{
+    char line[sizeof disk->line], here[80], there[80];
+    const int answer = recognise(disk, found);
+    if (answer != FILEDISK_GOOD)
+        return answer;
     name_sizes(here, sizeof here, keeper, wanted->header.sizes);
     name_sizes(there, sizeof there, keeper, found->header.sizes);
     snprintf(line, sizeof line, "the disk was formatted with%s, this keeper has%s", there, here);
@@ -333,6 +362,21 @@ int filedisk_open(FileDisk *disk, FileBlocks blocks, Keeper *keeper)
     if (refusal != KEEPER_DONE)
         return refused(disk, FILEDISK_RESTART, keeper_text(refusal));
     return FILEDISK_GOOD;
+}
+
+int filedisk_replace(FileDisk *disk, const Keeper *keeper)
+{
+    /* the journal goes first: its store must not come back over the new tables */
+    int failed = zeros(disk, FILEDISK_BLOCK, FILEDISK_BLOCK + FILEDISK_JOURNAL);
+    for (size_t number = 0; number < KEEPER_DISK_COUNT && failed == 0; number++) {
+        KeeperTable table = keeper_table(keeper, number);
+        failed = disk->blocks.write(disk->blocks.self, disk->table_at[number], table.at, table.width * table.count);
+    }
+    if (failed == 0)
+        failed = disk->blocks.sync(disk->blocks.self);
+    if (failed != 0)
+        refused(disk, FILEDISK_DEVICE, "the device failed: the disk part cannot be written");
+    return failed;
 }
 
 /* ── the driver ── */

@@ -56,6 +56,13 @@ int filedisk_format(FileDisk *disk, FileBlocks blocks, Keeper *keeper);
 /* A disk after a cut: the header is checked, the journal's store brought to its places, the disk part read, the keeper restarted. */
 int filedisk_open(FileDisk *disk, FileBlocks blocks, Keeper *keeper);
 
+/* The sizes that a disk was formatted with, by its header; it must be as long as that says. */
+int filedisk_sizes(FileDisk *disk, FileBlocks blocks, KeeperSizes *sizes);
+
+/* The keeper's disk part in place of the disk's, for a disk that open refused with FILEDISK_RESTART and that was mended since. A cut
+ * within it leaves neither: do it on a copy. 0, or -1, and the disk is dead. */
+int filedisk_replace(FileDisk *disk, const Keeper *keeper);
+
 /* Entries of a table that a store changes, and what they become. */
 typedef struct {
     size_t table, first, count;

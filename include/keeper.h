@@ -58,6 +58,20 @@ typedef struct {
     size_t start, count;
 } KeeperPart;
 
+/* A change that mend lists: the slot; the page, or N for the slot's number or account; what stood there; and the step that changed it. */
+typedef struct {
+    uint32_t slot, page, old, reason;
+} KeeperChange;
+
+/* The reasons of a change. */
+enum {
+    KEEPER_SAME_NUMBER = 1,   /* the slot's number stands in a lower slot, so the slot is emptied */
+    KEEPER_EMPTY_SLOT = 2,    /* the slot is empty, so its account is 0 and its map zero */
+    KEEPER_WRONG_ACCOUNT = 3, /* there is no such account, so it becomes 0 */
+    KEEPER_WRONG_ENTRY = 4,   /* there is no such record, so the page is one of zeros */
+    KEEPER_SHARED_RECORD = 5  /* the record stands in another entry too, so it is in none */
+};
+
 /* The layouts that the calls are proved for. */
 #if defined __cplusplus
 #define KEEPER_ASSERT static_assert
@@ -72,6 +86,7 @@ KEEPER_ASSERT(sizeof(KeeperFrame) == 8 && offsetof(KeeperFrame, transfer) == 6, 
 KEEPER_ASSERT(sizeof(KeeperPool) == 8, "hand at 0, free at 4");
 KEEPER_ASSERT(sizeof(KeeperRequest) == 20, "five numbers of 4 bytes");
 KEEPER_ASSERT(sizeof(KeeperAnswer) == 8, "refusal at 0, result at 4");
+KEEPER_ASSERT(sizeof(KeeperChange) == 16, "four numbers of 4 bytes");
 KEEPER_ASSERT(sizeof(KeeperPart) == 24 && offsetof(KeeperPart, start) == 8, "refusal at 0, start at 8, count at 16");
 
 /* The kinds of request. */
@@ -117,8 +132,9 @@ enum {
     KEEPER_NO_RECORD = 19,      /* fault: no record is free */
     KEEPER_NO_FRAME = 20,       /* fault: no frame is free */
     KEEPER_NOTHING_TO_CLAIM = 21, /* claim: the removal list is empty */
-    KEEPER_NO_TRANSFER = 22     /* done: no such transfer or update is under way */
+    KEEPER_NO_TRANSFER = 22,    /* done: no such transfer or update is under way */
     /* 23 is reserved: no call answers it */
+    KEEPER_LIST_SHORT = 24      /* mend: the list has fewer than S * (N + 2) places */
 };
 
 /* tables and calls: made by tools/tables.py from tools/tables.txt */
@@ -164,6 +180,7 @@ enum {
     KEEPER_LEND((memory).updating),     \
     KEEPER_LEND((memory).images),       \
     KEEPER_LEND((memory).used)
+#define KEEPER_LEND_CHANGES(changes) &(changes)->slot, sizeof(changes) / sizeof(uint32_t) /* an array of KeeperChange */
 
 /* The calls; beside each table the count that is asked for. */
 
@@ -249,6 +266,19 @@ KeeperPart keeper_page_look(
     const uint8_t *updating, size_t updating_count,          /* S */
     const uint16_t *images, size_t images_count,             /* S * N */
     const uint16_t *used, size_t used_count                  /* Q */
+);
+
+/* Mends a disk part that restart answers 2, before restart is called again; docs/USING.md says what is lost. Lent: the disk
+ * part, of which records and limits are only read, and a list for the changes, four numbers a place (KEEPER_LEND_CHANGES).
+ * Answers 0, 1 or 24. The result is how many changes are listed; the list's later places are untouched. */
+KeeperAnswer keeper_mend(
+    KeeperSizes sizes,
+    const uint32_t *records, size_t records_count, /* R * W */
+    uint32_t *numbers, size_t numbers_count,       /* S */
+    uint16_t *accounts, size_t accounts_count,     /* S */
+    uint16_t *maps, size_t maps_count,             /* S * N */
+    const uint16_t *limits, size_t limits_count,   /* Q */
+    uint32_t *changes, size_t changes_count        /* 4 * S * (N + 2), or more */
 );
 /* end of tables and calls */
 

@@ -115,6 +115,19 @@ static inline KeeperSize keeper_size(KeeperSizes sizes, size_t number)
     return all[number];
 }
 
+/* .. and from numbers in that order, as a device keeps them. */
+static inline KeeperSizes keeper_sizes_of(const uint32_t values[KEEPER_SIZE_COUNT])
+{
+    KeeperSizes sizes;
+    sizes.words = values[0];
+    sizes.records = values[1];
+    sizes.frames = values[2];
+    sizes.slots = values[3];
+    sizes.pages = values[4];
+    sizes.accounts = values[5];
+    return sizes;
+}
+
 /* Lays the tables into a block, one behind the other, and says how many bytes they take; without a block only that. */
 static inline size_t keeper_lay(Keeper *keeper, unsigned char *block)
 {
@@ -259,6 +272,19 @@ static inline KeeperPart keeper_easy_page_look(const Keeper *keeper, size_t slot
         keeper->used, sizes.accounts);
 }
 
+static inline KeeperAnswer keeper_easy_mend(Keeper *keeper, KeeperChange *changes, size_t places)
+{
+    const KeeperSizes sizes = keeper->sizes;
+    return keeper_mend(
+        sizes,
+        keeper->records, sizes.records * sizes.words,
+        keeper->numbers, sizes.slots,
+        keeper->accounts, sizes.slots,
+        keeper->maps, sizes.slots * sizes.pages,
+        keeper->limits, sizes.accounts,
+        (uint32_t *)changes, 4 * places);
+}
+
 /* The events, one function each; the values are in the order of the requests. */
 static inline KeeperAnswer keeper_asked(
     Keeper *keeper, uint32_t kind, uint32_t first, uint32_t second, uint32_t third, uint32_t fourth)
@@ -374,7 +400,21 @@ static inline const char *keeper_text(uint32_t refusal)
     case KEEPER_NO_FRAME: return "fault: no frame is free";
     case KEEPER_NOTHING_TO_CLAIM: return "claim: the removal list is empty";
     case KEEPER_NO_TRANSFER: return "done: no such transfer or update is under way";
+    case KEEPER_LIST_SHORT: return "mend: the list has fewer than S * (N + 2) places";
     default: return "no refusal of this keeper";
+    }
+}
+
+/* A change's reason in words. */
+static inline const char *keeper_reason(uint32_t reason)
+{
+    switch (reason) {
+    case KEEPER_SAME_NUMBER: return "the slot's number stands in a lower slot, so the slot is emptied";
+    case KEEPER_EMPTY_SLOT: return "the slot is empty, so its account is 0 and its map zero";
+    case KEEPER_WRONG_ACCOUNT: return "there is no such account, so it becomes 0";
+    case KEEPER_WRONG_ENTRY: return "there is no such record, so the page is one of zeros";
+    case KEEPER_SHARED_RECORD: return "the record stands in another entry too, so it is in none";
+    default: return "no reason of this keeper";
     }
 }
 /* end of tables and calls */

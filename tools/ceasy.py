@@ -60,10 +60,14 @@ def fits():
 
 def sizes_text():
     rows = [f"{{'{size.letter}', sizes.{size.name}}}" for size in lent.SIZES]
+    stored = [f"    sizes.{size.name} = values[{number}];\n" for number, size in enumerate(lent.SIZES)]
     return (
         f"/* The sizes by their letters. */\nenum {{ KEEPER_SIZE_COUNT = {len(rows)} }};\ntypedef struct {{\n    char letter;\n    size_t value;\n}} KeeperSize;\n"
         "static inline KeeperSize keeper_size(KeeperSizes sizes, size_t number)\n{\n"
         f"    const KeeperSize all[KEEPER_SIZE_COUNT] = {{{', '.join(rows)}}};\n    return all[number];\n}}\n"
+        "\n/* .. and from numbers in that order, as a device keeps them. */\n"
+        "static inline KeeperSizes keeper_sizes_of(const uint32_t values[KEEPER_SIZE_COUNT])\n{\n    KeeperSizes sizes;\n"
+        + "".join(stored) + "    return sizes;\n}\n"
     )
 
 
@@ -93,6 +97,10 @@ def listed():
 
 
 # ── the calls and the events ──
+# what a call takes behind the tables: as parameters of the easy call, and as it hands them on
+BEHIND = {"mend": (", KeeperChange *changes, size_t places", ["(uint32_t *)changes, 4 * places"])}
+
+
 def lend(table, call):
     """A table of the struct as arguments of a call."""
     if table.is_one():
@@ -103,9 +111,9 @@ def lend(table, call):
 def call(name):
     """A call over the struct: what it takes before the tables stays, but for the sizes."""
     own = ctext.FIRST[name][1:]
-    taken = "".join(f", {word}" for word in own)
+    taken = "".join(f", {word}" for word in own) + BEHIND.get(name, ("", []))[0]
     handed = ["sizes"] + [re.sub(r"^.*[ *]", "", word) for word in own]
-    lends = handed + [lend(table, name) for table in lent.in_call(name)]
+    lends = handed + [lend(table, name) for table in lent.in_call(name)] + BEHIND.get(name, ("", []))[1]
     body = ",\n        ".join(lends)
     const = "" if any(table.lent[name] == "mut" for table in lent.in_call(name)) else "const "
     easy = ctext.NAMES[name].replace("keeper_", "keeper_easy_")
@@ -127,11 +135,12 @@ def event(name, comment):
     )
 
 
-def texts():
-    rows = [f'    case KEEPER_{name}: return "{comment}";\n' for name, _, comment in enum("/* The refusals.")]
+def texts(title, comment, name, number, none):
+    """The members of an enum in words."""
+    rows = [f'    case KEEPER_{member}: return "{words}";\n' for member, _, words in enum(title)]
     return (
-        "/* A refusal in words. */\nstatic inline const char *keeper_text(uint32_t refusal)\n{\n    switch (refusal) {\n"
-        + "".join(rows) + '    default: return "no refusal of this keeper";\n    }\n}\n'
+        f"/* {comment} */\nstatic inline const char *{name}(uint32_t {number})\n{{\n    switch ({number}) {{\n"
+        + "".join(rows) + f'    default: return "{none}";\n    }}\n}}\n'
     )
 
 
@@ -159,5 +168,6 @@ def easy():
         "\n".join(parts)
         + "\n/* The calls of keeper.h over the struct: easy_ stands in their names. */\n" + calls
         + "\n/* The events, one function each; the values are in the order of the requests. */\n" + ASKED + "\n" + events
-        + "\n" + texts()
+        + "\n" + texts("/* The refusals.", "A refusal in words.", "keeper_text", "refusal", "no refusal of this keeper")
+        + "\n" + texts("/* The reasons of a change.", "A change's reason in words.", "keeper_reason", "reason", "no reason of this keeper")
     )

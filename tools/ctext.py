@@ -11,14 +11,17 @@ SLICES = {"u8": "bytes", "u16": "halves", "u32": "words", "Frame": "frames"}
 RUST_TYPES = {"KeeperSizes": "Sizes", "KeeperRequest": "Request", "size_t": "usize"}
 
 # each call's name, its answer, what it takes before the tables, and what the header says of it
-NAMES = {"format": "keeper_format", "restart": "keeper_restart", "apply": "keeper_apply", "look": "keeper_page_look"}
-ANSWERS = {"format": "Answer", "restart": "Answer", "apply": "Answer", "look": "Part"}
+NAMES = {"format": "keeper_format", "restart": "keeper_restart", "apply": "keeper_apply", "look": "keeper_page_look", "mend": "keeper_mend"}
+ANSWERS = {"format": "Answer", "restart": "Answer", "apply": "Answer", "look": "Part", "mend": "Answer"}
 FIRST = {
     "format": ["KeeperSizes sizes"],
     "restart": ["KeeperSizes sizes"],
     "apply": ["KeeperSizes sizes", "KeeperRequest request"],
     "look": ["KeeperSizes sizes", "size_t slot", "size_t page"],
+    "mend": ["KeeperSizes sizes"],
 }
+# what a call takes behind the tables, and its count
+LAST = {"mend": [("uint32_t *changes, size_t changes_count", "4 * S * (N + 2), or more")]}
 COMMENTS = {
     "format": ["Zeroes the disk part, once for a new disk. Lent: the disk part. Answers 0 or 1."],
     "restart": [
@@ -29,6 +32,11 @@ COMMENTS = {
     "look": [
         "A page look: which part of frame_words the page is. Lent: everything, only read; the pool goes by value. Refused as a",
         "read is.",
+    ],
+    "mend": [
+        "Mends a disk part that restart answers 2, before restart is called again; docs/USING.md says what is lost. Lent: the disk",
+        "part, of which records and limits are only read, and a list for the changes, four numbers a place (KEEPER_LEND_CHANGES).",
+        "Answers 0, 1 or 24. The result is how many changes are listed; the list's later places are untouched.",
     ],
 }
 
@@ -46,8 +54,9 @@ def parameter(table, call):
 def prototype(call):
     """A call as the header declares it, with the count of each table."""
     tables = in_call(call)
-    words = FIRST[call] + [parameter(table, call) for table in tables]
-    lengths = [""] * len(FIRST[call]) + ["" if table.is_one() else table.length for table in tables]
+    last = LAST.get(call, [])
+    words = FIRST[call] + [parameter(table, call) for table in tables] + [word for word, _ in last]
+    lengths = [""] * len(FIRST[call]) + ["" if table.is_one() else table.length for table in tables] + [length for _, length in last]
     words = [word + "," for word in words[:-1]] + words[-1:]
     width = max(map(len, words)) + 1
     body = [f"    {word:{width}}/* {length} */\n" if length else f"    {word}\n" for word, length in zip(words, lengths)]
@@ -90,6 +99,7 @@ def header():
         + "\n/* A table as arguments, a pointer and a count of elements; and a struct's tables of numbers, in the order of the calls. */\n"
         + "#define KEEPER_LEND(table) (table), sizeof(table) / sizeof *(table)\n"
         + "".join(map(arguments, PARTS))
+        + "#define KEEPER_LEND_CHANGES(changes) &(changes)->slot, sizeof(changes) / sizeof(uint32_t) /* an array of KeeperChange */\n"
         + "\n/* The calls; beside each table the count that is asked for. */\n\n"
         + "\n".join(map(prototype, CALLS))
     )
@@ -151,8 +161,13 @@ def linked_calls():
         count = "" if table.is_one() else f"        {table.name}_count: usize,\n"
         return f"        {table.name}: {how}{table.element},\n{count}"
 
+    def behind(word):
+        pointer, count = word.split(", ")
+        return f"        {pointer.split('*')[1]}: *mut u32,\n        {count.split()[1]}: usize,\n"
+
     def call_text(call):
         body = "".join(map(first, FIRST[call])) + "".join(declared(table, call) for table in in_call(call))
+        body += "".join(behind(word) for word, _ in LAST.get(call, []))
         return f"    fn {NAMES[call]}(\n{body}    ) -> {ANSWERS[call]};\n"
 
     return '#[link(name = "keeper", kind = "static")]\nextern "C" {\n' + "".join(map(call_text, CALLS)) + "}\n"
@@ -164,9 +179,11 @@ def linked_lends():
         at = f"$keeper.{table.part}.{table.name}"
         return "                $pool,\n" if table.is_one() else f"                {at}.$at(),\n                {at}.len(),\n"
 
-    def lend(pattern, first, call):
-        body = "                $keeper.sizes,\n" + first + "".join(map(argument, in_call(call)))
+    def lend(pattern, first, call, last=""):
+        body = "                $keeper.sizes,\n" + first + "".join(map(argument, in_call(call))) + last
         return f"    ({pattern}) => {{\n        unsafe {{\n            $name(\n{body}            )\n        }}\n    }};\n"
 
     everything = lend("$name:ident($keeper:ident; $($first:expr),*; $pool:expr; $at:ident)", "                $($first,)*\n", "apply")
-    return "macro_rules! lend {\n" + everything + lend("$name:ident($keeper:ident; disk; $at:ident)", "", "format") + "}\n"
+    return "macro_rules! lend {\n" + everything + lend(
+        "$name:ident($keeper:ident; disk; $at:ident$(; $last:expr)*)", "", "format", "                $($last,)*\n"
+    ) + "}\n"

@@ -7,7 +7,10 @@ from regions import Bad
 
 ROOT = pathlib.Path(__file__).resolve().parent.parent
 LIST = ROOT / "tools" / "tables.txt"
-CALLS = ("format", "restart", "apply", "look")
+# the calls that the list has a column for; mend takes the disk part, these tables to be changed and the others only read
+COLUMNS = ("format", "restart", "apply", "look")
+MENDED = ("numbers", "accounts", "maps")
+CALLS = (*COLUMNS, "mend")
 PARTS = ("disk", "memory")
 WIDTHS = {"u8": 1, "u16": 2, "u32": 4, "Frame": 8, "Pool": 8}
 LENDING = {"mut", "ref", "val", "-"}
@@ -38,6 +41,12 @@ class Table(NamedTuple):
         return self.element == "Pool"
 
 
+def lending(cells):
+    """How each call lends the table of a line."""
+    mend = "-" if cells[1] != "disk" else "mut" if cells[0] in MENDED else "ref"
+    return {**dict(zip(COLUMNS, cells[5:9])), "mend": mend}
+
+
 def read(text):
     """The sizes and the tables of a list."""
     sizes, tables = [], []
@@ -48,7 +57,7 @@ def read(text):
         if len(cells) == 5:
             sizes.append(Size(cells[0], cells[1], *map(int, cells[2:])))
         elif len(cells) == 10 and cells[1] in PARTS and cells[2] in WIDTHS and set(cells[5:9]) <= LENDING:
-            tables.append(Table(*cells[:5], dict(zip(CALLS, cells[5:9])), cells[9]))
+            tables.append(Table(*cells[:5], lending(cells), cells[9]))
         else:
             raise Bad(f"tools/tables.txt: no size and no table: {line}")
     return sizes, tables

@@ -96,7 +96,7 @@ class Header(unittest.TestCase):
 
     def test_calls(self):
         self.assertEqual(prototypes(), calls())
-        self.assertEqual(sorted(calls()), ["keeper_apply", "keeper_format", "keeper_page_look", "keeper_restart"])
+        self.assertEqual(sorted(calls()), ["keeper_apply", "keeper_format", "keeper_mend", "keeper_page_look", "keeper_restart"])
 
     def test_limits(self):
         source = dict(re.findall(r"const (MOST_\w+): usize = (\w+);", (MODEL / "sizes.rt").read_text()))
@@ -105,10 +105,11 @@ class Header(unittest.TestCase):
         self.assertEqual(len(header), 6)
 
     def test_refusals(self):
-        source = re.findall(r"pub const (\w+): u32 = (\d+);", (MODEL / "refusals.rt").read_text())
+        text = (MODEL / "refusals.rt").read_text() + (ROOT / "crates" / "mending" / "src" / "lib.rt").read_text()
+        source = re.findall(r"pub const (\w+): u32 = (\d+);", text)
         header = re.findall(r"KEEPER_(\w+) = (\d+)", HEADER.read_text().partition("/* The refusals. */")[2])
         self.assertEqual([("DONE", "0")] + source, header)
-        self.assertEqual([int(number) for _, number in source], list(range(1, 23)))
+        self.assertEqual([int(number) for _, number in source], list(range(1, 23)) + [24])
 
 
 if __name__ == "__main__":

@@ -110,6 +110,12 @@ class Whole(unittest.TestCase):
         fields = set(re.findall(r"^  pub (\w+) :", source("", "Demand3"), re.M)) - {"disk"}
         self.all_said("Demand3", set(rules) | fields)
 
+    def test_claim_from_pack(self):
+        text = source("", "FromPack")
+        rules = set(re.search(r"fromPack = (.*)", text).group(1).replace(" z w", "").split(" and "))
+        self.all_said("Demand3", rules - defined(text))
+        self.all_said("FromPack", rules & defined(text))
+
     def test_edges(self):
         text = source("", "Edges")
         names = set(re.findall(r"^ *(e\d+(?:-\w+)?) :", text, re.M))

@@ -20,9 +20,9 @@ STEP = (CRATES / "model" / "specs" / "Step.antt").read_text()
 KEEPER = (CRATES / "keeper" / "src" / "lib.rt").read_text()
 REFERENCE = (lent.ROOT / "tests" / "reference" / "src" / "tables.rs").read_text()
 # the calls of the source, and the column of the list that says how each lends a table
-CODE_CALLS = {"keeper_format": "format", "keeper_restart": "restart", "keeper_apply": "apply", "page_look": "look", "keeper_page_look": "look"}
+CODE_CALLS = {"keeper_format": "format", "keeper_restart": "restart", "keeper_apply": "apply", "page_look": "look", "keeper_page_look": "look", "keeper_mend": "mend"}
 # what a call takes beside the tables
-BESIDE = {"sizes", "request", "slot", "page", "refusal"}
+BESIDE = {"sizes", "request", "slot", "page", "refusal", "changes"}
 
 
 def parameters(name):
@@ -129,6 +129,7 @@ class NewTable(unittest.TestCase):
         self.assertEqual([table.name for table in lent.in_call("restart")][:2], ["frames", "pool"])
         self.assertEqual([table.name for table in lent.in_call("format")][-2:], ["parents", "highest"])
         self.assertEqual([table.name for table in lent.in_call("apply")][-2:], ["used", "line"])
+        self.assertEqual([(table.name, table.lent["mend"]) for table in lent.in_call("mend")][-2:], [("parents", "ref"), ("highest", "ref")])
 
     def test_the_header_compiles(self):
         text = (lent.ROOT / "include" / "keeper.h").read_text()

@@ -21,12 +21,12 @@ use Rattle.model.specs.Parts.{ofSlot}
 use Rattle.model.specs.Designs as Designs
 use Rattle.model.specs.Step.{carried}
 use Rattle.model.specs.Fit.{Fit}
-use Rattle.model.specs.Ledger.{Ledger, Write, note, put, over, setText, setDesign}
+use Rattle.model.specs.Ledger.{Ledger, Write, packDesign, note, put, over, setText, setDesign}
 use Rattle.model.specs.Acts.{fed}
 use Rattle.model.specs.Demand3.{lastUpdate}
 use Rattle.model.specs.Index.{split-set, slot-below, page-again}
-use Rattle.crash.proofs.Writes.{split-put, put-other, split-over}
-use Rattle.crash.proofs.Link.{Own, OfPage, Designs, Tied}
+use Rattle.crash.proofs.Writes.{split-put, put-other, split-over, none-updated}
+use Rattle.crash.proofs.Link.{Owned, OfPage, Designs, Newborn, Tied}
 use Rattle.crash.proofs.Steps.{Step}
 use Rattle.crash.proofs.OneFrame.{in-frame-same, alike-same}
 
@@ -56,14 +56,18 @@ module _ (z : Sizes) (st : State) (l : Ledger) (fit : Fit z st) (rules : Ruled z
   same-of : (t : ℕ) → ¬ (t ≡ s) → of′ t ≡ of t
   same-of t e = put-other of s d t e
 
-  own : (i r : ℕ) (x : Write) → ¬ (slotOf z i ≡ s) → Own z (at (st .disk .records)) of x i r → Own z (at (st .disk .records)) of′ x i r
-  own i r x e o = record { some = o .some; design = o .design ∙ sym (same-of (slotOf z i) e); page = o .page; words = o .words; counts = o .counts }
+  own : (i r : ℕ) (x : Write) → ¬ (slotOf z i ≡ s) → Owned z (l .pack) (at (st .disk .records)) of x i r → Owned z (l .pack) (at (st .disk .records)) of′ x i r
+  own i r x e o = let q = same-of (slotOf z i) e in elim o [
+    | inl a ↦ inl (record { some = a .some; design = a .design ∙ sym q; page = a .page; words = a .words; counts = a .counts })
+    | inr a ↦ inr (record { none = a .none; listed = a .listed; design = q ∙ a .design; words = a .words })
+  ]
 
   -- a write of the page as it is now named was one before
   of-page : (i : ℕ) (y : Write) → ¬ (slotOf z i ≡ s) → OfPage z of′ i y → OfPage z of i y
   of-page i y e q = (q .0 ∙ same-of (slotOf z i) e, q .1)
 
-  module _ (numbers′ accounts′ : List ℕ) (births′ : ℕ) (text′ : ℕ → ℕ → ℕ) (kept′ : ℕ → Bool) (designs : Designs z (at numbers′) births′ of′ (l .stored)) (unknown : (p : ℕ) → ¬ (T (lastUpdate d (l .stored) .live p)))
+  module _ (numbers′ accounts′ : List ℕ) (births′ : ℕ) (text′ : ℕ → ℕ → ℕ) (kept′ : ℕ → Bool) (designs : Designs z (l .pack) (at numbers′) births′ of′ (l .stored)) (unknown : (p : ℕ) → ¬ (T (lastUpdate d (l .stored) .live p)))
+      (new : (t : ℕ) → t < z .slots → ¬ (lastUpdate d (l .stored) .design ≡ d) → ¬ (d ≡ packDesign (l .pack) t))
       (text-other : (i : ℕ) → ¬ (slotOf z i ≡ s) → (n : ℕ) → text′ i n ≡ l .pages .text i n) (text-here : (i : ℕ) → i < allPages z → slotOf z i ≡ s → (n : ℕ) → n < z .words → text′ i n ≡ 0) (kept-was : (i : ℕ) → T (kept′ i) → T (l .pages .kept i)) where
     redesigned : Tied z (counted z (onDisk (λ x. setNumbers numbers′ (setAccounts accounts′ x)) st)) (setText text′ kept′ (setDesign births′ of′ l))
     unfolding counted
@@ -78,6 +82,13 @@ module _ (z : Sizes) (st : State) (l : Ledger) (fit : Fit z st) (rules : Ruled z
             | inl x ↦ absurd (unknown (i % z .pages) (subst (λ (c : ℕ). T (lastUpdate c (l .stored) .live (i % z .pages))) (x .1) t))
             | inr x ↦ let o = k .disk .listing .listed i h (subst (λ (c : ℕ). T (lastUpdate c (l .stored) .live (i % z .pages))) (x .1) t) in
                 (o .0, o .1, λ y j q g. o .2 y j (of-page i y (x .0) q) (subst (λ (c : ℕ). y .serial ≤ lastUpdate c (l .stored) .after) (x .1) g))
+          ];
+          newborn = λ i h u. elim (split-put of s d (slotOf z i)) [
+            | inl x ↦ record {
+              old = λ e. absurd (new (slotOf z i) (slot-below z (fit .sizes .pages) i h) (subst (λ (c : ℕ). ¬ (lastUpdate c (l .stored) .design ≡ c)) (x .1) u) (sym (x .1) ∙ e));
+              young = λ e. bare i h (x .0);
+            }
+            | inr x ↦ let o = k .disk .listing .newborn i h (subst (λ (c : ℕ). ¬ (lastUpdate c (l .stored) .design ≡ c)) (x .1) u) in record { old = λ e. o .old (sym (x .1) ∙ e); young = λ e. o .young (λ c. e (x .1 ∙ c)) }
           ];
         };
       };
@@ -105,7 +116,8 @@ module _ (z : Sizes) (st : State) (l : Ledger) (fit : Fit z st) (rules : Ruled z
           | yes e ↦ (λ p. text-here i h e n c, λ r p. absurd (map-other i h r p e))
           | no e ↦ (λ p. text-other i e n ∙ o .0 p, λ r p. text-other i e n ∙ o .1 r p)
         ];
-        kept = λ i h t r x n c. text-other i (elim x [ inl p ↦ map-other i h r p | inr y ↦ elim y [ inl p ↦ image-other i h r p | inr p ↦ address-other i h r (p .0) ] ]) n ∙ m .kept i h (kept-was i t) r x n c;
+        kept = λ i h t r x. let e : ¬ (slotOf z i ≡ s) = elim x [ inl p ↦ map-other i h r p | inr y ↦ elim y [ inl p ↦ image-other i h r p | inr p ↦ address-other i h r (p .0) ] ] in
+            let o = m .kept i h (kept-was i t) r x in record { latest = λ y j q. o .latest y j (of-page i y e q); words = λ n c. text-other i e n ∙ o .words n c };
       };
     }
 
@@ -122,9 +134,10 @@ create z s q n st l b = redesigned z st l (b .fit) (b .ruled) (b .tied) s new of
         | inr x ↦ elim (split-put (l .design) s new j) [ inl y ↦ absurd (omega (arith, x .1, y .1, p, e, d .young i hi)) | inr y ↦ d .distinct i hi j hj r (sym (x .1) ∙ p) (sym (y .1) ∙ e) ]
       ];
       young = λ t h. elim (split-put (l .design) s new t) [ inl x ↦ rw (x .1) (omega arith) | inr x ↦ omega (arith, x .1, d .young t h) ];
+      elder = λ t h. omega (arith, d .elder t h);
       known = λ c p h. d .known c p (elim h [ inl e ↦ inl e | inr e ↦ inr (omega (arith, e)) ]);
     })
-    (λ p. d .known new p (inr (omega arith)))
+    (λ p. d .known new p (inr (omega arith))) (λ t h u e. omega (arith, d .elder t h, e))
     (λ i e a. elim (split-over (l .pages .text) (ofSlot z s) (λ w. 0) i) [ inl x ↦ absurd (e (x .0)) | inr x ↦ ap (λ (t : ℕ → ℕ). t a) (x .1) ])
     (λ i h e a c. elim (split-over (l .pages .text) (ofSlot z s) (λ w. 0) i) [ inl x ↦ ap (λ (t : ℕ → ℕ). t a) (x .1) | inr x ↦ absurd (x .0 e) ])
     (λ i t. elim (split-over (l .pages .kept) (ofSlot z s) false i) [ inl x ↦ absurd (rw (x .1) at t) | inr x ↦ rw (x .1) at t ])
@@ -132,7 +145,7 @@ create z s q n st l b = redesigned z st l (b .fit) (b .ruled) (b .tied) s new of
     new : ℕ
     new = suc (l .births)
 
-    d : Designs z (at (st .disk .numbers)) (l .births) (l .design) (l .stored)
+    d : Designs z (l .pack) (at (st .disk .numbers)) (l .births) (l .design) (l .stored)
     d = b .tied .disk .designs
 
     off : ¬ (at (st .memory .slots .active) s ≡ 1)
@@ -151,11 +164,12 @@ delete z s st l b = redesigned z st l (b .fit) (b .ruled) (b .tied) s 0 (b .aske
       ];
       distinct = λ i hi j hj r p e. d .distinct i hi j hj r (was i r p) (was j r e);
       young = λ t h. elim (split-put (l .design) s 0 t) [ inl x ↦ omega (arith, x .1) | inr x ↦ omega (arith, x .1, d .young t h) ];
+      elder = d .elder;
       known = d .known;
     })
-    (λ p. d .known 0 p (inl refl)) (λ i e a. refl) (λ i h e a c. b .tied .memory .filed i h (λ x. b .asked .1 .1 .1 .0 (rw e at x)) a c .0 (bare i h e)) (λ i t. t)
+    (λ p. d .known 0 p (inl refl)) (λ t h u e. u (none-updated (l .stored))) (λ i e a. refl) (λ i h e a c. b .tied .memory .filed i h (λ x. b .asked .1 .1 .1 .0 (rw e at x)) a c .0 (bare i h e)) (λ i t. t)
   where
-    d : Designs z (at (st .disk .numbers)) (l .births) (l .design) (l .stored)
+    d : Designs z (l .pack) (at (st .disk .numbers)) (l .births) (l .design) (l .stored)
     d = b .tied .disk .designs
 
     bare : (i : ℕ) → i < allPages z → slotOf z i ≡ s → at (st .disk .maps) i ≡ 0

@@ -1,4 +1,4 @@
--- Demand 3, over every legal list of acts with cuts anywhere, from a finished format on: the induction over the list.
+-- Demand 3, over every legal list of acts with cuts anywhere, from a pack that keeps the disk rules and from a finished format: the induction over the list.
 use mathlib.Core.Path.{_≡_, refl, ap, sym, _∙_, subst}
 use mathlib.Core.Bool.{Bool, true, false}
 use mathlib.Core.List.{List, [], _∷_}
@@ -6,31 +6,34 @@ use Prim.Native.Nat.{ℕ, zero, suc, _<_}
 use native.Mathlib.Omega.{arith}
 use lib.Dec.{T, eqb}
 use borrow.Author.Tests.{ne-eqb}
-use Rattle.tables.specs.Base.{if}
+use Rattle.tables.specs.Base.{at, if}
 use Rattle.tables.specs.Laws.{and-left, and-right}
 use Rattle.tables.specs.Rule.{Holds, sound}
 use Rattle.tables.specs.Questions.{firstNo, ask, none}
 use Rattle.model.specs.declared.sizes.Sizes.{Sizes}
 use Rattle.model.specs.declared.event.Event.{Event}
-use Rattle.model.specs.State.{Disk, Memory, State, files}
+use Rattle.model.specs.State.{Disk, Memory, State, files, allPages}
 use Rattle.model.specs.Rules.{diskRules}
 use Rattle.model.specs.Ruled as R
 use Rattle.model.specs.Step.{outcome, answer, carried, result, step, restart, allFit, memoryLengths}
-use Rattle.model.specs.Fit.{Fit, memory-fit}
-use Rattle.model.specs.Restart.{restarted}
+use Rattle.model.specs.Fit.{Fit, disk-fit, memory-fit}
+use Rattle.model.specs.Restart.{formatted, restarted}
 use Rattle.model.specs.Ledger as L
-use Rattle.model.specs.Ledger.{Ledger, note, lose, finishWrite, finishUpdate, finishWrites, finishUpdates}
+use Rattle.model.specs.Ledger.{Ledger, unwritten, note, lose, finishWrite, finishUpdate, finishWrites, finishUpdates}
 use Rattle.model.specs.Acts.{Act, event, looking, restarting, cutting, World, fed, landed, noted, act, allowed, legal, run, start}
 use Rattle.model.specs.Demand3.{Demand3}
+use Rattle.model.specs.FromPack.{FromPack}
 use Rattle.invariant.proofs.Kept.{carried-kept, restarted-good}
+use Rattle.invariant.proofs.RestartedRecords.{zero-at}
 use Rattle.crash.proofs.Writes.{no-write, no-update}
 use Rattle.crash.proofs.Link.{OnDisk, Tied}
 use Rattle.crash.proofs.Steps.{Good, before}
 use Rattle.crash.proofs.Events.{steps}
-use Rattle.crash.proofs.Says.{says}
-use Rattle.crash.proofs.Start.{start-good}
+use Rattle.crash.proofs.Says.{says, says-from-pack}
+use Rattle.crash.proofs.Start.{start-good, format-good}
 use Rattle.crash.proofs.Restarted.{restart-tied}
 use Rattle.crash.proofs.Cut.{all-landed}
+use Rattle.crash.proofs.Pack.{same-pack}
 
 -- nothing open, nothing finished at a cut
 none-written : (n : ℕ) (lands : ℕ → Bool) (l : Ledger) → ((f : ℕ) → f < n → ¬ (T (l .pending .writing f))) → finishWrites n lands l ≡ l
@@ -119,6 +122,14 @@ module _ (z : Sizes) where
   run-keeps [] w t k = k
   run-keeps (a ∷ acts) w t k = run-keeps acts (act z w a) (and-right (allowed z w a) (legal z (act z w a) acts) t) (act-keeps w a (and-left (allowed z w a) (legal z (act z w a) acts) t) k)
 
--- Demand 3.
+-- Demand 3 from any pack that keeps the disk rules.
+pub demand3-from-pack : FromPack
+unfolding start unwritten
+demand3-from-pack z pack junk acts sizes disk lengths rules t =
+    (same-pack z acts (start z pack junk), says-from-pack z (run z (start z pack junk) acts) (run-keeps z acts (start z pack junk) t (start-good z pack junk sizes (disk-fit z pack disk) lengths (R.disk-ruled z (record { disk = pack; memory = junk }) rules))))
+
+-- Demand 3, from a finished format.
 pub demand3 : Demand3
-demand3 z junk acts sizes lengths t = says z (run z (start z junk) acts) (run-keeps z acts (start z junk) t (start-good z junk sizes lengths))
+unfolding start unwritten formatted
+demand3 z junk acts sizes lengths t = let w = start z (formatted z) junk in
+    says z (run z w acts) (run-keeps z acts w t (format-good z junk sizes lengths)) (λ i. ap (λ (d : Disk). at (d .maps) i) (same-pack z acts w) ∙ zero-at (allPages z) i)

@@ -26,7 +26,7 @@ use Rattle.model.specs.Demand3.{lastInto}
 use Rattle.model.specs.Index.{split-set, slot-below}
 use Rattle.invariant.proofs.Stands.{seat-at, moving-place}
 use Rattle.crash.proofs.Writes.{In, Numbered, bounded, last-here, last-there, split-put, put-other, put-same}
-use Rattle.crash.proofs.Link.{Own, OfPage, Latest, Newest, Holding, Opened, InFrame, Away, OnDisk, InMemory, Tied}
+use Rattle.crash.proofs.Link.{Owned, OfPage, Latest, Newest, Holding, Opened, InFrame, Away, KeptAs, OnDisk, InMemory, Tied}
 use Rattle.crash.proofs.Steps.{same-page}
 use Rattle.crash.proofs.OneFrame.{in-frame-same, alike-same}
 use Rattle.crash.proofs.Parts.{at-part}
@@ -134,17 +134,23 @@ module _ (z : Sizes) (st : State) (l : Ledger) (fit : Fit z st) (rules : Ruled z
   live-r₀ : state′ r₀ ≡ LIVE
   live-r₀ = elim (state-split r₀) [ inl y ↦ y .1 | inr y ↦ absurd (y .0 refl) ]
 
+  word-other : (r n : ℕ) → r < z .records → n < z .words → ¬ (r ≡ r₀) → word′ (r * z .words + n) ≡ word (r * z .words + n)
+  word-other r n h c e = elim (words-split r n h c) [ inl y ↦ absurd (e (y .0)) | inr y ↦ y .1 ]
+
   -- whoever names the record that was written is its page
-  own : (i r : ℕ) → r < z .records → (r ≡ r₀ → i ≡ i₀) → (¬ (r ≡ r₀) → Own z word of (old r) i r) → Own z word′ of (new r) i r
+  own : (i r : ℕ) → r < z .records → (r ≡ r₀ → i ≡ i₀) → (¬ (r ≡ r₀) → Owned z (l .pack) word of (old r) i r) → Owned z (l .pack) word′ of (new r) i r
   own i r h same other = elim (ℕ-discrete r r₀) [
-    | yes e ↦ rw (e, same e, new-here) (record {
+    | yes e ↦ inl (rw (e, same e, new-here) (record {
       some = omega arith;
       design = o .design;
       page = o .page;
       words = λ n c. elim (words-split r₀ n below c) [ inl y ↦ y .1 ∙ said n c ∙ sym (o .words n c) | inr y ↦ absurd (y .0 refl) ];
       counts = tt;
-    })
-    | no e ↦ rw (new-there r e) (let q = other e in record { some = q .some; design = q .design; page = q .page; words = λ n c. elim (words-split r n h c) [ inl y ↦ absurd (e (y .0)) | inr y ↦ y .1 ∙ q .words n c ]; counts = q .counts })
+    }))
+    | no e ↦ rw (new-there r e) (elim (other e) [
+      | inl q ↦ inl (record { some = q .some; design = q .design; page = q .page; words = λ n c. word-other r n h c e ∙ q .words n c; counts = q .counts })
+      | inr q ↦ inr (record { none = q .none; listed = q .listed; design = q .design; words = λ n c. word-other r n h c e ∙ q .words n c })
+    ])
   ]
 
   -- the page of a write of this page's design and number is this page
@@ -203,6 +209,10 @@ module _ (z : Sizes) (st : State) (l : Ledger) (fit : Fit z st) (rules : Ruled z
   stays-live : (r : ℕ) → state r ≡ LIVE → state′ r ≡ LIVE
   stays-live r e = elim (state-split r) [ inl y ↦ y .1 | inr y ↦ y .1 ∙ e ]
 
+  -- another page that is kept, and its record
+  keeps : (i : ℕ) → i < allPages z → (r : ℕ) → r < z .records → ¬ (i ≡ i₀) → ¬ (r ≡ r₀) → KeptAs z word of text (l .finished) i r → KeptAs z word′ of text (x ∷ l .finished) i r
+  keeps i h r g ne a b = record { latest = latest i h r (λ d. absurd (ne d)) (λ d. b .latest); words = λ n c. b .words n c ∙ sym (word-other r n g c a) }
+
   onDisk : OnDisk z (counted z (writeGood z st f)) l′
   unfolding counted writeGood freeFrame storeFrame Numbered
   onDisk = let d = k .disk .listing in record {
@@ -212,6 +222,7 @@ module _ (z : Sizes) (st : State) (l : Ledger) (fit : Fit z st) (rules : Ruled z
       numbered = (refl, d .numbered);
       after = λ n. omega (arith, d .after n);
       listed = λ i h p. let b = d .listed i h p in (b .0, b .1, newest i _ (b .0) (d .after (of (slotOf z i))) (b .2));
+      newborn = d .newborn;
     };
   }
 
@@ -251,13 +262,14 @@ module _ (z : Sizes) (st : State) (l : Ledger) (fit : Fit z st) (rules : Ruled z
       void = λ i h b a d. m .away .void i h b (was-away i (λ e. d r₀ (ap address e ∙ held) live-r₀) a) (λ r p e. d r p (stays-live r e));
     };
     filed = λ i h a n c. let b = m .filed i h a n c in (b .0, λ r p. b .1 r p ∙ elim (words-split r n (rules .disk .map-fit i h r p) c) [ inl y ↦ absurd (filed-other i h a r p (y .0)) | inr y ↦ sym (y .1) ]);
-    kept = λ i h e r d n c.
+    kept = λ i h e r d.
         let ne : ¬ (i ≡ i₀) = λ a. holds .clean (rules .frames .writing f hf t) (subst (λ (j : ℕ). T (l .pages .kept j)) a e) in
         elim d [
-          | inl p ↦ rw (new-there r (λ b. ne (only-map z (files st) (rules .records) i₀ r₀ within held i h (p ∙ ap suc b)))) (m .kept i h e r (inl p) n c)
+          | inl p ↦ keeps i h r (rules .disk .map-fit i h r p) ne (λ b. ne (only-map z (files st) (rules .records) i₀ r₀ within held i h (p ∙ ap suc b))) (m .kept i h e r (inl p))
           | inr g ↦ elim g [
-            | inl p ↦ rw (new-there r (λ b. ne (only-image z (files st) (rules .records) i₀ r₀ within held i h (p ∙ ap suc b)))) (m .kept i h e r (inr (inl p)) n c)
-            | inr p ↦ let a : ¬ (r ≡ r₀) = λ b. ne (rules .records .held-once i h i₀ within r₀ (p .0 ∙ ap suc b) held) in rw (new-there r a) (m .kept i h e r (inr (inr (p .0, was-live r a (p .1)))) n c)
+            | inl p ↦ keeps i h r (rules .records .image-fit i h r p) ne (λ b. ne (only-image z (files st) (rules .records) i₀ r₀ within held i h (p ∙ ap suc b))) (m .kept i h e r (inr (inl p)))
+            | inr p ↦ let a : ¬ (r ≡ r₀) = λ b. ne (rules .records .held-once i h i₀ within r₀ (p .0 ∙ ap suc b) held) in
+                keeps i h r (rules .records .address-fit i h r (p .0)) ne a (m .kept i h e r (inr (inr (p .0, was-live r a (p .1)))))
           ]
         ];
   }

@@ -22,4 +22,5 @@ pub mod Truncated
 pub mod Updated
 pub mod Events
 pub mod Cut
+pub mod Pack
 pub mod Demand3

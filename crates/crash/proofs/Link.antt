@@ -12,9 +12,9 @@ use Rattle.tables.specs.Rule.{Holds}
 use Rattle.model.specs.declared.sizes.Sizes.{Sizes}
 use Rattle.model.specs.declared.frame.Frame.{Frame}
 use Rattle.model.specs.Lines.{LIVE}
-use Rattle.model.specs.State.{State, READING, WRITING, frameAt, allPages, slotOf}
+use Rattle.model.specs.State.{Disk, State, READING, WRITING, frameAt, allPages, slotOf}
 use Rattle.model.specs.Rules.{once}
-use Rattle.model.specs.Ledger.{Write, Update, Note, Ledger}
+use Rattle.model.specs.Ledger.{Write, Update, Note, Ledger, packDesign}
 use Rattle.model.specs.Demand3.{lastInto, lastUpdate}
 use Rattle.crash.proofs.Writes.{In, Numbered}
 
@@ -38,28 +38,46 @@ pub record Own (z : Sizes) (word of : ℕ → ℕ) (x : Write) (i r : ℕ) : Typ
   pub words : (k : ℕ) → k < z .words → word (r * z .words + k) ≡ x .words k
   pub counts : T (x .counts)
 
+-- x is no write: none into record r is finished since the start. The pack listed r at page i, of the same design, and r holds the pack's words
+pub record Untouched (z : Sizes) (pack : Disk) (word of : ℕ → ℕ) (x : Write) (i r : ℕ) : Type 0 where
+  pub none : x .serial ≡ 0
+  pub listed : at (pack .maps) i ≡ suc r
+  pub design : of (slotOf z i) ≡ packDesign pack (slotOf z i)
+  pub words : (k : ℕ) → k < z .words → word (r * z .words + k) ≡ at (pack .records) (r * z .words + k)
+
+abbrev pub Owned : Sizes → Disk → (ℕ → ℕ) → (ℕ → ℕ) → Write → ℕ → ℕ → Type 0
+Owned z pack word of x i r = Own z word of x i r ⊎ Untouched z pack word of x i r
+
 -- ── the disk, whether restarted or not ──
--- a filled slot has a design, no two have one, none is newer than the count, and none to come or of no slot has stored a live page
-pub record Designs (z : Sizes) (number : ℕ → ℕ) (births : ℕ) (of : ℕ → ℕ) (stored : List Update) : Type 0 where
+-- a filled slot has a design, no two have one, none is newer than the count, nor was one of the pack; and none to come or of no slot has stored a live page
+pub record Designs (z : Sizes) (pack : Disk) (number : ℕ → ℕ) (births : ℕ) (of : ℕ → ℕ) (stored : List Update) : Type 0 where
   pub born : (s : ℕ) → s < z .slots → ¬ (number s ≡ 0) → 0 < of s
   pub distinct : Holds (once (z .slots) of)
   pub young : (s : ℕ) → s < z .slots → of s ≤ births
+  pub elder : (s : ℕ) → s < z .slots → packDesign pack s ≤ births
   pub known : (d p : ℕ) → ((d ≡ 0) ⊎ (births < d)) → ¬ (T (lastUpdate d stored .live p))
 
-pub record Listing (z : Sizes) (word map of : ℕ → ℕ) (finished : List Write) (stored : List Update) : Type 0 where
-  -- each listed record's last finished write was of that page, and its words stand there
-  pub owned : (i : ℕ) → i < allPages z → (r : ℕ) → map i ≡ suc r → Own z word of (lastInto r finished) i r
+-- page i is listed as at its design's birth: as the pack has it, or not at all
+pub record Newborn (z : Sizes) (pack : Disk) (map of : ℕ → ℕ) (i : ℕ) : Type 0 where
+  pub old : of (slotOf z i) ≡ packDesign pack (slotOf z i) → map i ≡ at (pack .maps) i
+  pub young : ¬ (of (slotOf z i) ≡ packDesign pack (slotOf z i)) → map i ≡ 0
+
+pub record Listing (z : Sizes) (pack : Disk) (word map of : ℕ → ℕ) (finished : List Write) (stored : List Update) : Type 0 where
+  -- each listed record's last finished write was of that page, and its words stand there; or it is as in the pack
+  pub owned : (i : ℕ) → i < allPages z → (r : ℕ) → map i ≡ suc r → Owned z pack word of (lastInto r finished) i r
   -- finished writes are numbered, and no stored update is ahead of them
   pub numbered : Numbered finished
   pub after : (d : ℕ) → lastUpdate d stored .after ≤ length finished
   -- the pages live when the last finished update began are listed, by no older write than the last finished before then
   pub listed : (i : ℕ) → i < allPages z → (let u = lastUpdate (of (slotOf z i)) stored in T (u .live (i % z .pages)) → (r : ℕ) × (map i ≡ suc r) × Newest z of finished i (u .after) (lastInto r finished))
+  -- until an update of its design is finished, a page is listed as at the design's birth
+  pub newborn : (i : ℕ) → i < allPages z → ¬ (lastUpdate (of (slotOf z i)) stored .design ≡ of (slotOf z i)) → Newborn z pack map of i
 
 -- ── the memory, once restarted ──
 -- the records that a begun image and a live address name; a live one's last write, and that of an inactive design's listed page, is the page's newest
-pub record Named (z : Sizes) (word map address state active image of : ℕ → ℕ) (finished : List Write) : Type 0 where
-  pub imaged : (i : ℕ) → i < allPages z → (r : ℕ) → image i ≡ suc r → Own z word of (lastInto r finished) i r
-  pub live : (i : ℕ) → i < allPages z → (r : ℕ) → address i ≡ suc r → state r ≡ LIVE → Own z word of (lastInto r finished) i r
+pub record Named (z : Sizes) (pack : Disk) (word map address state active image of : ℕ → ℕ) (finished : List Write) : Type 0 where
+  pub imaged : (i : ℕ) → i < allPages z → (r : ℕ) → image i ≡ suc r → Owned z pack word of (lastInto r finished) i r
+  pub live : (i : ℕ) → i < allPages z → (r : ℕ) → address i ≡ suc r → state r ≡ LIVE → Owned z pack word of (lastInto r finished) i r
   pub latest : (i : ℕ) → i < allPages z → (r : ℕ) → address i ≡ suc r → state r ≡ LIVE → Latest z of finished i (lastInto r finished)
   pub rested : (i : ℕ) → i < allPages z → ¬ (active (slotOf z i) ≡ 1) → (r : ℕ) → map i ≡ suc r → Latest z of finished i (lastInto r finished)
 
@@ -121,23 +139,27 @@ FiledText z word map active text = (i : ℕ) → i < allPages z → ¬ (active (
 abbrev pub Names : (map image address state : ℕ → ℕ) → ℕ → ℕ → Type 0
 Names map image address state i r = (map i ≡ suc r) ⊎ ((image i ≡ suc r) ⊎ ((address i ≡ suc r) × (state r ≡ LIVE)))
 
--- a page not written or truncated since the restart reads as each record that names it was last written
-abbrev pub KeptText : Sizes → (map image address state : ℕ → ℕ) → (ℕ → ℕ → ℕ) → (ℕ → Bool) → List Write → Type 0
-KeptText z map image address state text kept finished = (i : ℕ) → i < allPages z → T (kept i) → (r : ℕ) → Names map image address state i r → (k : ℕ) → k < z .words → text i k ≡ lastInto r finished .words k
+-- a page not written or truncated since the restart reads as each record that names it, and no write of it that counts is newer than the last into that record
+pub record KeptAs (z : Sizes) (word of : ℕ → ℕ) (text : ℕ → ℕ → ℕ) (finished : List Write) (i r : ℕ) : Type 0 where
+  pub latest : Latest z of finished i (lastInto r finished)
+  pub words : (k : ℕ) → k < z .words → text i k ≡ word (r * z .words + k)
+
+abbrev pub KeptText : Sizes → (word map image address state of : ℕ → ℕ) → (ℕ → ℕ → ℕ) → (ℕ → Bool) → List Write → Type 0
+KeptText z word map image address state of text kept finished = (i : ℕ) → i < allPages z → T (kept i) → (r : ℕ) → Names map image address state i r → KeptAs z word of text finished i r
 
 -- ── the whole ──
 pub record OnDisk (z : Sizes) (st : State) (l : Ledger) : Type 0 where
-  pub designs : Designs z (at (st .disk .numbers)) (l .births) (l .design) (l .stored)
-  pub listing : Listing z (at (st .disk .records)) (at (st .disk .maps)) (l .design) (l .finished) (l .stored)
+  pub designs : Designs z (l .pack) (at (st .disk .numbers)) (l .births) (l .design) (l .stored)
+  pub listing : Listing z (l .pack) (at (st .disk .records)) (at (st .disk .maps)) (l .design) (l .finished) (l .stored)
 
 pub record InMemory (z : Sizes) (st : State) (l : Ledger) : Type 0 where
-  pub named : Named z (at (st .disk .records)) (at (st .disk .maps)) (at (st .memory .held .addresses)) (at (st .memory .held .states)) (at (st .memory .slots .active)) (at (st .memory .slots .images)) (l .design) (l .finished)
+  pub named : Named z (l .pack) (at (st .disk .records)) (at (st .disk .maps)) (at (st .memory .held .addresses)) (at (st .memory .held .states)) (at (st .memory .slots .active)) (at (st .memory .slots .images)) (l .design) (l .finished)
   pub begun : Begun z (at (st .memory .slots .images)) (at (st .memory .slots .updating)) (l .design) (l .finished) (l .pending .updating) (l .pending .update)
   pub lives : Lives z (at (st .memory .held .addresses)) (at (st .memory .held .states)) (l .pages .live)
   pub framed : InFrames z (frameAt (st .memory .core .frames)) (at (st .memory .core .words)) (at (st .memory .held .addresses)) (l .design) (l .pages .text) (l .pages .touched) (l .pages .kept) (l .pending .noted) (l .pending .writing) (l .pending .write)
   pub away : AwayText z (at (st .disk .records)) (at (st .memory .held .addresses)) (at (st .memory .held .states)) (at (st .memory .slots .active)) (frameAt (st .memory .core .frames)) (l .pages .text)
   pub filed : FiledText z (at (st .disk .records)) (at (st .disk .maps)) (at (st .memory .slots .active)) (l .pages .text)
-  pub kept : KeptText z (at (st .disk .maps)) (at (st .memory .slots .images)) (at (st .memory .held .addresses)) (at (st .memory .held .states)) (l .pages .text) (l .pages .kept) (l .finished)
+  pub kept : KeptText z (at (st .disk .records)) (at (st .disk .maps)) (at (st .memory .slots .images)) (at (st .memory .held .addresses)) (at (st .memory .held .states)) (l .design) (l .pages .text) (l .pages .kept) (l .finished)
 
 -- the invariant of a restarted keeper, but for the rules and lengths
 pub record Tied (z : Sizes) (st : State) (l : Ledger) : Type 0 where

@@ -128,6 +128,7 @@ module _ (z : Sizes) (s good : ℕ) (st : State) (l : Ledger) (b : Before z st l
       born = k .designs .born;
       distinct = k .designs .distinct;
       young = k .designs .young;
+      elder = k .designs .elder;
       known = λ d p h. elim (which d) [
         | inl x ↦ elim h [ inl e ↦ absurd (omega (arith, born, x .0, e)) | inr e ↦ absurd (omega (arith, k .designs .young s hs, x .0, e)) ]
         | inr x ↦ rw (x .1) (k .designs .known d p h)
@@ -143,6 +144,11 @@ module _ (z : Sizes) (s good : ℕ) (st : State) (l : Ledger) (b : Before z st l
             (c .0, elim (map-split i h) [ inl x ↦ x .1 ∙ c .1 | inr x ↦ absurd (x .0 e) ], subst (λ (x : Update). Newest z of (l .finished) i (x .after) (lastInto (c .0) (l .finished))) (sym a) (c .2))
         | inr y ↦ let c = k .listing .listed i h (subst (λ (x : Update). T (x .live (i % z .pages))) (y .1) p) in
             (c .0, elim (map-split i h) [ inl x ↦ absurd (y .0 (ap of (x .0))) | inr x ↦ x .1 ∙ c .1 ], subst (λ (x : Update). Newest z of (l .finished) i (x .after) (lastInto (c .0) (l .finished))) (sym (y .1)) (c .2))
+      ];
+      newborn = λ i h v. elim (which (of (slotOf z i))) [
+        | inl y ↦ absurd (v (ap (λ (x : Update). x .design) (y .1) ∙ of-s ∙ sym (y .0)))
+        | inr y ↦ let o = k .listing .newborn i h (subst (λ (x : Update). ¬ (x .design ≡ of (slotOf z i))) (y .1) v) in
+            let same : at maps′ i ≡ map i = elim (map-split i h) [ inl x ↦ absurd (y .0 (ap of (x .0))) | inr x ↦ x .1 ] in record { old = λ e. same ∙ o .old e; young = λ e. same ∙ o .young e }
       ];
     };
   }

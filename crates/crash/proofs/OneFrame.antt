@@ -73,6 +73,7 @@ module _ (z : Sizes) (st : State) (l : Ledger) (f : ℕ) (new : Frame) (core′ 
 
   abbrev pub l′ : Ledger
   l′ = record {
+    pack = l .pack;
     births = l .births;
     design = l .design;
     pages = pages′;
@@ -143,10 +144,10 @@ module _ (z : Sizes) (st : State) (l : Ledger) (f : ℕ) (new : Frame) (core′ 
       ];
       away = record { paged = λ i h a. c .paged i h (out i a); void = λ i h o a. c .void i h o (out i a) };
       filed = λ i h a n b. let o = m .filed i h a n b in (λ p. c .asleep i h a n ∙ o .0 p, λ r p. c .asleep i h a n ∙ o .1 r p);
-      kept = λ i h t r n x b. let o = c .kept i t in o .1 x ∙ m .kept i h (o .0) r (elim n [
+      kept = λ i h t r n. let o = c .kept i t in let a = m .kept i h (o .0) r (elim n [
         | inl p ↦ inl p
         | inr y ↦ elim y [ inl p ↦ inr (inl p) | inr p ↦ inr (inr (c .was i h r (p .0) (p .1))) ]
-      ]) x b;
+      ]) in record { latest = a .latest; words = λ x b. o .1 x ∙ a .words x b };
     };
   }
     where

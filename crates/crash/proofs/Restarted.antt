@@ -18,7 +18,7 @@ use Rattle.model.specs.Demand3.{lastInto}
 use Rattle.model.specs.Index.{slot-below}
 use Rattle.invariant.proofs.RestartedRecords.{zero-at}
 use Rattle.crash.proofs.Writes.{In, again, last-into, greatest, last-again, in-again, length-again, numbered-again, counted-was, counts-on}
-use Rattle.crash.proofs.Link.{Own, OfPage, Latest, Newest, OnDisk, Tied}
+use Rattle.crash.proofs.Link.{Owned, OfPage, Latest, Newest, OnDisk, Tied}
 use Rattle.crash.proofs.Steps.{same-page}
 use Rattle.crash.proofs.Start.{one-value, names-none}
 
@@ -47,15 +47,18 @@ module _ (z : Sizes) (st : State) (l : Ledger) (pos : 0 < z .pages) (rules : R.O
       go zero e g p q = absurd (omega (arith, g, e))
       go (suc n) e g p q = same-page (z .pages) j i (d .designs .distinct (slotOf z j) (slot-below z pos j hj) (slotOf z i) (slot-below z pos i hi) n (p ∙ e) e) q
 
-  own-again : (i : ℕ) → i < allPages z → (r : ℕ) → at (disk .maps) i ≡ suc r → Own z (at (disk .records)) of (new r) i r
+  own-again : (i : ℕ) → i < allPages z → (r : ℕ) → at (disk .maps) i ≡ suc r → Owned z (l .pack) (at (disk .records)) of (new r) i r
   unfolding again
-  own-again i h r p = let o = d .listing .owned i h r p in subst (λ (x : Write). Own z (at (disk .records)) of x i r) (sym (last-again z disk of r (l .finished))) (record {
-    some = o .some;
-    design = o .design;
-    page = o .page;
-    words = o .words;
-    counts = counts-on z disk of (old r) (o .counts) (i, h, (p ∙ ap suc (sym (last-into r (l .finished) (o .some))), (sym (o .design), sym (o .page))));
-  })
+  own-again i h r p = subst (λ (x : Write). Owned z (l .pack) (at (disk .records)) of x i r) (sym (last-again z disk of r (l .finished))) (elim (d .listing .owned i h r p) [
+    | inl o ↦ inl (record {
+      some = o .some;
+      design = o .design;
+      page = o .page;
+      words = o .words;
+      counts = counts-on z disk of (old r) (o .counts) (i, h, (p ∙ ap suc (sym (last-into r (l .finished) (o .some))), (sym (o .design), sym (o .page))));
+    })
+    | inr o ↦ inr (record { none = o .none; listed = o .listed; design = o .design; words = o .words })
+  ])
 
   serial-again : (r : ℕ) → new r .serial ≡ old r .serial
   unfolding again
@@ -102,6 +105,7 @@ module _ (z : Sizes) (st : State) (l : Ledger) (pos : 0 < z .pages) (rules : R.O
         numbered = numbered-again z disk of (l .finished) (d .listing .numbered);
         after = λ n. rw (length-again z disk of (l .finished)) (d .listing .after n);
         listed = λ i h t. let b = d .listing .listed i h t in (b .0, b .1, newest-again i _ (b .0) (b .2));
+        newborn = d .listing .newborn;
       };
     };
     memory = record {
@@ -111,7 +115,10 @@ module _ (z : Sizes) (st : State) (l : Ledger) (pos : 0 < z .pages) (rules : R.O
       framed = λ f h. record { holding = λ i p. absurd (omega (arith, sym (ap (λ (g : Frame). g .page) (free f)) ∙ p)); only = λ t. absurd t; opened = λ e. absurd (omega (arith, sym (ap (λ (g : Frame). g .transfer) (free f)) ∙ e)) };
       away = record { paged = λ i h a r p. none i r p; void = λ i h a. absurd (omega (arith, sym (zero-at (z .slots) (slotOf z i)) ∙ a)) };
       filed = λ i h a k g. (found-none i k, λ r p. found-some i k r p);
-      kept = λ i h t r n k g. elim n [ inl p ↦ found-some i k r p ∙ own-again i h r p .words k g | inr o ↦ elim o [ inl p ↦ none i r p | inr p ↦ none i r (p .0) ] ];
+      kept = λ i h t r n. elim n [
+        | inl p ↦ record { latest = latest-again i h r p; words = λ k g. found-some i k r p }
+        | inr o ↦ elim o [ inl p ↦ none i r p | inr p ↦ none i r (p .0) ]
+      ];
     };
   }
     where

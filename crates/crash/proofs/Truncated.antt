@@ -125,6 +125,9 @@ module _ (z : Sizes) (s k : ℕ) (st : State) (l : Ledger) (b : Before z st l (E
         ];
       };
       filed = λ i h a n c. let e = text-other i (λ o. a (rw (o .0) (b .asked .1 .1 .0))) n in let o = m .filed i h a n c in (λ p. e ∙ o .0 p, λ r p. e ∙ o .1 r p);
-      kept = λ i h t r n a c. let x = kept-was i t in text-other i (x .0) a ∙ m .kept i h (x .1) r (elim n [ inl p ↦ inl p | inr o ↦ elim o [ inl p ↦ inr (inl p) | inr p ↦ inr (inr (was i h r (p .0) (p .1) .1)) ] ]) a c;
+      kept = λ i h t r n. let x = kept-was i t in let y = m .kept i h (x .1) r (elim n [
+        | inl p ↦ inl p
+        | inr o ↦ elim o [ inl p ↦ inr (inl p) | inr p ↦ inr (inr (was i h r (p .0) (p .1) .1)) ]
+      ]) in record { latest = y .latest; words = λ a c. text-other i (x .0) a ∙ y .words a c };
     };
   }

@@ -15,7 +15,7 @@ use Rattle.tables.specs.Rule.{Rule, Holds, test, sound, complete}
 use Rattle.tables.specs.Store.{Split}
 use Rattle.model.specs.declared.sizes.Sizes.{Sizes}
 use Rattle.model.specs.State.{Disk}
-use Rattle.model.specs.Ledger.{Ledger, Write, Update, finishWrite, finishUpdate, put, over, noWrite, recount, atHome}
+use Rattle.model.specs.Ledger.{Ledger, Write, Update, finishWrite, finishUpdate, put, over, noWrite, noUpdate, recount, atHome}
 use Rattle.model.specs.Demand3.{lastInto, lastUpdate, eachOf, someOf}
 
 -- ── a function with a value put ──
@@ -63,6 +63,11 @@ unfolding someOf In
 some-of [] f y i h = absurd i
 some-of (x ∷ xs) f y i h = elim i [ inl e ↦ inl (subst (λ (u : Write). Holds (f u)) e h) | inr j ↦ inr (some-of xs f y j h) ]
 
+pub of-some : (l : List Write) (f : Write → Rule) → Holds (someOf l f) → (y : Write) × In y l × Holds (f y)
+unfolding someOf In
+of-some [] f h = absurd (omega (arith, h))
+of-some (x ∷ xs) f h = elim h [ inl a ↦ (x, inl refl, a) | inr b ↦ (let t = of-some xs f b in (t .0, inr (t .1), t .2)) ]
+
 -- the n-th finished write has serial n
 unfoldable pub Numbered : List Write → Type 0
 Numbered [] = Unit {0}
@@ -72,6 +77,11 @@ pub bounded : (l : List Write) → Numbered l → (y : Write) → In y l → y .
 unfolding In Numbered
 bounded [] n y i = absurd i
 bounded (x ∷ xs) n y i = elim i [ inl e ↦ rw e (omega (arith, n .0)) | inr j ↦ omega (arith, bounded xs (n .1) y j) ]
+
+pub numbered-from-1 : (l : List Write) → Numbered l → (y : Write) → In y l → 0 < y .serial
+unfolding In Numbered
+numbered-from-1 [] n y i = absurd i
+numbered-from-1 (x ∷ xs) n y i = elim i [ inl e ↦ rw e (omega (arith, n .0)) | inr j ↦ numbered-from-1 xs (n .1) y j ]
 
 -- the last write into a record, where there is one, is in the list, and the newest of those into it
 pub last-in : (r : ℕ) (l : List Write) → 0 < lastInto r l .serial → In (lastInto r l) l
@@ -113,6 +123,12 @@ last-there x l r e = rw (ne-eqb (x .record′) r e)
 pub split-update : (x : Update) (l : List Update) (d : ℕ) → Split (x .design ≡ d) (lastUpdate d (x ∷ l)) x (lastUpdate d l)
 unfolding lastUpdate
 split-update x l d = elim (ℕ-discrete (x .design) d) [ yes e ↦ inl (e, rw (eq-eqb (x .design) d e)) | no e ↦ inr (e, rw (ne-eqb (x .design) d e)) ]
+
+-- what has no design has no last update
+pub none-updated : (l : List Update) → lastUpdate 0 l .design ≡ 0
+unfolding lastUpdate noUpdate
+none-updated [] = refl
+none-updated (x ∷ xs) = elim (split-update x xs 0) [ inl y ↦ ap (λ (u : Update). u .design) (y .1) ∙ y .0 | inr y ↦ ap (λ (u : Update). u .design) (y .1) ∙ none-updated xs ]
 
 -- ── at a restart ──
 module _ (z : Sizes) (d : Disk) (g : ℕ → ℕ) where

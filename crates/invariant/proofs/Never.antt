@@ -1,4 +1,4 @@
--- Over every legal list of acts from a finished format no event and no page look is answered 1 or 2, and no restart is refused.
+-- Over every legal list of acts from a pack that keeps the disk rules, so from a finished format, no event and no page look is answered 1 or 2, and no restart is refused.
 use mathlib.Core.Path.{_≡_, refl, _∙_}
 use mathlib.Core.Bool.{Bool, true, false}
 use mathlib.Core.List.{List, [], _∷_}
@@ -12,7 +12,7 @@ use Rattle.tables.specs.Rule.{Holds, test, sound}
 use Rattle.model.specs.declared.sizes.Sizes.{Sizes}
 use Rattle.model.specs.declared.event.Event.{Event}
 use Rattle.model.specs.Sizes.{sizesFit}
-use Rattle.model.specs.State.{Memory, State, files}
+use Rattle.model.specs.State.{Disk, Memory, State, files}
 use Rattle.model.specs.Rules.{diskRules, allRules}
 use Rattle.model.specs.Ruled.{ruled, disk-ruled, rules-disk}
 use Rattle.model.specs.Questions.{questions, lookQuestions}
@@ -116,9 +116,16 @@ all-answered z w (a ∷ acts) t s =
     let rest = all-answered z (act z w a) acts (and-right (allowed z w a) (legal z (act z w a) acts) t) (o .1) in
     ((o .0, rest .0), rest .1)
 
-pub start-safe : (z : Sizes) (junk : Memory) → Holds (sizesFit z) → Holds (memoryLengths z junk) → Safe z (start z junk)
+pub start-safe : (z : Sizes) (pack : Disk) (junk : Memory) → Holds (sizesFit z) → Holds (diskLengths z pack) → Holds (memoryLengths z junk) → Holds (diskRules z (record { disk = pack; memory = junk })) → Safe z (start z pack junk)
 unfolding start
-start-safe z junk f m = record { sizes = f; disk = fit-disk z (R.formatted z) (formatted-fit z); memory = m; rules = formatted z junk f; up = λ u. absurd u }
+start-safe z pack junk f d m r = record { sizes = f; disk = d; memory = m; rules = r; up = λ u. absurd u }
 
-pub never-2 : (z : Sizes) (junk : Memory) (acts : List Act) → Holds (sizesFit z) → Holds (memoryLengths z junk) → T (legal z (start z junk) acts) → AllAnswered z (start z junk) acts
-never-2 z junk acts f m t = all-answered z (start z junk) acts t (start-safe z junk f m) .0
+pub format-safe : (z : Sizes) (junk : Memory) → Holds (sizesFit z) → Holds (memoryLengths z junk) → Safe z (start z (R.formatted z) junk)
+format-safe z junk f m = start-safe z (R.formatted z) junk f (fit-disk z (R.formatted z) (formatted-fit z)) m (formatted z junk f)
+
+pub never-2-from-pack : (z : Sizes) (pack : Disk) (junk : Memory) (acts : List Act) → Holds (sizesFit z) → Holds (diskLengths z pack) → Holds (memoryLengths z junk)
+    → Holds (diskRules z (record { disk = pack; memory = junk })) → T (legal z (start z pack junk) acts) → AllAnswered z (start z pack junk) acts
+never-2-from-pack z pack junk acts f d m r t = all-answered z (start z pack junk) acts t (start-safe z pack junk f d m r) .0
+
+pub never-2 : (z : Sizes) (junk : Memory) (acts : List Act) → Holds (sizesFit z) → Holds (memoryLengths z junk) → T (legal z (start z (R.formatted z) junk) acts) → AllAnswered z (start z (R.formatted z) junk) acts
+never-2 z junk acts f m t = all-answered z (start z (R.formatted z) junk) acts t (format-safe z junk f m) .0

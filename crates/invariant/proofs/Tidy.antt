@@ -1,4 +1,4 @@
--- Over every legal list of acts from a finished format, once restarted: a free record is of slot 0, and a released one of an active slot. No rule asks it.
+-- Over every legal list of acts from a pack that keeps the disk rules, so from a finished format, once restarted: a free record is of slot 0, and a released one of an active slot. No rule asks it.
 use mathlib.Core.Path.{_≡_, refl, sym, _∙_}
 use mathlib.Core.Logic.{inl, inr}
 use mathlib.Core.List.{List, [], _∷_}
@@ -16,7 +16,8 @@ use Rattle.model.specs.declared.event.Page.the-variants.{Fault, Read, Write, Wi
 use Rattle.model.specs.declared.event.Writeback.the-variants.{Claim, Truncate, Update, PageDone, MapDone}
 use Rattle.model.specs.Lines.{RELEASED, LEAVING}
 use Rattle.model.specs.Sizes.{sizesFit}
-use Rattle.model.specs.State.{Memory, State, files}
+use Rattle.model.specs.State.{Disk, Memory, State, files}
+use Rattle.model.specs.Rules.{diskRules}
 use Rattle.model.specs.Setters.{counted}
 use Rattle.model.specs.Questions.{questions}
 use Rattle.model.specs.Ruled.{OnDisk, Ruled, ruled, disk-ruled}
@@ -25,7 +26,7 @@ use Rattle.model.specs.Designs
 use Rattle.model.specs.Pages
 use Rattle.model.specs.Writeback
 use Rattle.model.specs.Restart as R
-use Rattle.model.specs.Step.{outcome, memoryLengths, answer, carried, result, step, restart}
+use Rattle.model.specs.Step.{outcome, diskLengths, memoryLengths, answer, carried, result, step, restart}
 use Rattle.model.specs.Acts.{Act, event, looking, restarting, cutting, World, act, allowed, legal, run, start}
 use Rattle.invariant.proofs.Records.{Tidied}
 use Rattle.invariant.proofs.RecordsTurned.{turned-tidy, activate-turned, deactivate-turned}
@@ -34,7 +35,7 @@ use Rattle.invariant.proofs.RecordsDropped.{dropped-tidy, truncate-drop
 use Rattle.invariant.proofs.RecordsStored.{mapDone-done}
 use Rattle.invariant.proofs.RestartedRecords.{sorted}
 use Rattle.invariant.proofs.Kept.{asked-all, restart-answer}
-use Rattle.invariant.proofs.Never.{Safe, safe-fit, one, start-safe}
+use Rattle.invariant.proofs.Never.{Safe, safe-fit, one, start-safe, format-safe}
 
 -- every event that is carried out keeps it
 tidies : (z : Sizes) (st : State) (e : Event) → Fit z st → Ruled z st → Asked (questions z st e) → Tidied z st → Tidied z (carried z st e)
@@ -90,7 +91,12 @@ module _ (z : Sizes) where
   run-tidy w (a ∷ acts) l s t =
       run-tidy (act z w a) acts (and-right (allowed z w a) (legal z (act z w a) acts) l) (one z w a (and-left (allowed z w a) (legal z (act z w a) acts) l) s .1) (act-tidy w a s t)
 
-pub always-tidy : (z : Sizes) (junk : Memory) (acts : List Act) → Holds (sizesFit z) → Holds (memoryLengths z junk) → T (legal z (start z junk) acts)
-    → T (run z (start z junk) acts .up) → Tidied z (run z (start z junk) acts .state)
+pub always-tidy-from-pack : (z : Sizes) (pack : Disk) (junk : Memory) (acts : List Act) → Holds (sizesFit z) → Holds (diskLengths z pack) → Holds (memoryLengths z junk)
+    → Holds (diskRules z (record { disk = pack; memory = junk })) → T (legal z (start z pack junk) acts) → T (run z (start z pack junk) acts .up) → Tidied z (run z (start z pack junk) acts .state)
 unfolding start
-always-tidy z junk acts f m l = run-tidy z (start z junk) acts l (start-safe z junk f m) (λ u. absurd u)
+always-tidy-from-pack z pack junk acts f d m r l = run-tidy z (start z pack junk) acts l (start-safe z pack junk f d m r) (λ u. absurd u)
+
+pub always-tidy : (z : Sizes) (junk : Memory) (acts : List Act) → Holds (sizesFit z) → Holds (memoryLengths z junk) → T (legal z (start z (R.formatted z) junk) acts)
+    → T (run z (start z (R.formatted z) junk) acts .up) → Tidied z (run z (start z (R.formatted z) junk) acts .state)
+unfolding start
+always-tidy z junk acts f m l = run-tidy z (start z (R.formatted z) junk) acts l (format-safe z junk f m) (λ u. absurd u)

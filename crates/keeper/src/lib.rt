@@ -8,6 +8,8 @@ ghost use Rattle.model.specs.Own.{leaves};
 ghost use Rattle.model.specs.Calls.{apply};
 ghost use Rattle.model.specs.Step.{restart, format, look};
 ghost use Rattle.model.specs.Part.{partOf};
+ghost use Rattle.mending.specs.Mend.{mend};
+ghost use Rattle.mending.specs.Steps.{lentOf};
 use crate::frames::load;
 use crate::frames::save;
 use crate::pool::deposit;
@@ -165,6 +167,24 @@ pub extern "C" fn keeper_format(
         ≡ format sizes (diskOf (now (records .entry)) (now (numbers .entry)) (now (accounts .entry)) (now (maps .entry)) (now (limits .entry))) ⌝ }
 {
     calls::format(sizes, records, numbers, accounts, maps, limits)
+}
+
+// Mends a disk part that restart turns away, and lists what it changed: slot, page, old entry and reason, four numbers a place.
+// Shut out: a record named twice that keeps its first entry; an account listed before its slot's number.
+#[no_mangle]
+pub extern "C" fn keeper_mend(
+    sizes: Sizes,
+    records: &[u32],
+    numbers: &mut [u32],
+    accounts: &mut [u16],
+    maps: &mut [u16],
+    limits: &[u16],
+    changes: &mut [u32],
+) -> Answer
+    ensures { λ r. ⌜ record { answer = r; left = lentOf (now (records .entry)) (now (numbers .exit)) (now (accounts .exit)) (now (maps .exit)) (now (limits .entry)) (now (changes .exit)) }
+        ≡ mend sizes (lentOf (now (records .entry)) (now (numbers .entry)) (now (accounts .entry)) (now (maps .entry)) (now (limits .entry)) (now (changes .entry))) ⌝ }
+{
+    mending::mend(sizes, records, numbers, accounts, maps, limits, changes)
 }
 
 // A page look: the frame's own part of the lent words, and where it stands; refused, an empty part.

@@ -16,7 +16,6 @@ use Rattle.model.specs.Pages.{faultFrame}
 use Rattle.model.specs.Writeback
 use Rattle.model.specs.Writeback.{beginsWrite, recordIn, storeFrame, storeImage}
 use Rattle.model.specs.Step.{Outcome, memoryLengths, step, restart}
-use Rattle.model.specs.Restart.{formatted}
 use Rattle.model.specs.Ledger as L
 
 pub data Act : Type 0 where
@@ -60,7 +59,7 @@ landed z st writes updates = landUpdates z st updates (z .slots) (landWrites z s
 
 -- ── the world along a list of acts ──
 pub record World : Type 0 where
-  -- restarted since the format or the last cut
+  -- restarted since the start or the last cut
   pub up : Bool
   pub state : State
   pub ledger : L.Ledger
@@ -97,6 +96,6 @@ module _ (z : Sizes) where
   run w [] = w
   run w (a ∷ acts) = run (act w a) acts
 
-  -- a finished format; the memory holds anything
-  unfoldable pub start : Memory → World
-  start junk = record { up = false; state = record { disk = formatted z; memory = junk }; ledger = L.unwritten }
+  -- a pack: a finished format's disk part, a mended one, or any other; the memory holds anything
+  unfoldable pub start : Disk → Memory → World
+  start pack junk = record { up = false; state = record { disk = pack; memory = junk }; ledger = L.unwritten z pack }

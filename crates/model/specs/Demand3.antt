@@ -13,6 +13,7 @@ use Rattle.model.specs.Sizes.{sizesFit}
 use Rattle.model.specs.State.{Memory, files, allPages, pageOf, slotOf}
 use Rattle.model.specs.Parts.{wordAt}
 use Rattle.model.specs.Rules.{mapOnce}
+use Rattle.model.specs.Restart.{formatted}
 use Rattle.model.specs.Step.{memoryLengths, step, look}
 use Rattle.model.specs.Ledger.{Write, Update, noWrite, noUpdate}
 use Rattle.model.specs.Acts.{Act, World, legal, run, start}
@@ -73,13 +74,14 @@ module _ (z : Sizes) (w : World) where
   unfoldable pub demand3 : Rule
   demand3 = inOnePlaceOfMaps and ownWords and liveListed and liveReads
 
--- after a list of acts: demand 3's rules, and the reads of demand 2, of one word and of a page
-pub record After (z : Sizes) (w : World) : Type 0 where
-  pub disk : Holds (demand3 z w)
+-- after a list of acts: a claim's rules, and the reads of demand 2, of one word and of a page
+pub record After (claim : Rule) (z : Sizes) (w : World) : Type 0 where
+  pub disk : Holds claim
   pub reads : (s p n : ℕ) → T (w .up) → (let o = step z (w .state) (Event.Page (Read s p n)) in o .answer .refusal ≡ 0 → o .answer .result ≡ w .ledger .pages .text (pageOf z s p) n)
   -- a look that is not refused hands back W words, each the page's text
   pub looks : (s p : ℕ) → T (w .up) → (let o = look z (w .state) s p in o .answer .refusal ≡ 0 → (length (o .left) ≡ z .words) × ((n : ℕ) → n < z .words → at (o .left) n ≡ w .ledger .pages .text (pageOf z s p) n))
 
 -- for all sizes within limits, any memory of its lengths, and every legal list of acts from a finished format on
 abbrev pub Demand3 : Type 0
-Demand3 = (z : Sizes) (junk : Memory) (acts : List Act) → Holds (sizesFit z) → Holds (memoryLengths z junk) → T (legal z (start z junk) acts) → After z (run z (start z junk) acts)
+Demand3 = (z : Sizes) (junk : Memory) (acts : List Act) → Holds (sizesFit z) → Holds (memoryLengths z junk) → T (legal z (start z (formatted z) junk) acts)
+    → (let w = run z (start z (formatted z) junk) acts in After (demand3 z w) z w)

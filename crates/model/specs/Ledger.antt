@@ -1,10 +1,10 @@
 -- Demand 3's ledger: what it is fed, and what it notes. It is no table of the keeper, and looks into none of the memory tables.
-use mathlib.Core.Bool.{Bool, true, false, _&&_}
+use mathlib.Core.Bool.{Bool, true, false, not, _&&_}
 use mathlib.Core.List.{List, [], _∷_}
 use Prim.Native.Nat.{ℕ, zero, suc, _%_, pred}
 use lib.Dec.{eqb}
 use lib.ListN.{length}
-use Rattle.tables.specs.Base.{at, if, all}
+use Rattle.tables.specs.Base.{at, if, all, count}
 use Rattle.tables.specs.Rule.{Rule, same, non, _and_, some, test}
 use Rattle.model.specs.declared.sizes.Sizes.{Sizes}
 use Rattle.model.specs.State.{Disk, allPages, pageOf, slotOf}
@@ -73,7 +73,9 @@ pub record Pending : Type 0 where
   pub update : ℕ → Update
 
 pub record Ledger : Type 0 where
-  -- designs created so far; each slot's design by its birth, 0 for none
+  -- the pack that the list started from
+  pub pack : Disk
+  -- designs so far, the pack's and those created since; each slot's design by its birth, 0 for none
   pub births : ℕ
   pub design : ℕ → ℕ
   pub pages : Pages
@@ -97,19 +99,19 @@ unfoldable pub over : {A : Type 0} → (ℕ → A) → (ℕ → Rule) → A → 
 over f t a j = if (test (t j)) a (f j)
 
 abbrev pub setPages : Pages → Ledger → Ledger
-setPages x l = record { births = l .births; design = l .design; pages = x; pending = l .pending; finished = l .finished; stored = l .stored }
+setPages x l = record { pack = l .pack; births = l .births; design = l .design; pages = x; pending = l .pending; finished = l .finished; stored = l .stored }
 
 abbrev pub setPending : Pending → Ledger → Ledger
-setPending x l = record { births = l .births; design = l .design; pages = l .pages; pending = x; finished = l .finished; stored = l .stored }
+setPending x l = record { pack = l .pack; births = l .births; design = l .design; pages = l .pages; pending = x; finished = l .finished; stored = l .stored }
 
 abbrev pub setFinished : List Write → Ledger → Ledger
-setFinished x l = record { births = l .births; design = l .design; pages = l .pages; pending = l .pending; finished = x; stored = l .stored }
+setFinished x l = record { pack = l .pack; births = l .births; design = l .design; pages = l .pages; pending = l .pending; finished = x; stored = l .stored }
 
 abbrev pub setStored : List Update → Ledger → Ledger
-setStored x l = record { births = l .births; design = l .design; pages = l .pages; pending = l .pending; finished = l .finished; stored = x }
+setStored x l = record { pack = l .pack; births = l .births; design = l .design; pages = l .pages; pending = l .pending; finished = l .finished; stored = x }
 
 abbrev pub setDesign : ℕ → (ℕ → ℕ) → Ledger → Ledger
-setDesign n x l = record { births = n; design = x; pages = l .pages; pending = l .pending; finished = l .finished; stored = l .stored }
+setDesign n x l = record { pack = l .pack; births = n; design = x; pages = l .pages; pending = l .pending; finished = l .finished; stored = l .stored }
 
 abbrev pub setLive : (ℕ → Bool) → Ledger → Ledger
 setLive x l = setPages (record { text = l .pages .text; live = x; touched = l .pages .touched; kept = l .pages .kept }) l
@@ -210,11 +212,19 @@ module _ (z : Sizes) where
   note l (mapEnd s good) = if (eqb good 1) (finishUpdate s l) (strikeUpdate s l)
   note l (cut writes updates) = lose (finishUpdates (z .slots) updates (finishWrites (z .frames) writes l))
 
--- nothing created, nothing written
-unfoldable pub unwritten : Ledger
-unwritten = record {
-  births = 0;
-  design = λ s. 0;
+-- each filled slot of the pack that a list starts from has a design: its birth is its place among them, from 1
+abbrev pub filled : Disk → ℕ → Bool
+filled d s = not (eqb (at (d .numbers) s) 0)
+
+unfoldable pub packDesign : Disk → ℕ → ℕ
+packDesign d s = if (filled d s) (suc (count s (filled d))) 0
+
+-- no design but the pack's, nothing written since
+unfoldable pub unwritten : Sizes → Disk → Ledger
+unwritten z d = record {
+  pack = d;
+  births = count (z .slots) (filled d);
+  design = packDesign d;
   pages = record { text = λ i w. 0; live = λ i. false; touched = λ i. false; kept = λ i. false };
   pending = record { noted = λ f. record { design = 0; place = 0 }; writing = λ f. false; write = λ f. noWrite; updating = λ s. false; update = λ s. noUpdate };
   finished = [];

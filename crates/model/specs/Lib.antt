@@ -30,6 +30,7 @@ pub mod Part
 pub mod Ledger
 pub mod Acts
 pub mod Demand3
+pub mod FromPack
 pub mod Linked
 pub mod Lists
 pub mod Edges
@@ -38,5 +39,6 @@ pub mod RuleList
 pub mod Refusals
 pub mod Runs
 pub mod Worlds
+pub mod Packs
 pub mod Implied
 pub mod Unasked

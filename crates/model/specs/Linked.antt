@@ -2,14 +2,16 @@
 use mathlib.Core.Bool.{not}
 use Prim.Native.Nat.{ℕ, suc, _+_, _*_, _%_}
 use lib.ListN.{length}
-use Rattle.tables.specs.Rule.{Rule, same, below, is, non, _and_, _then_, each, named, names}
+use Rattle.tables.specs.Base.{at}
+use Rattle.tables.specs.Rule.{Rule, same, below, is, non, _and_, _or_, _then_, each, named, names}
 use Rattle.model.specs.declared.sizes.Sizes.{Sizes}
 use Rattle.model.specs.Lines.{LIVE}
 use Rattle.model.specs.State.{Files, Frames, files, frames, READING, WRITING, allPages, slotOf, live}
 use Rattle.model.specs.Rules.{isActive}
 use Rattle.model.specs.Parts.{wordAt}
-use Rattle.model.specs.Ledger.{Write, Pages, Pending}
+use Rattle.model.specs.Ledger.{Write, Pages, Pending, packDesign}
 use Rattle.model.specs.Acts.{World}
+use Rattle.model.specs.FromPack.{asInPack}
 use Rattle.model.specs.Demand3.{lastInto, lastUpdateAt, eachOf, designOf, ofPage, newest}
 
 module _ (z : Sizes) (w : World) where
@@ -34,15 +36,22 @@ module _ (z : Sizes) (w : World) where
   diskWord r k = wordAt z (w .state .disk .records) r k
 
   -- the last finished write into r was of page i and still counts, and its words stand in r
-  abbrev own : ℕ → ℕ → Rule
-  own i r = below 0 (last r .serial) and ofPage z w i (last r) and each (z .words) λ k. same (diskWord r k) (last r .words k)
+  abbrev written : ℕ → ℕ → Rule
+  written i r = below 0 (last r .serial) and ofPage z w i (last r) and each (z .words) λ k. same (diskWord r k) (last r .words k)
 
-  -- and no write of the page that counts is newer
+  -- no write into r is finished since the start; the pack listed it at page i, of the same design, and its words stand in r
+  abbrev untouched : ℕ → ℕ → Rule
+  untouched i r = same (last r .serial) 0 and same (at (w .ledger .pack .maps) i) (suc r) and asInPack z w i and each (z .words) λ k. same (diskWord r k) (wordAt z (w .ledger .pack .records) r k)
+
+  abbrev own : ℕ → ℕ → Rule
+  own i r = written i r or untouched i r
+
+  -- and no write of the page that counts is newer (where none went into r, there is none)
   abbrev latest : ℕ → ℕ → Rule
   latest i r = eachOf (w .ledger .finished) λ y. ofPage z w i y then below (y .serial) (suc (last r .serial))
 
   -- ── the disk, whether restarted or not ──
-  -- each listed record's last finished write
+  -- each listed record's last finished write, or the pack's words
   abbrev diskOwn : Rule
   diskOwn = each (allPages z) λ i. named (v .map i) λ r. own i r
 
@@ -58,6 +67,10 @@ module _ (z : Sizes) (w : World) where
   abbrev designs : Rule
   designs = each (z .slots) λ s. (same (v .number s) 0 then same (w .ledger .design s) 0) and (non (same (v .number s) 0) then below 0 (w .ledger .design s))
       and below (w .ledger .design s) (suc (w .ledger .births)) and each (z .slots) λ t. named (w .ledger .design s) λ d. same (w .ledger .design t) (suc d) then same s t
+
+  -- a design that the pack had is no younger than the count
+  abbrev elders : Rule
+  elders = each (z .slots) λ s. below (packDesign (w .ledger .pack) s) (suc (w .ledger .births))
 
   -- before a restart nothing is open
   abbrev nothingOpen : Rule
@@ -108,11 +121,13 @@ module _ (z : Sizes) (w : World) where
       same (pending .write f .design) (designOf z w i) and same (pending .write f .page) (i % z .pages) and same (v .address i) (suc (pending .write f .record′))
       and each (z .words) λ k. same (pending .write f .words k) (known .text i k))
 
-  -- a page not written or truncated since the restart reads as each record that names it was last written
+  -- a page not written or truncated since the restart reads as each record that names it, and no write of it that counts is newer than the last into that record
+  abbrev keptAs : ℕ → ℕ → Rule
+  keptAs i r = latest i r and each (z .words) λ k. same (known .text i k) (diskWord r k)
+
   abbrev keptText : Rule
-  keptText = each (allPages z) λ i. is (known .kept i) then each (z .words) λ k. (named (v .map i) λ r. same (known .text i k) (last r .words k))
-      and (named (v .image i) λ r. same (known .text i k) (last r .words k)) and named (v .address i) λ r. same (v .state r) LIVE then same (known .text i k) (last r .words k)
+  keptText = each (allPages z) λ i. is (known .kept i) then (named (v .map i) λ r. keptAs i r) and (named (v .image i) λ r. keptAs i r) and named (v .address i) λ r. same (v .state r) LIVE then keptAs i r
 
   unfoldable pub linked : Rule
-  linked = diskOwn and diskLive and serials and designs and (is (not (w .up)) then nothingOpen)
+  linked = diskOwn and diskLive and serials and designs and elders and (is (not (w .up)) then nothingOpen)
       and (is (w .up) then imageOwn and addressOwn and openUpdates and imageLive and liveAddress and framedText and awayText and filedText and openWrites and keptText)

@@ -129,7 +129,7 @@ unfolding all any count find those tab bits members packed times without tail he
     Writeback.storeFrame Writeback.writeGood Writeback.writeFailed Writeback.pageDone Writeback.storeImage Writeback.updateOver Writeback.mapDone Restart.formatted Restart.isListed
     Restart.listedAt Restart.restarted Step.allFit Step.answer Step.carried Step.result Step.step Step.format Step.restart Step.look Ledger.noWrite Ledger.noUpdate Ledger.put
     Ledger.over Ledger.finishWrite Ledger.finishUpdate Ledger.strikeWrite Ledger.strikeUpdate Ledger.finishWrites Ledger.finishUpdates Ledger.lose Ledger.found Ledger.recount
-    Ledger.note Ledger.unwritten Acts.fed Acts.landWrites Acts.landUpdates Acts.landed Acts.noted Acts.act Acts.allowed Acts.legal Acts.run Acts.start junk among
+    Ledger.note Ledger.packDesign Ledger.unwritten Acts.fed Acts.landWrites Acts.landUpdates Acts.landed Acts.noted Acts.act Acts.allowed Acts.legal Acts.run Acts.start junk among
 said z w (Acts.event e) = let a = Step.step z (w .state) e .answer in a .refusal ∷ a .result ∷ []
 said z w (Acts.looking s p) = let a = Step.look z (w .state) s p .answer in a .refusal ∷ a .result ∷ []
 said z w Acts.restarting = let a = Step.restart z (w .state) .answer in a .refusal ∷ a .result ∷ []
@@ -144,7 +144,7 @@ trace z w (a ∷ acts) = said z w a ++ trace z (Acts.act z w a) acts
 -- a formatted disk, memory junk
 unfoldable pub begin : Sizes → World
 unfolding said
-begin z = Acts.start z (junk z)
+begin z = Acts.start z (Restart.formatted z) (junk z)
 
 -- answer and result of a list's last act, from a format on
 unfoldable pub says : Sizes → List Act → List ℕ

@@ -7,17 +7,23 @@ use Rattle.tables.specs.Rule.{test}
 use Rattle.model.specs.Rules.{allRules}
 use Rattle.model.specs.Acts.{Act, World, act, legal}
 use Rattle.model.specs.Demand3.{lastInto, lastUpdate, eachOf, someOf, ownWords, liveListed, liveReads, demand3}
+use Rattle.model.specs.FromPack.{writtenWords, packWords, writtenReads, packReads, birthMaps, fromPack}
 use Rattle.model.specs.Linked.{linked}
 use Rattle.model.specs.Lists.{limit, create, delete, activate, deactivate, fault, read, write, wire, unwire, claim, truncate, update, pageDone, mapDone, look, restart, small, cut, said, begin}
 
--- the claim and the invariant hold, and once restarted the rules
+-- the claim from any pack and the invariant hold, and once restarted the rules
 unfoldable pub right : World → Bool
-unfolding said lastInto lastUpdate eachOf someOf ownWords liveListed liveReads demand3 linked
-right w = test (demand3 small w) && test (linked small w) && rulesKept (w .up)
+unfolding said lastInto lastUpdate eachOf someOf writtenWords packWords liveListed writtenReads packReads birthMaps fromPack linked
+right w = test (fromPack small w) && test (linked small w) && rulesKept (w .up)
   where
     rulesKept : Bool → Bool
     rulesKept true = test (allRules small (w .state))
     rulesKept false = true
+
+-- and the claim from a format
+unfoldable pub rightFormatted : World → Bool
+unfolding right ownWords liveReads demand3
+rightFormatted w = test (demand3 small w) && right w
 
 -- each act is carried out, and all is right after it
 unfoldable pub accepted : World → Act → Bool
@@ -28,15 +34,15 @@ accepted w a = go (said small w a)
     go [] = true
     go (n ∷ ns) = eqb n 0
 
-unfoldable pub always : World → List Act → Bool
-unfolding right accepted begin
-always w [] = right w
-always w (a ∷ acts) = let rest = always (act small w a) acts in right w && accepted w a && rest
+unfoldable pub always : (World → Bool) → World → List Act → Bool
+unfolding accepted begin
+always ok w [] = ok w
+always ok w (a ∷ acts) = let rest = always ok (act small w a) acts in ok w && accepted w a && rest
 
 -- the list is legal, each act of it is carried out, and after each act all is right
 unfoldable pub holds : List Act → Bool
-unfolding always
-holds acts = legal small (begin small) acts && always (begin small) acts
+unfolding always rightFormatted
+holds acts = legal small (begin small) acts && always rightFormatted (begin small) acts
 
 -- an active design, none of its pages in a frame
 abbrev opened : List Act

@@ -96,7 +96,7 @@ doubled = setMaps (1 ∷ 1 ∷ 0 ∷ 0 ∷ 0 ∷ 0 ∷ [])
 abbrev lent : Disk → Disk
 lent = setMaps (1 ∷ 0 ∷ 0 ∷ 1 ∷ 0 ∷ 0 ∷ [])
 
-abbrev onState : (State → State) → World → World
+abbrev pub onState : (State → State) → World → World
 onState f w = record { up = w .up; state = f (w .state); ledger = w .ledger }
 
 -- the ledger takes both slots for the first design

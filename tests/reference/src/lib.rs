@@ -8,6 +8,7 @@ pub mod events; // what each event does
 pub mod fit; // question 1
 pub mod keeper; // the public calls
 pub mod linked; // keepers that are linked in, to drive beside this one
+pub mod mend; // a pack that restart turns away, mended
 pub mod program; // the event program
 pub mod questions; // questions 3 to 22
 pub mod queue; // the free queue and the removal list

@@ -10,6 +10,7 @@ pub mod damage; // tables damaged
 pub mod fields; // a random list as bytes for the event program
 pub mod list; // a whole run of lists
 pub mod misfit; // tables of wrong lengths
+pub mod packs; // packs to mend
 pub mod random; // random numbers from a seed
 pub mod shadow; // what each page must read as
 

@@ -3,6 +3,7 @@
 use crate::drive::Subject;
 use crate::event::{Answer, Part, Request};
 use crate::keeper::Keeper;
+use crate::mend::Change;
 use crate::tables::{self, Frame, Pool, Sizes};
 use std::marker::PhantomData;
 
@@ -54,6 +55,7 @@ extern "C" {
     fn c_port_format(keeper: *mut Lent) -> Answer;
     fn c_port_restart(keeper: *mut Lent) -> Answer;
     fn c_port_apply(keeper: *mut Lent, request: Request) -> Answer;
+    fn c_port_mend(keeper: *mut Lent, changes: Slice<Change>) -> Answer;
     fn c_port_page_look(keeper: *const Lent, slot: usize, page: usize) -> Part;
 }
 
@@ -111,6 +113,10 @@ impl Lent<'_> {
 
     pub fn apply(&mut self, request: Request) -> Answer {
         unsafe { c_port_apply(self, request) }
+    }
+
+    pub fn mend(&mut self, list: &mut Vec<Change>) -> Answer {
+        unsafe { c_port_mend(self, slice(list)) }
     }
 
     pub fn page_look(&self, slot: u32, page: u32) -> Part {

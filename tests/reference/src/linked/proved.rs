@@ -3,6 +3,7 @@
 use crate::drive::Subject;
 use crate::event::{Answer, Part, Request};
 use crate::keeper::Keeper;
+use crate::mend::Change;
 use crate::tables::{Frame, Pool, Sizes};
 
 // calls: made by tools/tables.py from tools/tables.txt
@@ -138,6 +139,21 @@ extern "C" {
         used: *const u16,
         used_count: usize,
     ) -> Part;
+    fn keeper_mend(
+        sizes: Sizes,
+        records: *const u32,
+        records_count: usize,
+        numbers: *mut u32,
+        numbers_count: usize,
+        accounts: *mut u16,
+        accounts_count: usize,
+        maps: *mut u16,
+        maps_count: usize,
+        limits: *const u16,
+        limits_count: usize,
+        changes: *mut u32,
+        changes_count: usize,
+    ) -> Answer;
 }
 // end of calls
 
@@ -187,7 +203,7 @@ macro_rules! lend {
             )
         }
     };
-    ($name:ident($keeper:ident; disk; $at:ident)) => {
+    ($name:ident($keeper:ident; disk; $at:ident$(; $last:expr)*)) => {
         unsafe {
             $name(
                 $keeper.sizes,
@@ -201,6 +217,7 @@ macro_rules! lend {
                 $keeper.disk.maps.len(),
                 $keeper.disk.limits.$at(),
                 $keeper.disk.limits.len(),
+                $($last,)*
             )
         }
     };
@@ -217,6 +234,11 @@ pub fn restart(keeper: &mut Keeper) -> Answer {
 
 pub fn apply(keeper: &mut Keeper, request: Request) -> Answer {
     lend!(keeper_apply(keeper; request; &mut keeper.memory.pool; as_mut_ptr))
+}
+
+/// The list goes as numbers, four a place.
+pub fn mend(keeper: &mut Keeper, list: &mut [Change]) -> Answer {
+    lend!(keeper_mend(keeper; disk; as_mut_ptr; list.as_mut_ptr().cast(); 4 * list.len()))
 }
 
 pub fn page_look(keeper: &Keeper, slot: u32, page: u32) -> Part {

@@ -1,0 +1,2 @@
+-- The theorems over every list from a finished mending.
+pub mod Mended

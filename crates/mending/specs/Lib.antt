@@ -1,0 +1,10 @@
+-- Mending a pack that restart turns away.
+pub mod Mend
+pub mod Edges
+pub mod Places
+pub mod Rules
+pub mod Exact
+pub mod Passes
+pub mod Names
+pub mod Steps
+pub mod Answers

@@ -1,0 +1,279 @@
+-- "The mended pack passes restart, mending again lists no change, and a sound pack is unchanged."
+use mathlib.Core.Path.{_≡_, refl, ap, sym, _∙_}
+use mathlib.Core.Logic.{_⊎_, inl, inr}
+use mathlib.Core.Bool.{Bool}
+use mathlib.Core.List.{List, [], _++_}
+use Prim.Native.Nat.{ℕ, zero, suc, _+_, _*_, _/_, _%_, _<_, _≤_}
+use native.Mathlib.Nat.{mod-lt, div-lt-iff-lt-mul, div-add-mod'}
+use native.Mathlib.Omega.{arith}
+use native.Mathlib.Decide.{ℕ-discrete, decLt}
+use lib.Arith.{digits-div}
+use lib.Dec.{T}
+use lib.ListN.{length}
+use Rattle.tables.specs.Base.{at}
+use Rattle.tables.specs.Laws.{¬T→false}
+use Rattle.tables.specs.Rule.{Rule, Holds, test, sound}
+use Rattle.model.specs.declared.sizes.Sizes.{Sizes}
+use Rattle.model.specs.State.{Disk, Memory, State, files, allPages, pageOf, slotOf}
+use Rattle.model.specs.Rules.{diskRules}
+use Rattle.model.specs.Ruled.{OnDisk, disk-ruled, rules-disk}
+use Rattle.model.specs.Restart.{restarted}
+use Rattle.model.specs.Own.{refusal, first-yes}
+use Rattle.model.specs.Step.{Outcome, outcome, diskLengths, memoryLengths, allFit, restart}
+use Rattle.model.specs.Sizes.{sizesFit}
+use Rattle.model.specs.Fit.{DiskFit, disk-fit, fit-disk}
+use Rattle.tables.specs.Questions.{none, ask, firstNo}
+use Rattle.mending.specs.Mend.{Pack, Place, number, account, entry, slotAt, placeAt, allPlaces, held, doubled, wants, changes, cleared, listed, gather, after, listedBy, mended, allChanges, packOf, withPack}
+use Rattle.mending.specs.Places.{PackFit, In, page-inside, place-in, cleared-none, after-fit, after-held, down, stays-zero}
+
+-- an entry by the number of its page in the table
+module _ (z : Sizes) (pos : 0 < z .pages) (i : ℕ) (h : i < allPages z) where
+  abbrev its : Place
+  its = entry (i / z .pages) (i % z .pages)
+
+  its-in : In z its
+  its-in = (div-lt-iff-lt-mul pos .1 h, mod-lt i pos)
+
+  its-page : pageOf z (i / z .pages) (i % z .pages) ≡ i
+  its-page = div-add-mod' i (z .pages)
+
+-- the disk part with a pack in it, and any memory
+abbrev pub stateWith : Disk → Pack → Memory → State
+stateWith d p m = record { disk = withPack d p; memory = m }
+
+-- ── the mended pack keeps the disk rules ──
+module _ (z : Sizes) (d : Pack) (f : PackFit z d) (q : 0 < z .accounts) where
+  abbrev num : ℕ → ℕ → ℕ
+  num k s = at (after z d k .numbers) s
+
+  abbrev acc : ℕ → ℕ → ℕ
+  acc k s = at (after z d k .accounts) s
+
+  abbrev map : ℕ → ℕ → ℕ
+  map k i = at (after z d k .maps) i
+
+  -- step 2 changes no number: it is of slots whose number is 0
+  number-2 : (s : ℕ) → s < z .slots → num 2 s ≡ num 1 s
+  unfolding wants
+  number-2 s h = elim (after-held z d 1 f (number s) h) [ inl a ↦ absurd (a .0 .0 (a .0 .1)) | inr a ↦ a .1 ]
+
+  number-5 : (s : ℕ) → s < z .slots → num 5 s ≡ num 1 s
+  unfolding wants
+  number-5 s h =
+      let a : num 3 s ≡ num 2 s = elim (after-held z d 2 f (number s) h) [ inl a ↦ absurd (a .0 .1) | inr a ↦ a .1 ] in
+      let b : num 4 s ≡ num 3 s = elim (after-held z d 3 f (number s) h) [ inl a ↦ absurd (a .0 .1) | inr a ↦ a .1 ] in
+      let c : num 5 s ≡ num 4 s = elim (after-held z d 4 f (number s) h) [ inl a ↦ absurd (a .0 .1) | inr a ↦ a .1 ] in
+      c ∙ b ∙ a ∙ number-2 s h
+
+  -- of two slots with one number the upper is emptied
+  upper-gone : (s t : ℕ) → s < t → t < z .slots → ¬ (num 1 t ≡ 0) → ¬ (num 1 s ≡ num 1 t)
+  unfolding wants after
+  upper-gone s t l h nz e = elim (after-held z d 0 f (number t) h) [
+    | inl a ↦ nz (a .1)
+    | inr a ↦ elim (after-held z d 0 f (number s) (omega (arith, l, h))) [
+      | inl b ↦ nz (sym e ∙ b .1)
+      | inr b ↦ let g : ¬ (at (d .numbers) t ≡ 0) = λ w. nz (a .1 ∙ w) in a .0 (g, (g, (s, l, sym (b .1) ∙ e ∙ a .1)))
+    ]
+  ]
+
+  number-once : (s : ℕ) → s < z .slots → (t : ℕ) → t < z .slots → (r : ℕ) → num 5 s ≡ suc r → num 5 t ≡ suc r → s ≡ t
+  number-once s h t k r a b =
+      let a′ : num 1 s ≡ suc r = sym (number-5 s h) ∙ a in
+      let b′ : num 1 t ≡ suc r = sym (number-5 t k) ∙ b in
+      elim (decLt s t) [
+        | yes l ↦ absurd (upper-gone s t l k (λ w. omega (arith, w, b′)) (a′ ∙ sym b′))
+        | no l ↦ elim (decLt t s) [ yes m ↦ absurd (upper-gone t s m h (λ w. omega (arith, w, a′)) (b′ ∙ sym a′)) | no m ↦ omega (arith, l, m) ]
+      ]
+
+  -- a place of an empty slot that is not its number is 0 from step 2 on
+  empty-2 : (x : Place) → In z x → num 1 (slotAt x) ≡ 0 → held z (after z d 2) x ≡ 0
+  unfolding wants
+  empty-2 x h e = elim (after-held z d 1 f x h) [
+    | inl a ↦ a .1
+    | inr a ↦ elim (ℕ-discrete (held z (after z d 1) x) 0) [ yes w ↦ a .1 ∙ w | no w ↦ absurd (a .0 (w, e)) ]
+  ]
+
+  empty-account : (s : ℕ) → s < z .slots → num 5 s ≡ 0 → acc 5 s ≡ 0
+  empty-account s h e = stays-zero z d f (account s) h 2 3 (empty-2 (account s) h (sym (number-5 s h) ∙ e))
+
+  empty-map : (i : ℕ) → i < allPages z → num 5 (slotOf z i) ≡ 0 → map 5 i ≡ 0
+  empty-map i h e =
+      let n = its-in z (f .pages) i h in
+      rw (its-page z (f .pages) i h) at (stays-zero z d f (its z (f .pages) i h) n 2 3 (empty-2 (its z (f .pages) i h) n (sym (number-5 (slotOf z i) (n .0)) ∙ e)))
+
+  account-3 : (s : ℕ) → s < z .slots → acc 3 s < z .accounts
+  unfolding wants
+  account-3 s h = elim (after-held z d 2 f (account s) h) [
+    | inl a ↦ rw (a .1) q
+    | inr a ↦ elim (decLt (acc 2 s) (z .accounts)) [ yes w ↦ rw (a .1) w | no w ↦ absurd (a .0 (λ e. w (rw e q), w)) ]
+  ]
+
+  account-fit : (s : ℕ) → s < z .slots → acc 5 s < z .accounts
+  account-fit s h = elim (down z d f (account s) h 3 2) [ inl a ↦ rw a q | inr a ↦ rw a (account-3 s h) ]
+
+  pub entry-4 : (x : Place) → In z x → (s p : ℕ) → x ≡ entry s p → held z (after z d 4) x ≤ z .records
+  unfolding wants
+  entry-4 (number s) h t p e = absurd (other e)
+    where
+      other : number s ≡ entry t p → ⊥
+      other c = let w : _≡_ {A = ℕ} 0 1 = cc in omega arith
+  entry-4 (account s) h t p e = absurd (other e)
+    where
+      other : account s ≡ entry t p → ⊥
+      other c = let w : _≡_ {A = ℕ} 0 1 = cc in omega arith
+  entry-4 (entry s r) h t p e = elim (after-held z d 3 f (entry s r) h) [
+    | inl a ↦ rw (a .1) (omega arith)
+    | inr a ↦ elim (decLt (z .records) (map 3 (pageOf z s r))) [ yes w ↦ absurd (a .0 (λ o. omega (arith, w, o), w)) | no w ↦ rw (a .1) (omega (arith, w)) ]
+  ]
+
+  pub map-fit-4 : (i : ℕ) → i < allPages z → map 4 i ≤ z .records
+  map-fit-4 i h = rw (its-page z (f .pages) i h) at (entry-4 (its z (f .pages) i h) (its-in z (f .pages) i h) (i / z .pages) (i % z .pages) refl)
+
+  -- what stands after step 5 stood before it
+  stood : (i : ℕ) → i < allPages z → (map 5 i ≡ 0) ⊎ (map 5 i ≡ map 4 i)
+  stood i h = rw (its-page z (f .pages) i h) at (down z d f (its z (f .pages) i h) (its-in z (f .pages) i h) 4 1)
+
+  map-fit : (i : ℕ) → i < allPages z → (r : ℕ) → map 5 i ≡ suc r → r < z .records
+  map-fit i h r e = elim (stood i h) [ inl a ↦ absurd (omega (arith, a, e)) | inr a ↦ omega (arith, a, e, map-fit-4 i h) ]
+
+  -- two entries that name one record: step 5 wants the first of them
+  named-twice : (i : ℕ) → i < allPages z → (j : ℕ) → j < allPages z → (r : ℕ) → ¬ (i ≡ j) → map 4 i ≡ suc r → map 4 j ≡ suc r → map 5 i ≡ 0
+  unfolding wants
+  named-twice i h j k r n a b =
+      let x = its z (f .pages) i h in
+      let g : held z (after z d 4) x ≡ suc r = ap (map 4) (its-page z (f .pages) i h) ∙ a in
+      let w : held z (after z d 5) x ≡ 0 = elim (after-held z d 4 f x (its-in z (f .pages) i h)) [
+        | inl c ↦ c .1
+        | inr c ↦ absurd (c .0 (λ o. omega (arith, o, g), (r, g, (i, h, (j, k, (n, (a, b)))))))
+      ] in
+      rw (its-page z (f .pages) i h) at w
+
+  map-once : (i : ℕ) → i < allPages z → (j : ℕ) → j < allPages z → (r : ℕ) → map 5 i ≡ suc r → map 5 j ≡ suc r → i ≡ j
+  map-once i h j k r a b = elim (ℕ-discrete i j) [
+    | yes e ↦ e
+    | no e ↦ elim (stood i h) [
+      | inl c ↦ absurd (omega (arith, a, c))
+      | inr c ↦ elim (stood j k) [ inl o ↦ absurd (omega (arith, b, o)) | inr o ↦ absurd (omega (arith, a, named-twice i h j k r e (sym c ∙ a) (sym o ∙ b))) ]
+    ]
+  ]
+
+-- the lengths of a disk part that passes question 1
+pub pack-fit : (z : Sizes) (d : Disk) → Holds (sizesFit z) → Holds (diskLengths z d) → PackFit z (packOf d)
+pack-fit z d s l = let f = disk-fit z d l in record { pages = s .1 .1 .1 .1 .0 .0; numbers = f .numbers; accounts = f .accounts; maps = f .maps }
+
+module _ (z : Sizes) (d : Disk) (fits : Holds (sizesFit z)) (long : Holds (diskLengths z d)) where
+  abbrev f : PackFit z (packOf d)
+  f = pack-fit z d fits long
+
+  abbrev q : 0 < z .accounts
+  q = fits .1 .1 .1 .1 .1 .0
+
+  -- "The mended pack passes restart": it keeps the disk rules ..
+  pub mended-rules : (m : Memory) → Holds (diskRules z (stateWith d (mended z (packOf d)) m))
+  mended-rules m = rules-disk z (stateWith d (mended z (packOf d)) m) (record {
+    empty-account = empty-account z (packOf d) f q;
+    empty-map = empty-map z (packOf d) f q;
+    map-fit = map-fit z (packOf d) f q;
+    map-once = map-once z (packOf d) f q;
+    number-once = number-once z (packOf d) f q;
+    account-fit = account-fit z (packOf d) f q;
+  })
+
+  -- .. and the lengths
+  pub mended-lengths : Holds (diskLengths z (withPack d (mended z (packOf d))))
+  mended-lengths = let g = after-fit z (packOf d) 5 f in let o = disk-fit z d long in
+      fit-disk z (withPack d (mended z (packOf d))) (record { records = o .records; numbers = g .numbers; accounts = g .accounts; maps = g .maps; limits = o .limits })
+
+  -- .. so restart is carried out, whatever memory holds
+  pub restarts : (m : Memory) → Holds (memoryLengths z m) → restart z (stateWith d (mended z (packOf d)) m) ≡ refusal 0 (restarted z (withPack d (mended z (packOf d))))
+  unfolding restart allFit firstNo
+  restarts m l = let st = stateWith d (mended z (packOf d)) m in
+      ap (λ (n : ℕ). outcome n 0 st (restarted z (st .disk)))
+      (first-yes 1 (allFit z st) (ask 2 (diskRules z st) none) (fits, (mended-lengths, l)) ∙ first-yes 2 (diskRules z st) none (mended-rules m))
+
+-- ── a pack that keeps the rules ──
+module _ (z : Sizes) (d : Pack) (f : PackFit z d) where
+  -- the rules, of the pack's look-ups
+  pub record Sound : Type 0 where
+    pub empty-account : (s : ℕ) → s < z .slots → at (d .numbers) s ≡ 0 → at (d .accounts) s ≡ 0
+    pub empty-map : (i : ℕ) → i < allPages z → at (d .numbers) (slotOf z i) ≡ 0 → at (d .maps) i ≡ 0
+    pub map-fit : (i : ℕ) → i < allPages z → (r : ℕ) → at (d .maps) i ≡ suc r → r < z .records
+    pub map-once : (i : ℕ) → i < allPages z → (j : ℕ) → j < allPages z → (r : ℕ) → at (d .maps) i ≡ suc r → at (d .maps) j ≡ suc r → i ≡ j
+    pub number-once : (s : ℕ) → s < z .slots → (t : ℕ) → t < z .slots → (r : ℕ) → at (d .numbers) s ≡ suc r → at (d .numbers) t ≡ suc r → s ≡ t
+    pub account-fit : (s : ℕ) → s < z .slots → at (d .accounts) s < z .accounts
+
+  module _ (o : Sound) where
+    slot-in : (x : Place) → In z x → slotAt x < z .slots
+    slot-in (number s) h = h
+    slot-in (account s) h = h
+    slot-in (entry s p) h = h .0
+
+    not-doubled : (s : ℕ) → s < z .slots → ¬ (Holds (doubled z d s))
+    not-doubled s h (nz, (t, l, e)) = go (at (d .numbers) s) refl
+      where
+        go : (n : ℕ) → at (d .numbers) s ≡ n → ⊥
+        go zero w = nz w
+        go (suc r) w = omega (arith, l, o .number-once s h t (omega (arith, l, h)) r w (e ∙ w))
+
+    -- a place of a slot whose number is 0 is 0
+    empty : (x : Place) → In z x → at (d .numbers) (slotAt x) ≡ 0 → held z d x ≡ 0
+    empty (number s) h e = e
+    empty (account s) h e = o .empty-account s h e
+    empty (entry s p) h e = o .empty-map (pageOf z s p) (page-inside z s p (h .0) (h .1)) (rw (digits-div s (h .1)) e)
+
+    -- no step wants a place that is not 0
+    pub none-changes : (k : ℕ) (x : Place) → In z x → ¬ (Holds (changes z d k x))
+    unfolding wants
+    none-changes zero x h c = not-doubled (slotAt x) (slot-in x h) (c .1)
+    none-changes (suc zero) x h c = c .0 (empty x h (c .1))
+    none-changes (suc (suc zero)) (number s) h c = c .1
+    none-changes (suc (suc zero)) (account s) h c = c .1 (o .account-fit s h)
+    none-changes (suc (suc zero)) (entry s p) h c = c .1
+    none-changes (suc (suc (suc zero))) (number s) h c = c .1
+    none-changes (suc (suc (suc zero))) (account s) h c = c .1
+    none-changes (suc (suc (suc zero))) (entry s p) h c = go (at (d .maps) (pageOf z s p)) refl
+      where
+        go : (n : ℕ) → at (d .maps) (pageOf z s p) ≡ n → ⊥
+        go zero w = c .0 w
+        go (suc r) w = omega (arith, w, c .1, o .map-fit (pageOf z s p) (page-inside z s p (h .0) (h .1)) r w)
+    none-changes (suc (suc (suc (suc k)))) (number s) h c = c .1
+    none-changes (suc (suc (suc (suc k)))) (account s) h c = c .1
+    none-changes (suc (suc (suc (suc k)))) (entry s p) h (nz, (r, e, (i, a, (j, b, (n, (u, v)))))) = n (o .map-once i a j b r u v)
+
+    gather-none : {A : Type 0} (n : ℕ) (p : ℕ → Bool) (g : ℕ → A) → ((i : ℕ) → i < n → ¬ (T (p i))) → gather n p g ≡ []
+    unfolding gather
+    gather-none zero p g h = refl
+    gather-none (suc n) p g h = rw (gather-none n p g (λ i l. h i (omega arith)), ¬T→false (p n) (h n (omega arith)))
+
+    pub listed-none : (k n : ℕ) → listed z d n (changes z d k) ≡ []
+    unfolding listed
+    listed-none k n = gather-none (allPlaces z) (λ i. test (changes z d k (placeAt z i))) _ (λ i h t. none-changes k (placeAt z i) (place-in z i h) (sound (changes z d k (placeAt z i)) t))
+
+    pub after-same : (k : ℕ) → after z d k ≡ d
+    unfolding after
+    after-same zero = refl
+    after-same (suc k) = rw (after-same k) (cleared-none z d (changes z d k) f (none-changes k))
+
+    pub listed-same : (k : ℕ) → listedBy z d k ≡ []
+    unfolding listedBy
+    listed-same zero = refl
+    listed-same (suc k) = rw (listed-same k, after-same k) (listed-none k (suc k))
+
+pub sound-pack : (z : Sizes) (st : State) (f : PackFit z (packOf (st .disk))) → Holds (diskRules z st) → Sound z (packOf (st .disk)) f
+sound-pack z st f h = let o = disk-ruled z st h in record {
+  empty-account = o .empty-account;
+  empty-map = o .empty-map;
+  map-fit = o .map-fit;
+  map-once = o .map-once;
+  number-once = o .number-once;
+  account-fit = o .account-fit;
+}
+
+-- "and a sound pack is unchanged", with no change listed
+pub sound-same : (z : Sizes) (st : State) → Holds (sizesFit z) → Holds (diskLengths z (st .disk)) → Holds (diskRules z st) → (mended z (packOf (st .disk)) ≡ packOf (st .disk)) × (allChanges z (packOf (st .disk)) ≡ [])
+sound-same z st fits long h = let f = pack-fit z (st .disk) fits long in let o = sound-pack z st f h in
+    (after-same z (packOf (st .disk)) f o 5, listed-same z (packOf (st .disk)) f o 5)
+
+-- "mending again lists no change", and changes none
+pub mended-again : (z : Sizes) (d : Disk) → Holds (sizesFit z) → Holds (diskLengths z d) → Memory → (let e = mended z (packOf d) in (mended z e ≡ e) × (allChanges z e ≡ []))
+mended-again z d fits long m = sound-same z (stateWith d (mended z (packOf d)) m) fits (mended-lengths z d fits long) (mended-rules z d fits long m)

@@ -1,0 +1,97 @@
+//! Mending: the reference, the C port and the proved keeper over random packs, compared by answer, list and disk part; and what the paper
+//! promises of a mended pack.
+
+use reference::drive::packs::pack;
+use reference::event::Answer;
+use reference::keeper::Keeper;
+use reference::linked::c_port::Lent;
+use reference::mend::{mend, places, Change};
+use reference::rules;
+use reference::tables::{Disk, Memory, Sizes};
+
+const PACKS: u64 = 100_000;
+/// What the list has before: a place that nobody touched keeps it.
+const UNTOUCHED: Change = Change { slot: 9, page: 9, old: 9, reason: 9 };
+
+type Mended = (Answer, Disk, Vec<Change>);
+
+fn by_reference(sizes: &Sizes, disk: &Disk, room: usize) -> Mended {
+    let (mut disk, mut list) = (disk.clone(), vec![UNTOUCHED; room]);
+    let answer = mend(sizes, &mut disk, &mut list);
+    (answer, disk, list)
+}
+
+fn lent(sizes: &Sizes, disk: &Disk) -> Keeper {
+    Keeper { sizes: *sizes, disk: disk.clone(), memory: Memory::zeros(&Sizes::default()) }
+}
+
+fn by_c_port(sizes: &Sizes, disk: &Disk, room: usize) -> Mended {
+    let (mut keeper, mut list) = (lent(sizes, disk), vec![UNTOUCHED; room]);
+    let answer = Lent::of(&mut keeper).mend(&mut list);
+    (answer, keeper.disk, list)
+}
+
+#[cfg(keeper)]
+fn by_proved(sizes: &Sizes, disk: &Disk, room: usize) -> Mended {
+    let (mut keeper, mut list) = (lent(sizes, disk), vec![UNTOUCHED; room]);
+    let answer = reference::linked::proved::mend(&mut keeper, &mut list);
+    (answer, keeper.disk, list)
+}
+
+/// What all of them leave.
+fn mended(sizes: &Sizes, disk: &Disk, room: usize, seed: u64) -> Mended {
+    let wanted = by_reference(sizes, disk, room);
+    assert_eq!(by_c_port(sizes, disk, room), wanted, "the C port, pack {seed}");
+    #[cfg(keeper)]
+    assert_eq!(by_proved(sizes, disk, room), wanted, "the proved keeper, pack {seed}");
+    wanted
+}
+
+fn count(answer: Answer) -> usize {
+    assert_eq!(answer.refusal, 0);
+    answer.result as usize
+}
+
+#[test]
+fn mended_alike() {
+    let (mut reasons, mut sound) = ([0u64; 6], 0);
+    for seed in 0..PACKS {
+        let (sizes, disk) = pack(seed);
+        let room = places(&sizes) + (seed % 3) as usize;
+        let (answer, after, list) = mended(&sizes, &disk, room, seed);
+        let changes = count(answer);
+        // a sound pack is unchanged; a mended one passes, and mending it again changes nothing
+        let kept = rules::disk::kept(&sizes, &disk);
+        assert!(!kept || changes == 0, "pack {seed}");
+        assert_eq!(changes == 0, after == disk, "pack {seed}");
+        assert!(rules::disk::kept(&sizes, &after), "pack {seed}");
+        let (answer, again, _) = mended(&sizes, &after, room, seed);
+        assert_eq!((count(answer), again), (0, after), "pack {seed}");
+        assert!(list[changes..].iter().all(|&place| place == UNTOUCHED), "pack {seed}");
+        list[..changes].iter().for_each(|change| reasons[change.reason as usize] += 1);
+        sound += kept as u64;
+    }
+    println!("{PACKS} packs, {sound} of them sound; changes by reason {:?}", &reasons[1..]);
+    assert!(sound > PACKS / 10 && reasons[1..].iter().all(|&changes| changes > PACKS / 10));
+}
+
+#[test]
+fn refusals() {
+    for seed in 0..2_000 {
+        let (sizes, disk) = pack(seed);
+        let short = places(&sizes) - 1;
+        assert_eq!(mended(&sizes, &disk, short, seed), (Answer::refused(24), disk.clone(), vec![UNTOUCHED; short]));
+        // 1 is asked before 24
+        let mut other = disk.clone();
+        match seed % 5 {
+            0 => other.records.push(0),
+            1 => other.numbers.push(0),
+            2 => other.accounts.push(0),
+            3 => other.maps.push(0),
+            _ => other.limits.push(0),
+        }
+        assert_eq!(mended(&sizes, &other, short, seed), (Answer::refused(1), other.clone(), vec![UNTOUCHED; short]));
+        let none = Sizes { records: 0, ..sizes };
+        assert_eq!(mended(&none, &disk, short, seed).0, Answer::refused(1));
+    }
+}
