@@ -36,6 +36,7 @@ mutants:
 
 docs:
 	python3 tools/tables.py --write
+	python3 tools/walks.py --write
 	python3 tools/pictures.py --write
 	python3 tools/spread.py --write
 	python3 tools/counts.py --write docs/PROOF.md

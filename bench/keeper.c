@@ -67,14 +67,36 @@ struct answer keeper_restart(struct keeper *k)
     return refused(0);
 }
 
+/* Once questions 1 and 2 said yes: the request's own questions, and its work. */
+static struct answer by_its_own(struct keeper *k, const struct request *r)
+{
+    uint32_t refusal = r->kind == LOOK ? 3 : first_refusal(k, r);
+    if (refusal != 0)
+        return refused(refusal);
+    return (struct answer){.result = carry_out(k, r)};
+}
+
 struct answer keeper_apply(struct keeper *k, struct request r)
 {
     uint32_t refusal = common(k);
-    if (refusal == 0)
-        refusal = r.kind == LOOK ? 3 : first_refusal(k, &r);
-    if (refusal != 0)
-        return refused(refusal);
-    return (struct answer){.result = carry_out(k, &r)};
+    return refusal != 0 ? refused(refusal) : by_its_own(k, &r);
+}
+
+/* Questions 1 and 2 are asked once: an event leaves the tables as they want them. */
+struct answer keeper_apply_all(
+    struct keeper *k, const uint32_t *requests, size_t requests_count, uint32_t *answers, size_t answers_count)
+{
+    size_t asked = requests_count / 5, told = answers_count / 2;
+    uint32_t refusal = common(k);
+    struct answer last = {0};
+    for (size_t n = 0; n < asked && n < told; n++) {
+        const uint32_t *at = requests + 5 * n;
+        struct request r = {at[0], at[1], at[2], at[3], at[4]};
+        last = refusal != 0 ? refused(refusal) : by_its_own(k, &r);
+        answers[2 * n] = last.refusal;
+        answers[2 * n + 1] = last.result;
+    }
+    return last;
 }
 
 struct part keeper_page_look(const struct keeper *k, size_t slot, size_t page)

@@ -72,6 +72,9 @@ struct answer keeper_format(struct keeper *keeper);
 struct answer keeper_restart(struct keeper *keeper);
 struct answer keeper_apply(struct keeper *keeper, struct request request);
 struct answer keeper_mend(struct keeper *keeper, struct changes changes);
+/* five numbers a request, two an answer */
+struct answer keeper_apply_all(
+    struct keeper *keeper, const uint32_t *requests, size_t requests_count, uint32_t *answers, size_t answers_count);
 struct part keeper_page_look(const struct keeper *keeper, size_t slot, size_t page);
 
 #endif

@@ -138,6 +138,23 @@ def table(name, rounds, rows):
     yield ""
 
 
+def in_lists(size):
+    """By the kinds of a stretch: the nanoseconds of an event, keeper and C, by the length of the lists; single calls first."""
+    lines = [line.split("\t") for line in output(str(BENCH), "lists", size, SECONDS).splitlines()]
+    return {kinds: [(float(keeper), float(c_port)) for keeper, c_port in zip(times[::2], times[1::2])] for kinds, *times in lines}
+
+
+def lists_table(name, size):
+    yield f"### In lists, {name[0].lower()}{name[1:]}\n\nNanoseconds an event, keeper and C: single calls, and lists of 1, 10, 100 and 1,000 requests in one call.\n"
+    yield "| events | single | 1 | 10 | 100 | 1,000 | keeper/C in lists of 1,000 | single/lists of 1,000 |"
+    yield "|---|" + "--:|" * 7
+    for kinds, times in in_lists(size).items():
+        (single, _), (keeper, c_port) = times[0], times[-1]
+        figures = " | ".join(f"{a:,.0f} {b:,.0f}" for a, b in times)
+        yield f"| {kinds} | {figures} | {keeper / c_port:.2f} | {single / keeper:.1f} |"
+    yield ""
+
+
 def machine():
     """When and where, without the machine's name."""
     model = re.search(r"model name\s*: (.*)", pathlib.Path("/proc/cpuinfo").read_text())[1]
@@ -160,7 +177,8 @@ def main():
         return
     subprocess.run(BUILD.split(), cwd=ROOT, check=True)
     sizes = [measured(size) for size in SIZES]
-    lines = [*machine(), *summary(sizes), *searches, *(line for size in sizes for line in table(*size))]
+    lists = [line for size, (name, _, _) in zip(SIZES, sizes) for line in lists_table(name, size)]
+    lines = [*machine(), *summary(sizes), *searches, *(line for size in sizes for line in table(*size)), *lists]
     text = "\n".join(lines)
     if into:
         above = into.read_text().split(HEADING)[0]

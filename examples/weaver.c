@@ -6,7 +6,8 @@
 #include <stdlib.h>
 #include "filedisk.h"
 
-static const KeeperSizes sizes = {.words = 4, .records = 16, .frames = 4, .slots = 2, .pages = 6, .accounts = 2};
+enum { WORDS = 4 };
+static const KeeperSizes sizes = {.words = WORDS, .records = 16, .frames = 4, .slots = 2, .pages = 6, .accounts = 2};
 static Keeper keeper;
 static FileDisk disk;
 
@@ -40,11 +41,25 @@ static int power_on(const char *path)
     return 0;
 }
 
+/* A page's words in one call; writes store nothing to the disk part, so nothing is brought to the device. The first refusal, or 0. */
+static uint32_t write_page(uint32_t slot, uint32_t page, uint32_t first)
+{
+    KeeperRequest requests[WORDS];
+    KeeperAnswer answers[WORDS];
+    for (uint32_t word = 0; word < WORDS; word++)
+        requests[word] = (KeeperRequest){KEEPER_WRITE, slot, page, word, first + word};
+    keeper_easy_apply_all(&keeper, requests, answers, WORDS);
+    for (uint32_t word = 0; word < WORDS; word++)
+        if (answers[word].refusal != KEEPER_DONE)
+            return answers[word].refusal;
+    return KEEPER_DONE;
+}
+
 static int weave(uint32_t slot, uint32_t page, uint32_t first)
 {
     uint32_t left, refusal = filedisk_bring(&disk, &keeper, slot, page);
-    for (uint32_t word = 0; word < sizes.words && refusal == KEEPER_DONE; word++)
-        refusal = keeper_write(&keeper, slot, page, word, first + word).refusal;
+    if (refusal == KEEPER_DONE)
+        refusal = write_page(slot, page, first);
     if (refusal == KEEPER_DONE)
         refusal = filedisk_save(&disk, &keeper, slot, &left);
     return refusal == KEEPER_DONE ? 0 : failed("weave", refusal);

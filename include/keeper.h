@@ -89,6 +89,10 @@ KEEPER_ASSERT(sizeof(KeeperAnswer) == 8, "refusal at 0, result at 4");
 KEEPER_ASSERT(sizeof(KeeperChange) == 16, "four numbers of 4 bytes");
 KEEPER_ASSERT(sizeof(KeeperPart) == 24 && offsetof(KeeperPart, start) == 8, "refusal at 0, start at 8, count at 16");
 
+/* Arrays of requests and answers as arguments of keeper_apply_all: so many structs are the numbers that it takes. */
+#define KEEPER_REQUESTS(list, count) (const uint32_t *)(list), 5 * (size_t)(count)
+#define KEEPER_ANSWERS(list, count) (uint32_t *)(list), 2 * (size_t)(count)
+
 /* The kinds of request. */
 enum {
     KEEPER_CREATE = 1,      /* slot, account, number */
@@ -222,6 +226,34 @@ KeeperAnswer keeper_restart(
 KeeperAnswer keeper_apply(
     KeeperSizes sizes,
     KeeperRequest request,
+    KeeperFrame *frames, size_t frames_count,          /* F */
+    KeeperPool *pool,
+    uint32_t *records, size_t records_count,           /* R * W */
+    uint32_t *numbers, size_t numbers_count,           /* S */
+    uint16_t *accounts, size_t accounts_count,         /* S */
+    uint16_t *maps, size_t maps_count,                 /* S * N */
+    uint16_t *limits, size_t limits_count,             /* Q */
+    uint32_t *frame_words, size_t frame_words_count,   /* F * W */
+    uint16_t *free_queue, size_t free_queue_count,     /* F */
+    uint16_t *removal_list, size_t removal_list_count, /* F */
+    uint16_t *addresses, size_t addresses_count,       /* S * N */
+    uint8_t *states, size_t states_count,              /* R */
+    uint8_t *owners, size_t owners_count,              /* R */
+    uint32_t *free_map, size_t free_map_count,         /* (R + 31) / 32 */
+    uint8_t *active, size_t active_count,              /* S */
+    uint8_t *updating, size_t updating_count,          /* S */
+    uint16_t *images, size_t images_count,             /* S * N */
+    uint16_t *used, size_t used_count                  /* Q */
+);
+
+/* A list of requests in one call, five numbers each: carried out in order, each as keeper_apply would, up to the shorter
+ * of the two lists; the numbers past that stay. A refused request changes nothing, and the next one follows. The tables
+ * are checked once: refused with 1 or 2, that is every answer. Returns the last answer, or 0, 0 for an empty list.
+ * Arrays of KeeperRequest and KeeperAnswer: KEEPER_REQUESTS and KEEPER_ANSWERS. Lent: everything. */
+KeeperAnswer keeper_apply_all(
+    KeeperSizes sizes,
+    const uint32_t *requests, size_t requests_count,   /* 5 a request */
+    uint32_t *answers, size_t answers_count,           /* 2 an answer */
     KeeperFrame *frames, size_t frames_count,          /* F */
     KeeperPool *pool,
     uint32_t *records, size_t records_count,           /* R * W */

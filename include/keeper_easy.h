@@ -245,6 +245,33 @@ static inline KeeperAnswer keeper_easy_apply(Keeper *keeper, KeeperRequest reque
         keeper->used, sizes.accounts);
 }
 
+static inline KeeperAnswer keeper_easy_apply_all(Keeper *keeper, const KeeperRequest *requests, KeeperAnswer *answers, size_t count)
+{
+    const KeeperSizes sizes = keeper->sizes;
+    return keeper_apply_all(
+        sizes,
+        KEEPER_REQUESTS(requests, count),
+        KEEPER_ANSWERS(answers, count),
+        keeper->frames, sizes.frames,
+        keeper->pool,
+        keeper->records, sizes.records * sizes.words,
+        keeper->numbers, sizes.slots,
+        keeper->accounts, sizes.slots,
+        keeper->maps, sizes.slots * sizes.pages,
+        keeper->limits, sizes.accounts,
+        keeper->frame_words, sizes.frames * sizes.words,
+        keeper->free_queue, sizes.frames,
+        keeper->removal_list, sizes.frames,
+        keeper->addresses, sizes.slots * sizes.pages,
+        keeper->states, sizes.records,
+        keeper->owners, sizes.records,
+        keeper->free_map, (sizes.records + 31) / 32,
+        keeper->active, sizes.slots,
+        keeper->updating, sizes.slots,
+        keeper->images, sizes.slots * sizes.pages,
+        keeper->used, sizes.accounts);
+}
+
 static inline KeeperPart keeper_easy_page_look(const Keeper *keeper, size_t slot, size_t page)
 {
     const KeeperSizes sizes = keeper->sizes;

@@ -167,6 +167,39 @@ static void test_events(void)
     CHECK(done[16] == 0);
 }
 
+/* ── many requests in one call ── */
+enum { MOST_LISTED = 20 };
+static void test_lists(void)
+{
+    KeeperSizes sizes = sizes_of(W, R, F, S, N, Q);
+    unsigned different = 0, refused = 0, done = 0;
+    set_up(sizes);
+    CHECK(keeper_format(sizes, KEEPER_LEND_DISK(disk)).refusal == KEEPER_DONE);
+    CHECK(keeper_restart(sizes, EVERYTHING).refusal == KEEPER_DONE);
+    for (unsigned call = 0; call < 5000; call++) {
+        KeeperRequest requests[MOST_LISTED];
+        KeeperAnswer answers[MOST_LISTED + 1], last = {0, 0};
+        const uint32_t count = random_below(MOST_LISTED + 1);
+        memset(answers, 0x5A, sizeof answers);
+        for (uint32_t at = 0; at < count; at++)
+            requests[at] = any_request();
+        KeeperAnswer easy = keeper_easy_apply_all(&keeper, requests, answers, count);
+        for (uint32_t at = 0; at < count; at++) {
+            last = keeper_apply(sizes, requests[at], EVERYTHING);
+            different += last.refusal != answers[at].refusal || last.result != answers[at].result;
+            refused += last.refusal != KEEPER_DONE;
+            done += last.refusal == KEEPER_DONE;
+        }
+        different += easy.refusal != last.refusal || easy.result != last.result || answers[count].refusal != 0x5A5A5A5A || !same_tables();
+    }
+    CHECK(different == 0 && refused > 1000 && done > 1000);
+    KeeperRequest two[2] = {{KEEPER_CLAIM, 0, 0, 0, 0}, {KEEPER_READ, 0, 0, 0, 0}};
+    KeeperAnswer answers[2] = {{9, 9}, {9, 9}};
+    keeper.states[0] = 9;
+    CHECK(keeper_easy_apply_all(&keeper, two, answers, 2).refusal == KEEPER_NO_RULE);
+    CHECK(answers[0].refusal == KEEPER_NO_RULE && answers[1].refusal == KEEPER_NO_RULE && answers[0].result == 0 && keeper.states[0] == 9);
+}
+
 /* ── the transfers ── */
 static void test_transfers(void)
 {
@@ -399,6 +432,7 @@ int main(void)
 {
     test_place();
     test_events();
+    test_lists();
     test_transfers();
     test_text();
     test_bring();

@@ -108,11 +108,21 @@ def lend(table, call):
     return f"keeper->{table.name}, {length(table)}"
 
 
+# a list of requests is taken as arrays of structs
+LISTS = {
+    "apply_all": (
+        ["const KeeperRequest *requests", "KeeperAnswer *answers", "size_t count"],
+        ["sizes", "KEEPER_REQUESTS(requests, count)", "KEEPER_ANSWERS(answers, count)"],
+    ),
+}
+
+
 def call(name):
     """A call over the struct: what it takes before the tables stays, but for the sizes."""
     own = ctext.FIRST[name][1:]
-    taken = "".join(f", {word}" for word in own) + BEHIND.get(name, ("", []))[0]
     handed = ["sizes"] + [re.sub(r"^.*[ *]", "", word) for word in own]
+    own, handed = LISTS.get(name, (own, handed))
+    taken = "".join(f", {word}" for word in own) + BEHIND.get(name, ("", []))[0]
     lends = handed + [lend(table, name) for table in lent.in_call(name)] + BEHIND.get(name, ("", []))[1]
     body = ",\n        ".join(lends)
     const = "" if any(table.lent[name] == "mut" for table in lent.in_call(name)) else "const "

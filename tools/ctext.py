@@ -8,20 +8,28 @@ from lent import CALLS, PARTS, in_call, of_part
 C_TYPES = {"u8": "uint8_t", "u16": "uint16_t", "u32": "uint32_t", "Frame": "KeeperFrame", "Pool": "KeeperPool"}
 # how the C port calls a slice of such elements
 SLICES = {"u8": "bytes", "u16": "halves", "u32": "words", "Frame": "frames"}
-RUST_TYPES = {"KeeperSizes": "Sizes", "KeeperRequest": "Request", "size_t": "usize"}
+RUST_TYPES = {
+    "KeeperSizes": "Sizes", "KeeperRequest": "Request", "size_t": "usize", "const uint32_t *": "*const u32", "uint32_t *": "*mut u32",
+}
 
 # each call's name, its answer, what it takes before the tables, and what the header says of it
-NAMES = {"format": "keeper_format", "restart": "keeper_restart", "apply": "keeper_apply", "look": "keeper_page_look", "mend": "keeper_mend"}
-ANSWERS = {"format": "Answer", "restart": "Answer", "apply": "Answer", "look": "Part", "mend": "Answer"}
+NAMES = {
+    "format": "keeper_format", "restart": "keeper_restart", "apply": "keeper_apply", "apply_all": "keeper_apply_all",
+    "look": "keeper_page_look", "mend": "keeper_mend",
+}
+ANSWERS = {"format": "Answer", "restart": "Answer", "apply": "Answer", "apply_all": "Answer", "look": "Part", "mend": "Answer"}
 FIRST = {
     "format": ["KeeperSizes sizes"],
     "restart": ["KeeperSizes sizes"],
     "apply": ["KeeperSizes sizes", "KeeperRequest request"],
+    "apply_all": ["KeeperSizes sizes", "const uint32_t *requests, size_t requests_count", "uint32_t *answers, size_t answers_count"],
     "look": ["KeeperSizes sizes", "size_t slot", "size_t page"],
     "mend": ["KeeperSizes sizes"],
 }
 # what a call takes behind the tables, and its count
 LAST = {"mend": [("uint32_t *changes, size_t changes_count", "4 * S * (N + 2), or more")]}
+# how many numbers a list beside the tables has
+COUNTS = {"requests": "5 a request", "answers": "2 an answer"}
 COMMENTS = {
     "format": ["Zeroes the disk part, once for a new disk. Lent: the disk part. Answers 0 or 1."],
     "restart": [
@@ -29,6 +37,12 @@ COMMENTS = {
         "refused. Lent: everything. Answers 0, 1 or 2.",
     ],
     "apply": ["Every other event, asked for by a request. Lent: everything."],
+    "apply_all": [
+        "A list of requests in one call, five numbers each: carried out in order, each as keeper_apply would, up to the shorter",
+        "of the two lists; the numbers past that stay. A refused request changes nothing, and the next one follows. The tables",
+        "are checked once: refused with 1 or 2, that is every answer. Returns the last answer, or 0, 0 for an empty list.",
+        "Arrays of KeeperRequest and KeeperAnswer: KEEPER_REQUESTS and KEEPER_ANSWERS. Lent: everything.",
+    ],
     "look": [
         "A page look: which part of frame_words the page is. Lent: everything, only read; the pool goes by value. Refused as a",
         "read is.",
@@ -51,12 +65,18 @@ def parameter(table, call):
     return pointer if table.is_one() else f"{pointer}, size_t {table.name}_count"
 
 
+def counted(word):
+    """How many numbers a list beside the tables has, if it is one."""
+    named = re.search(r"\*(\w+)", word)
+    return COUNTS.get(named[1], "") if named else ""
+
+
 def prototype(call):
     """A call as the header declares it, with the count of each table."""
     tables = in_call(call)
     last = LAST.get(call, [])
     words = FIRST[call] + [parameter(table, call) for table in tables] + [word for word, _ in last]
-    lengths = [""] * len(FIRST[call]) + ["" if table.is_one() else table.length for table in tables] + [length for _, length in last]
+    lengths = [counted(word) for word in FIRST[call]] + ["" if table.is_one() else table.length for table in tables] + [length for _, length in last]
     words = [word + "," for word in words[:-1]] + words[-1:]
     width = max(map(len, words)) + 1
     body = [f"    {word:{width}}/* {length} */\n" if length else f"    {word}\n" for word, length in zip(words, lengths)]
@@ -152,9 +172,8 @@ def linked_lent():
 
 def linked_calls():
     """The proved keeper's calls as Rust declares them."""
-    def first(word):
-        kind, name = word.split()
-        return f"        {name}: {RUST_TYPES[kind]},\n"
+    def first(words):
+        return "".join(f"        {re.sub('.*[ *]', '', word)}: {RUST_TYPES[re.sub('[a-z_]*$', '', word).strip()]},\n" for word in words.split(", "))
 
     def declared(table, call):
         how = {"mut": "*mut ", "ref": "*const ", "val": ""}[table.lent[call]]

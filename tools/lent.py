@@ -7,10 +7,11 @@ from regions import Bad
 
 ROOT = pathlib.Path(__file__).resolve().parent.parent
 LIST = ROOT / "tools" / "tables.txt"
-# the calls that the list has a column for; mend takes the disk part, these tables to be changed and the others only read
+# the calls that the list has a column for; a list of requests is lent what one request is; mend takes the disk part, these tables to be
+# changed and the others only read
 COLUMNS = ("format", "restart", "apply", "look")
 MENDED = ("numbers", "accounts", "maps")
-CALLS = (*COLUMNS, "mend")
+CALLS = ("format", "restart", "apply", "apply_all", "look", "mend")
 PARTS = ("disk", "memory")
 WIDTHS = {"u8": 1, "u16": 2, "u32": 4, "Frame": 8, "Pool": 8}
 LENDING = {"mut", "ref", "val", "-"}
@@ -44,7 +45,8 @@ class Table(NamedTuple):
 def lending(cells):
     """How each call lends the table of a line."""
     mend = "-" if cells[1] != "disk" else "mut" if cells[0] in MENDED else "ref"
-    return {**dict(zip(COLUMNS, cells[5:9])), "mend": mend}
+    lent = dict(zip(COLUMNS, cells[5:9]))
+    return {**lent, "apply_all": lent["apply"], "mend": mend}
 
 
 def read(text):

@@ -96,7 +96,7 @@ class Header(unittest.TestCase):
 
     def test_calls(self):
         self.assertEqual(prototypes(), calls())
-        self.assertEqual(sorted(calls()), ["keeper_apply", "keeper_format", "keeper_mend", "keeper_page_look", "keeper_restart"])
+        self.assertEqual(sorted(calls()), ["keeper_apply", "keeper_apply_all", "keeper_format", "keeper_mend", "keeper_page_look", "keeper_restart"])
 
     def test_limits(self):
         source = dict(re.findall(r"const (MOST_\w+): usize = (\w+);", (MODEL / "sizes.rt").read_text()))

@@ -20,9 +20,12 @@ STEP = (CRATES / "model" / "specs" / "Step.antt").read_text()
 KEEPER = (CRATES / "keeper" / "src" / "lib.rt").read_text()
 REFERENCE = (lent.ROOT / "tests" / "reference" / "src" / "tables.rs").read_text()
 # the calls of the source, and the column of the list that says how each lends a table
-CODE_CALLS = {"keeper_format": "format", "keeper_restart": "restart", "keeper_apply": "apply", "page_look": "look", "keeper_page_look": "look", "keeper_mend": "mend"}
+CODE_CALLS = {
+    "keeper_format": "format", "keeper_restart": "restart", "keeper_apply": "apply", "keeper_apply_all": "apply_all",
+    "page_look": "look", "keeper_page_look": "look", "keeper_mend": "mend",
+}
 # what a call takes beside the tables
-BESIDE = {"sizes", "request", "slot", "page", "refusal", "changes"}
+BESIDE = {"sizes", "request", "requests", "answers", "slot", "page", "refusal", "changes"}
 
 
 def parameters(name):

@@ -6,7 +6,7 @@ use std::process::Command;
 const FILES: [&str; 5] = ["keeper", "mend", "rules", "questions", "events"];
 
 /// The proved keeper's calls have these names too: here they become c_port_*.
-const CALLS: [&str; 5] = ["format", "restart", "apply", "mend", "page_look"];
+const CALLS: [&str; 6] = ["format", "restart", "apply", "apply_all", "mend", "page_look"];
 
 fn run(command: &mut Command) {
     let status = command.status().unwrap_or_else(|error| panic!("{command:?}: {error}"));

@@ -31,6 +31,7 @@ pub mod FramesTruncate
 pub mod FramesRestart
 pub mod FramesKept
 pub mod Kept
+pub mod AfterKept
 pub mod Never
 pub mod Tidy
 pub mod EdgesAll

@@ -80,6 +80,10 @@ unfit z st h f = let g = fit z st f in omega (arith, h, g .memory .frames, g .si
 abbrev pub Refuses : Sizes → (State → Outcome State) → Type 0
 Refuses z G = (st : State) → ¬ Holds (allFit z st) → G st ≡ refusal 1 st
 
+-- what is left of tables of wrong lengths: an answer, and all as it was
+abbrev pub told : Answer → State → Outcome State
+told c st = record { answer = c; left = st }
+
 module _ (z : Sizes) (ys : List Frame) (before : State) where
   abbrev n : ℕ
   n = length ys
@@ -99,10 +103,10 @@ module _ (z : Sizes) (ys : List Frame) (before : State) where
     | no h ↦ let more : 64 < n = omega (arith, h) in refuses copy (unfit-copy more) ∙ sym (refuses (withFrames ys before) (unfit-lent more))
   ]
 
-  module _ (G : State → Outcome State) (refuses : Refuses z G) (after : State) (r : Answer) (fs : List Frame) (l : length fs ≡ 64) (e : record { answer = r; left = withFrames (framesOf fs n) after } ≡ G copy) where
+  module _ {c : Answer} (G : State → Outcome State) (refuses : (st : State) → ¬ Holds (allFit z st) → G st ≡ told c st) (after : State) (r : Answer) (fs : List Frame) (l : length fs ≡ 64) (e : record { answer = r; left = withFrames (framesOf fs n) after } ≡ G copy) where
     more : 64 < n → record { answer = r; left = withFrames (saved ys fs) after } ≡ G (withFrames ys before)
     more h =
-        let kept : record { answer = r; left = withFrames (framesOf fs n) after } ≡ refusal 1 copy = e ∙ refuses copy (unfit-copy h) in
+        let kept : record { answer = r; left = withFrames (framesOf fs n) after } ≡ told c copy = e ∙ refuses copy (unfit-copy h) in
         ap (λ (f : List Frame). record { answer = r; left = withFrames f after }) (saved-more ys fs h l (ap (λ (o : Outcome State). o .left .memory .core .frames) kept))
         ∙ ap (λ (o : Outcome State). record { answer = o .answer; left = withFrames ys (o .left) }) kept
         ∙ sym (refuses (withFrames ys before) (unfit-lent h))

@@ -8,6 +8,7 @@ pub mod Shared
 pub mod Reborrowed
 pub mod AnyLength
 pub mod Refused
+pub mod AnyList
 pub mod Callees
 pub mod Handed
 pub mod HandedAnew

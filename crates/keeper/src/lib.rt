@@ -1,11 +1,12 @@
 // The page keeper's calls, for firmware to link: all tables are lent by the caller, and no call has a precondition.
-// Each does its work on values, in crate `calls`; here stands what is lent. A name with the prefix is a C symbol (include/keeper.h).
+// Each does its work on values, in crate `calls`, a list of requests in crate `batch`; here stands what is lent. A name with the prefix is a C symbol (include/keeper.h).
 ghost use mathlib.Core.Path.{_≡_};
 ghost use denote.Ref.{ptr};
 ghost use Rattle.model.specs.Lent.{diskOf, entered, left};
 ghost use Rattle.model.specs.Part.{wordAt};
 ghost use Rattle.model.specs.Own.{leaves};
 ghost use Rattle.model.specs.Calls.{apply};
+ghost use Rattle.model.specs.ApplyAll.{applyAll};
 ghost use Rattle.model.specs.Step.{restart, format, look};
 ghost use Rattle.model.specs.Part.{partOf};
 ghost use Rattle.mending.specs.Mend.{mend};
@@ -86,6 +87,74 @@ pub extern "C" fn keeper_apply(
     save(frames, out.frames);
     take(pool, sizes, out.taken);
     deposit(pool, out.deposited);
+    out.answer
+}
+
+// A list of requests, five numbers each, carried out in order; their answers, two numbers each, and everything lent are the definition's.
+// Shut out: a call that leaves the answers as they were; one that puts the pool back.
+#[no_mangle]
+pub extern "C" fn keeper_apply_all(
+    sizes: Sizes,
+    requests: &[u32],
+    answers: &mut [u32],
+    frames: &mut [Frame],
+    pool: &mut Pool,
+    records: &mut [u32],
+    numbers: &mut [u32],
+    accounts: &mut [u16],
+    maps: &mut [u16],
+    limits: &mut [u16],
+    frame_words: &mut [u32],
+    free_queue: &mut [u16],
+    removal_list: &mut [u16],
+    addresses: &mut [u16],
+    states: &mut [u8],
+    owners: &mut [u8],
+    free_map: &mut [u32],
+    active: &mut [u8],
+    updating: &mut [u8],
+    images: &mut [u16],
+    used: &mut [u16],
+) -> Answer
+    ensures { λ r. ⌜ record {
+      answer = r;
+      answers = now (answers .exit);
+      left = left (now (frames .exit)) (now (pool .exit)) records numbers accounts maps limits
+          «frame_words» «free_queue» «removal_list» addresses states owners «free_map» active updating images used;
+    }
+        ≡ applyAll sizes (now (requests .entry)) (now (answers .entry))
+        (entered (now (frames .entry)) (now (pool .entry)) records numbers accounts maps limits
+        «frame_words» «free_queue» «removal_list» addresses states owners «free_map» active updating images used) ⌝ }
+{
+    let lent = frames.len();
+    let values = load(frames);
+    let copy = *pool;
+    let out = batch::apply_all(
+        sizes,
+        lent,
+        values,
+        copy,
+        requests,
+        answers,
+        records,
+        numbers,
+        accounts,
+        maps,
+        limits,
+        frame_words,
+        free_queue,
+        removal_list,
+        addresses,
+        states,
+        owners,
+        free_map,
+        active,
+        updating,
+        images,
+        used,
+    );
+    save(frames, out.frames);
+    renew(pool, out.pool);
     out.answer
 }
 

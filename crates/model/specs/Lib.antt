@@ -25,6 +25,7 @@ pub mod Bounds
 pub mod Own
 pub mod Calls
 pub mod EveryCall
+pub mod ApplyAll
 pub mod OwnLaws
 pub mod Part
 pub mod Ledger

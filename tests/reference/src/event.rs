@@ -28,6 +28,18 @@ pub struct Part {
     pub count: usize,
 }
 
+impl Request {
+    /// Its five numbers, as a list of requests has them.
+    pub fn numbers(&self) -> [u32; 5] {
+        [self.kind, self.first, self.second, self.third, self.fourth]
+    }
+
+    pub fn of(numbers: &[u32]) -> Request {
+        let [kind, first, second, third, fourth] = numbers[..] else { panic!("a request is five numbers") };
+        Request { kind, first, second, third, fourth }
+    }
+}
+
 impl Answer {
     pub fn done(result: u32) -> Answer {
         Answer { refusal: 0, result }

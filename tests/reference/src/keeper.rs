@@ -1,4 +1,4 @@
-//! The public calls over the lent tables: format, restart, apply, page look.
+//! The public calls over the lent tables: format, restart, apply, a list of requests, page look.
 
 use crate::event::{Answer, Event, Part, Request};
 use crate::tables::{Disk, Memory, Sizes};
@@ -53,6 +53,17 @@ impl Keeper {
             0 => Answer::done(events::carry_out(self, event)),
             number => Answer::refused(number),
         }
+    }
+
+    /// A list of requests, five numbers each: each is applied to what the one before it left, and its answer, two numbers,
+    /// stands in its place. Up to the shorter list. Returns the last answer.
+    pub fn apply_all(&mut self, requests: &[u32], answers: &mut [u32]) -> Answer {
+        let mut last = Answer::done(0);
+        for (request, answer) in requests.chunks_exact(5).zip(answers.chunks_exact_mut(2)) {
+            last = self.apply(Request::of(request));
+            answer.copy_from_slice(&[last.refusal, last.result]);
+        }
+        last
     }
 
     /// The frame's own part of the lent words; alters nothing.

@@ -1,6 +1,7 @@
 //! The lists that speed is measured over: every kind is there often, and the tables stay in use.
 
 use reference::bench::list::{list, List};
+use reference::bench::stretch::{stretch, LENGTH, STRETCHES};
 use reference::bench::{kinds, FORMAT, REFUSED, RESTART, SIZES};
 use reference::keeper::Keeper;
 use reference::queue;
@@ -30,6 +31,26 @@ fn every_kind_is_there_and_the_tables_are_in_use() {
         }
         for keeper in [&list.start, &list.after_mixed] {
             assert_eq!(in_use(keeper), [true; 3], "{name}: frames, records, designs");
+        }
+    }
+}
+
+/// Four of five events of a stretch are of its kinds, and it has all of them.
+#[test]
+fn stretches_have_their_kinds() {
+    for (name, sizes) in SIZES {
+        for kinds in STRETCHES {
+            let stretch = stretch(sizes, kinds);
+            let count = |kind: usize| {
+                stretch.requests.chunks(5).filter(|request| request[0] as usize == kind + 1).count()
+            };
+            let own: usize = kinds.iter().map(|&kind| count(kind)).sum();
+            assert!(own * 5 >= LENGTH * 4, "{name}: {}: {own}", stretch.name);
+            assert!(
+                kinds.iter().all(|&kind| count(kind) * kinds.len() * 5 >= LENGTH),
+                "{name}: {}",
+                stretch.name
+            );
         }
     }
 }

@@ -94,16 +94,16 @@ module _ {M : Type 1} (𝓤 : URA M) (H : Heap 𝓤) (A : Atoms 𝓤) (at-mem : 
   abbrev Core : Contract 𝓤
   Core = tripleOf 𝓤 H A core.signature (core.spec 𝓤 H A at-mem run)
 
-module _ {M : Type 1} (𝓤 : URA M) (H : Heap 𝓤) (A : Atoms 𝓤) (W : Given 𝓤 H A) (at-mem : Memory → SProp 𝓤) (run : Routine → Fun 𝓤) (κ0 : Lft) (q0 : Share) (κ1 : Lft) (q1 : Share) (κ2 : Lft)
-    (q2 : Share) (κ3 : Lft) (q3 : Share) (κ4 : Lft) (q4 : Share) (κ5 : Lft) (q5 : Share) (κ6 : Lft) (q6 : Share) (κ7 : Lft) (q7 : Share) (κ8 : Lft) (q8 : Share) (κ9 : Lft) (q9 : Share) (κ10 : Lft)
-    (q10 : Share) (κ11 : Lft) (q11 : Share) (κ12 : Lft) (q12 : Share) (κ13 : Lft) (q13 : Share) (κ14 : Lft) (q14 : Share) (κ15 : Lft) (q15 : Share) (κ16 : Lft) (q16 : Share) (κ17 : Lft) (q17 : Share)
+module _ {M : Type 1} (𝓤 : URA M) (H : Heap 𝓤) (A : Atoms 𝓤) (W : Given 𝓤 H A) (at-mem : Memory → SProp 𝓤) (run : Routine → Fun 𝓤) (κ0 : Lft) (q0 : Share) (κ1 : Lft) (q1 : Share) (κ2 : Lft) (q2 :
+    Share) (κ3 : Lft) (q3 : Share) (κ4 : Lft) (q4 : Share) (κ5 : Lft) (q5 : Share) (κ6 : Lft) (q6 : Share) (κ7 : Lft) (q7 : Share) (κ8 : Lft) (q8 : Share) (κ9 : Lft) (q9 : Share) (κ10 : Lft) (q10 :
+    Share) (κ11 : Lft) (q11 : Share) (κ12 : Lft) (q12 : Share) (κ13 : Lft) (q13 : Share) (κ14 : Lft) (q14 : Share) (κ15 : Lft) (q15 : Share) (κ16 : Lft) (q16 : Share) (κ17 : Lft) (q17 : Share)
     (z : Sizes) (request : Request)
-    (bf of′ : ℕ) (γf : GName) (ys : List Frame) (roomf : Room F (length ys)) (bp op : ℕ) (γp : GName) (p : Pool) (x0 : RefT (List ℕ)) (room0 : Room u32 (length (now x0))) (x1 : RefT (List ℕ))
-    (room1 : Room u32 (length (now x1))) (x2 : RefT (List ℕ)) (room2 : Room u16 (length (now x2))) (x3 : RefT (List ℕ)) (room3 : Room u16 (length (now x3))) (x4 : RefT (List ℕ)) (room4 : Room u16
-    (length (now x4))) (x5 : RefT (List ℕ)) (room5 : Room u32 (length (now x5))) (x6 : RefT (List ℕ)) (room6 : Room u16 (length (now x6))) (x7 : RefT (List ℕ)) (room7 : Room u16 (length (now x7)))
-    (x8 : RefT (List ℕ)) (room8 : Room u16 (length (now x8))) (x9 : RefT (List ℕ)) (room9 : Room u8 (length (now x9))) (x10 : RefT (List ℕ)) (room10 : Room u8 (length (now x10))) (x11 : RefT
-    (List ℕ)) (room11 : Room u32 (length (now x11))) (x12 : RefT (List ℕ)) (room12 : Room u8 (length (now x12))) (x13 : RefT (List ℕ)) (room13 : Room u8 (length (now x13))) (x14 : RefT (List ℕ))
-    (room14 : Room u16 (length (now x14))) (x15 : RefT (List ℕ)) (room15 : Room u16 (length (now x15))) (is-z : Is Z z (sizes-vals z)) (is-req : Is Q request (request-vals request)) where
+    (bf of′ : ℕ) (γf : GName) (ys : List Frame) (roomf : Room F (length ys)) (bp op : ℕ) (γp : GName) (p : Pool) (x0 : RefT (List ℕ)) (room0 : Room u32 (length (now x0))) (x1 : RefT (List ℕ)) (room1 :
+    Room u32 (length (now x1))) (x2 : RefT (List ℕ)) (room2 : Room u16 (length (now x2))) (x3 : RefT (List ℕ)) (room3 : Room u16 (length (now x3))) (x4 : RefT (List ℕ)) (room4 : Room u16 (length (now
+    x4))) (x5 : RefT (List ℕ)) (room5 : Room u32 (length (now x5))) (x6 : RefT (List ℕ)) (room6 : Room u16 (length (now x6))) (x7 : RefT (List ℕ)) (room7 : Room u16 (length (now x7))) (x8 : RefT (List
+    ℕ)) (room8 : Room u16 (length (now x8))) (x9 : RefT (List ℕ)) (room9 : Room u8 (length (now x9))) (x10 : RefT (List ℕ)) (room10 : Room u8 (length (now x10))) (x11 : RefT (List ℕ)) (room11 : Room
+    u32 (length (now x11))) (x12 : RefT (List ℕ)) (room12 : Room u8 (length (now x12))) (x13 : RefT (List ℕ)) (room13 : Room u8 (length (now x13))) (x14 : RefT (List ℕ)) (room14 : Room u16 (length
+    (now x14))) (x15 : RefT (List ℕ)) (room15 : Room u16 (length (now x15))) (is-z : Is Z z (sizes-vals z)) (is-req : Is Q request (request-vals request)) where
   -- the tables' lifetimes, shares, references and machine values, and their tokens
   abbrev κt : Lfts 16
   κt = (κ2, (κ3, (κ4, (κ5, (κ6, (κ7, (κ8, (κ9, (κ10, (κ11, (κ12, (κ13, (κ14, (κ15, (κ16, (κ17, tt))))))))))))))))
@@ -118,8 +118,7 @@ module _ {M : Type 1} (𝓤 : URA M) (H : Heap 𝓤) (A : Atoms 𝓤) (W : Given
   vt = (table-val x0 ∷ [], (table-val x1 ∷ [], (table-val x2 ∷ [], (table-val x3 ∷ [], (table-val x4 ∷ [], (table-val x5 ∷ [], (table-val x6 ∷ [], (table-val x7 ∷ [], (table-val x8 ∷ [], (table-val x9 ∷ [], (table-val x10 ∷ [], (table-val x11 ∷ [], (table-val x12 ∷ [], (table-val x13 ∷ [], (table-val x14 ∷ [], (table-val x15 ∷ [], tt))))))))))))))))
 
   abbrev tokens : Item 𝓤
-  tokens = (‵ (flft κ2 q2) ⊛ (‵ (flft κ3 q3) ⊛ (‵ (flft κ4 q4) ⊛ (‵ (flft κ5 q5) ⊛ (‵ (flft κ6 q6) ⊛ (‵ (flft κ7 q7) ⊛ (‵ (flft κ8 q8) ⊛ (‵ (flft κ9 q9) ⊛ (‵ (flft κ10 q10) ⊛ (‵ (flft κ11 q11) ⊛ (‵
-      (flft κ12 q12) ⊛ (‵ (flft κ13 q13) ⊛ (‵ (flft κ14 q14) ⊛ (‵ (flft κ15 q15) ⊛ (‵ (flft κ16 q16) ⊛ (‵ (flft κ17 q17) ⊛ ‵ ftrue))))))))))))))))
+  tokens = (‵ (flft κ2 q2) ⊛ (‵ (flft κ3 q3) ⊛ (‵ (flft κ4 q4) ⊛ (‵ (flft κ5 q5) ⊛ (‵ (flft κ6 q6) ⊛ (‵ (flft κ7 q7) ⊛ (‵ (flft κ8 q8) ⊛ (‵ (flft κ9 q9) ⊛ (‵ (flft κ10 q10) ⊛ (‵ (flft κ11 q11) ⊛ (‵ (flft κ12 q12) ⊛ (‵ (flft κ13 q13) ⊛ (‵ (flft κ14 q14) ⊛ (‵ (flft κ15 q15) ⊛ (‵ (flft κ16 q16) ⊛ (‵ (flft κ17 q17) ⊛ ‵ ftrue))))))))))))))))
 
   -- the parameters, and their machine values
   abbrev n : ℕ
@@ -157,11 +156,11 @@ module _ {M : Type 1} (𝓤 : URA M) (H : Heap 𝓤) (A : Atoms 𝓤) (W : Given
   abbrev Fin : Lasts → Fml
   Fin ms = fsep (finally u32 (name x0) (ms .1 .1 .1 .1 .1 .0)) (fsep (finally u32 (name x1) (ms .1 .1 .1 .1 .1 .1 .0)) (fsep (finally u16 (name x2) (ms .1 .1 .1 .1 .1 .1 .1 .0)) (fsep (finally u16
       (name x3) (ms .1 .1 .1 .1 .1 .1 .1 .1 .0)) (fsep (finally u16 (name x4) (ms .1 .1 .1 .1 .1 .1 .1 .1 .1 .0)) (fsep (finally u32 (name x5) (ms .1 .1 .1 .1 .1 .1 .1 .1 .1 .1 .0)) (fsep (finally u16
-      (name x6) (ms .1 .1 .1 .1 .1 .1 .1 .1 .1 .1 .1 .0)) (fsep (finally u16 (name x7) (ms .1 .1 .1 .1 .1 .1 .1 .1 .1 .1 .1 .1 .0)) (fsep (finally u16 (name x8)
-      (ms .1 .1 .1 .1 .1 .1 .1 .1 .1 .1 .1 .1 .1 .0)) (fsep (finally u8 (name x9) (ms .1 .1 .1 .1 .1 .1 .1 .1 .1 .1 .1 .1 .1 .1 .0)) (fsep (finally u8 (name x10)
-      (ms .1 .1 .1 .1 .1 .1 .1 .1 .1 .1 .1 .1 .1 .1 .1 .0)) (fsep (finally u32 (name x11) (ms .1 .1 .1 .1 .1 .1 .1 .1 .1 .1 .1 .1 .1 .1 .1 .1 .0)) (fsep (finally u8 (name x12)
-      (ms .1 .1 .1 .1 .1 .1 .1 .1 .1 .1 .1 .1 .1 .1 .1 .1 .1 .0)) (fsep (finally u8 (name x13) (ms .1 .1 .1 .1 .1 .1 .1 .1 .1 .1 .1 .1 .1 .1 .1 .1 .1 .1 .0)) (fsep (finally u16 (name x14)
-      (ms .1 .1 .1 .1 .1 .1 .1 .1 .1 .1 .1 .1 .1 .1 .1 .1 .1 .1 .1 .0)) (fsep (finally u16 (name x15) (ms .1 .1 .1 .1 .1 .1 .1 .1 .1 .1 .1 .1 .1 .1 .1 .1 .1 .1 .1 .1 .0)) ftrue)))))))))))))))
+      (name x6) (ms .1 .1 .1 .1 .1 .1 .1 .1 .1 .1 .1 .0)) (fsep (finally u16 (name x7) (ms .1 .1 .1 .1 .1 .1 .1 .1 .1 .1 .1 .1 .0)) (fsep (finally u16 (name x8) (ms .1 .1 .1 .1 .1 .1 .1 .1 .1 .1 .1 .1
+      .1 .0)) (fsep (finally u8 (name x9) (ms .1 .1 .1 .1 .1 .1 .1 .1 .1 .1 .1 .1 .1 .1 .0)) (fsep (finally u8 (name x10) (ms .1 .1 .1 .1 .1 .1 .1 .1 .1 .1 .1 .1 .1 .1 .1 .0)) (fsep (finally u32 (name
+      x11) (ms .1 .1 .1 .1 .1 .1 .1 .1 .1 .1 .1 .1 .1 .1 .1 .1 .0)) (fsep (finally u8 (name x12) (ms .1 .1 .1 .1 .1 .1 .1 .1 .1 .1 .1 .1 .1 .1 .1 .1 .1 .0)) (fsep (finally u8 (name x13) (ms .1 .1 .1
+      .1 .1 .1 .1 .1 .1 .1 .1 .1 .1 .1 .1 .1 .1 .1 .0)) (fsep (finally u16 (name x14) (ms .1 .1 .1 .1 .1 .1 .1 .1 .1 .1 .1 .1 .1 .1 .1 .1 .1 .1 .1 .0)) (fsep (finally u16 (name x15) (ms .1 .1 .1 .1 .1
+      .1 .1 .1 .1 .1 .1 .1 .1 .1 .1 .1 .1 .1 .1 .1 .0)) ftrue)))))))))))))))
 
   -- the state then, by its frames and its pool
   abbrev after : List Frame → Pool → Lasts → State
@@ -178,12 +177,11 @@ module _ {M : Type 1} (𝓤 : URA M) (H : Heap 𝓤) (A : Atoms 𝓤) (W : Given
   abbrev Left : Applied → Lasts → Type 0
   Left out ms = Says out ms × ((length (ms .1 .1 .1 .1 .1 .0) ≡ length (now x0)) × ((length (ms .1 .1 .1 .1 .1 .1 .0) ≡ length (now x1)) × ((length (ms .1 .1 .1 .1 .1 .1 .1 .0) ≡ length (now x2)) ×
       ((length (ms .1 .1 .1 .1 .1 .1 .1 .1 .0) ≡ length (now x3)) × ((length (ms .1 .1 .1 .1 .1 .1 .1 .1 .1 .0) ≡ length (now x4)) × ((length (ms .1 .1 .1 .1 .1 .1 .1 .1 .1 .1 .0) ≡ length (now x5)) ×
-      ((length (ms .1 .1 .1 .1 .1 .1 .1 .1 .1 .1 .1 .0) ≡ length (now x6)) × ((length (ms .1 .1 .1 .1 .1 .1 .1 .1 .1 .1 .1 .1 .0) ≡ length (now x7)) × ((length
-      (ms .1 .1 .1 .1 .1 .1 .1 .1 .1 .1 .1 .1 .1 .0) ≡ length (now x8)) × ((length (ms .1 .1 .1 .1 .1 .1 .1 .1 .1 .1 .1 .1 .1 .1 .0) ≡ length (now x9)) × ((length
-      (ms .1 .1 .1 .1 .1 .1 .1 .1 .1 .1 .1 .1 .1 .1 .1 .0) ≡ length (now x10)) × ((length (ms .1 .1 .1 .1 .1 .1 .1 .1 .1 .1 .1 .1 .1 .1 .1 .1 .0) ≡ length (now x11)) × ((length
-      (ms .1 .1 .1 .1 .1 .1 .1 .1 .1 .1 .1 .1 .1 .1 .1 .1 .1 .0) ≡ length (now x12)) × ((length (ms .1 .1 .1 .1 .1 .1 .1 .1 .1 .1 .1 .1 .1 .1 .1 .1 .1 .1 .0) ≡ length (now x13)) × ((length
-      (ms .1 .1 .1 .1 .1 .1 .1 .1 .1 .1 .1 .1 .1 .1 .1 .1 .1 .1 .1 .0) ≡ length (now x14)) × ((length (ms .1 .1 .1 .1 .1 .1 .1 .1 .1 .1 .1 .1 .1 .1 .1 .1 .1 .1 .1 .1 .0) ≡ length (now x15)) ×
-      Unit {0}))))))))))))))))
+      ((length (ms .1 .1 .1 .1 .1 .1 .1 .1 .1 .1 .1 .0) ≡ length (now x6)) × ((length (ms .1 .1 .1 .1 .1 .1 .1 .1 .1 .1 .1 .1 .0) ≡ length (now x7)) × ((length (ms .1 .1 .1 .1 .1 .1 .1 .1 .1 .1 .1 .1
+      .1 .0) ≡ length (now x8)) × ((length (ms .1 .1 .1 .1 .1 .1 .1 .1 .1 .1 .1 .1 .1 .1 .0) ≡ length (now x9)) × ((length (ms .1 .1 .1 .1 .1 .1 .1 .1 .1 .1 .1 .1 .1 .1 .1 .0) ≡ length (now x10)) ×
+      ((length (ms .1 .1 .1 .1 .1 .1 .1 .1 .1 .1 .1 .1 .1 .1 .1 .1 .0) ≡ length (now x11)) × ((length (ms .1 .1 .1 .1 .1 .1 .1 .1 .1 .1 .1 .1 .1 .1 .1 .1 .1 .0) ≡ length (now x12)) × ((length (ms .1
+      .1 .1 .1 .1 .1 .1 .1 .1 .1 .1 .1 .1 .1 .1 .1 .1 .1 .0) ≡ length (now x13)) × ((length (ms .1 .1 .1 .1 .1 .1 .1 .1 .1 .1 .1 .1 .1 .1 .1 .1 .1 .1 .1 .0) ≡ length (now x14)) × ((length (ms .1 .1 .1
+      .1 .1 .1 .1 .1 .1 .1 .1 .1 .1 .1 .1 .1 .1 .1 .1 .1 .0) ≡ length (now x15)) × Unit {0}))))))))))))))))
 
   -- what the call's contract says, from that, for a slice of frames of any length
   said : (out : Applied) (ms : Lasts) (zs : List Frame) → zs ≡ saved ys (out .frames) → length (out .frames) ≡ 64 → Says out ms
@@ -207,9 +205,9 @@ module _ {M : Type 1} (𝓤 : URA M) (H : Heap 𝓤) (A : Atoms 𝓤) (W : Given
   to-core v t = ((κt, qt, tt, (z, (request, (n, (loaded ys, (p, xt))))), (sizes-val z ∷ [], (request-val request ∷ [], (vint w64 n ∷ [], (v ∷ [], (t ∷ [], vt)))))), tt)
 
   abbrev Owned : Fml
-  Owned = owns (MutSlice (named 0) κ2 u32 ∷ MutSlice (named 1) κ3 u32 ∷ MutSlice (named 2) κ4 u16 ∷ MutSlice (named 3) κ5 u16 ∷ MutSlice (named 4) κ6 u16 ∷ MutSlice (named 5) κ7 u32 ∷ MutSlice
-      (named 6) κ8 u16 ∷ MutSlice (named 7) κ9 u16 ∷ MutSlice (named 8) κ10 u16 ∷ MutSlice (named 9) κ11 u8 ∷ MutSlice (named 10) κ12 u8 ∷ MutSlice (named 11) κ13 u32 ∷ MutSlice (named 12) κ14 u8 ∷
-      MutSlice (named 13) κ15 u8 ∷ MutSlice (named 14) κ16 u16 ∷ MutSlice (named 15) κ17 u16 ∷ []) xt vt
+  Owned = owns (MutSlice (named 0) κ2 u32 ∷ MutSlice (named 1) κ3 u32 ∷ MutSlice (named 2) κ4 u16 ∷ MutSlice (named 3) κ5 u16 ∷ MutSlice (named 4) κ6 u16 ∷ MutSlice (named 5) κ7 u32 ∷ MutSlice (named
+      6) κ8 u16 ∷ MutSlice (named 7) κ9 u16 ∷ MutSlice (named 8) κ10 u16 ∷ MutSlice (named 9) κ11 u8 ∷ MutSlice (named 10) κ12 u8 ∷ MutSlice (named 11) κ13 u32 ∷ MutSlice (named 12) κ14 u8 ∷ MutSlice
+      (named 13) κ15 u8 ∷ MutSlice (named 14) κ16 u16 ∷ MutSlice (named 15) κ17 u16 ∷ []) xt vt
 
   goes-core : (v t : Val) → Is F64 (loaded ys) (v ∷ []) → Is P p (t ∷ []) → ent 𝓤 (⋆ 𝓤 H A (tokens ∷ ‵ Owned ∷ [])) (Core 𝓤 H A at-mem run .pre (to-core v t))
   goes-core v t is was =
@@ -222,13 +220,12 @@ module _ {M : Type 1} (𝓤 : URA M) (H : Heap 𝓤) (A : Atoms 𝓤) (W : Given
       qed W (raw (ensured 𝓤 H A core.ended (core.clauses 𝓤 H A at-mem run) κt (z, (request, (n, (loaded ys, (p, xt))))) tt r) ∷ []) ∵
       use1 W (some (λ (ms : Lasts). ‵ (lasts core.ended κt (z, (request, (n, (loaded ys, (p, xt))))) ms) ⊛ raw (fact 𝓤 (Says r ms)))) (id⊢ 𝓤 _) $ pick ! (λ ms.
       split ! $ move ! (1 ∷ []) $ heard ! (Says r ms) (λ e₁. fsplit ! $ drop ! $ fsplit ! $ drop ! $ fsplit ! $ drop ! $ fsplit ! $ drop ! $ fsplit ! $ drop ! $
-      fsplit ! $ fsplit ! $ move ! (1 ∷ []) $ feqL ! (λ n0. move ! (1 ∷ []) $ fsplit ! $ fsplit ! $ move ! (1 ∷ []) $ feqL ! (λ n1. move ! (1 ∷ []) $ fsplit ! $ fsplit ! $ move ! (1 ∷ []) $
-      feqL ! (λ n2. move ! (1 ∷ []) $ fsplit ! $ fsplit ! $ move ! (1 ∷ []) $ feqL ! (λ n3. move ! (1 ∷ []) $ fsplit ! $ fsplit ! $ move ! (1 ∷ []) $ feqL ! (λ n4. move ! (1 ∷ []) $ fsplit ! $
-      fsplit ! $ move ! (1 ∷ []) $ feqL ! (λ n5. move ! (1 ∷ []) $ fsplit ! $ fsplit ! $ move ! (1 ∷ []) $ feqL ! (λ n6. move ! (1 ∷ []) $ fsplit ! $ fsplit ! $ move ! (1 ∷ []) $
-      feqL ! (λ n7. move ! (1 ∷ []) $ fsplit ! $ fsplit ! $ move ! (1 ∷ []) $ feqL ! (λ n8. move ! (1 ∷ []) $ fsplit ! $ fsplit ! $ move ! (1 ∷ []) $ feqL ! (λ n9. move ! (1 ∷ []) $ fsplit ! $
-      fsplit ! $ move ! (1 ∷ []) $ feqL ! (λ n10. move ! (1 ∷ []) $ fsplit ! $ fsplit ! $ move ! (1 ∷ []) $ feqL ! (λ n11. move ! (1 ∷ []) $ fsplit ! $ fsplit ! $ move ! (1 ∷ []) $
-      feqL ! (λ n12. move ! (1 ∷ []) $ fsplit ! $ fsplit ! $ move ! (1 ∷ []) $ feqL ! (λ n13. move ! (1 ∷ []) $ fsplit ! $ fsplit ! $ move ! (1 ∷ []) $ feqL ! (λ n14. move ! (1 ∷ []) $ fsplit ! $
-      fsplit ! $ move ! (1 ∷ []) $ feqL ! (λ n15. move ! (1 ∷ []) $
+      fsplit ! $ fsplit ! $ move ! (1 ∷ []) $ feqL ! (λ n0. move ! (1 ∷ []) $ fsplit ! $ fsplit ! $ move ! (1 ∷ []) $ feqL ! (λ n1. move ! (1 ∷ []) $ fsplit ! $ fsplit ! $ move ! (1 ∷ []) $ feqL ! (λ
+      n2. move ! (1 ∷ []) $ fsplit ! $ fsplit ! $ move ! (1 ∷ []) $ feqL ! (λ n3. move ! (1 ∷ []) $ fsplit ! $ fsplit ! $ move ! (1 ∷ []) $ feqL ! (λ n4. move ! (1 ∷ []) $ fsplit ! $ fsplit ! $ move !
+      (1 ∷ []) $ feqL ! (λ n5. move ! (1 ∷ []) $ fsplit ! $ fsplit ! $ move ! (1 ∷ []) $ feqL ! (λ n6. move ! (1 ∷ []) $ fsplit ! $ fsplit ! $ move ! (1 ∷ []) $ feqL ! (λ n7. move ! (1 ∷ []) $ fsplit
+      ! $ fsplit ! $ move ! (1 ∷ []) $ feqL ! (λ n8. move ! (1 ∷ []) $ fsplit ! $ fsplit ! $ move ! (1 ∷ []) $ feqL ! (λ n9. move ! (1 ∷ []) $ fsplit ! $ fsplit ! $ move ! (1 ∷ []) $ feqL ! (λ n10.
+      move ! (1 ∷ []) $ fsplit ! $ fsplit ! $ move ! (1 ∷ []) $ feqL ! (λ n11. move ! (1 ∷ []) $ fsplit ! $ fsplit ! $ move ! (1 ∷ []) $ feqL ! (λ n12. move ! (1 ∷ []) $ fsplit ! $ fsplit ! $ move !
+      (1 ∷ []) $ feqL ! (λ n13. move ! (1 ∷ []) $ fsplit ! $ fsplit ! $ move ! (1 ∷ []) $ feqL ! (λ n14. move ! (1 ∷ []) $ fsplit ! $ fsplit ! $ move ! (1 ∷ []) $ feqL ! (λ n15. move ! (1 ∷ []) $
       move ! (1 ∷ 0 ∷ []) $ fjoin ! $ move ! (1 ∷ 0 ∷ []) $ fjoin ! $ move ! (1 ∷ 0 ∷ []) $ fjoin ! $ move ! (1 ∷ 0 ∷ []) $ fjoin ! $ move ! (1 ∷ 0 ∷ []) $ fjoin ! $ move ! (1 ∷ 0 ∷ []) $ fjoin ! $
       move ! (1 ∷ 0 ∷ []) $ fjoin ! $ move ! (1 ∷ 0 ∷ []) $ fjoin ! $ move ! (1 ∷ 0 ∷ []) $ fjoin ! $ move ! (1 ∷ 0 ∷ []) $ fjoin ! $ move ! (1 ∷ 0 ∷ []) $ fjoin ! $ move ! (1 ∷ 0 ∷ []) $ fjoin ! $
       move ! (1 ∷ 0 ∷ []) $ fjoin ! $ move ! (1 ∷ 0 ∷ []) $ fjoin ! $ move ! (1 ∷ 0 ∷ []) $ fjoin ! $ move ! (1 ∷ 0 ∷ []) $ fjoin ! $
@@ -237,31 +234,29 @@ module _ {M : Type 1} (𝓤 : URA M) (H : Heap 𝓤) (A : Atoms 𝓤) (W : Given
   module _ (C : Calls 𝓤 H) (Λ : Loops 𝓤 H) (fm : FmC 𝓤 H (W .laws) C) (known-load : Triple 𝓤 (C #load) (Load 𝓤 H A at-mem run)) (known-core : Triple 𝓤 (C #core) (Core 𝓤 H A at-mem run))
       (known-save : Triple 𝓤 (C #save) (Save 𝓤 H A at-mem run)) (known-take : Triple 𝓤 (C #take) (Take 𝓤 H A at-mem run)) (known-deposit : Triple 𝓤 (C #deposit) (Deposit 𝓤 H A at-mem run)) where
     walk : ent 𝓤 (onEntry 𝓤 H A fn.signature (κ0, (κ1, κt)) (q0, (q1, qt)) (z, (request, (xf γf, (xp, xt)))) (sizes-val z ∷ [], (request-val request ∷ [], (sf ∷ [], (vptr bp op ∷ [], vt)))))
-        (WpFn 𝓤 H C Λ code.function (sizes-val z ∷ request-val request ∷ sf ∷ vptr bp op ∷ table-val x0 ∷ table-val x1 ∷ table-val x2 ∷ table-val x3 ∷ table-val x4 ∷ table-val x5 ∷ table-val x6 ∷
-        table-val x7 ∷ table-val x8 ∷ table-val x9 ∷ table-val x10 ∷ table-val x11 ∷ table-val x12 ∷ table-val x13 ∷ table-val x14 ∷ table-val x15 ∷ []) Post)
+        (WpFn 𝓤 H C Λ code.function (sizes-val z ∷ request-val request ∷ sf ∷ vptr bp op ∷ table-val x0 ∷ table-val x1 ∷ table-val x2 ∷ table-val x3 ∷ table-val x4 ∷ table-val x5 ∷ table-val x6 ∷ table-val x7 ∷ table-val x8 ∷ table-val x9 ∷ table-val x10 ∷ table-val x11 ∷ table-val x12 ∷ table-val x13 ∷ table-val x14 ∷ table-val x15 ∷ []) Post)
     walk =
-        qed W ((‵ (flft κ0 q0) ⊛ (‵ (flft κ1 q1) ⊛ tokens)) ∷ ‵ (owns (Z ∷ Q ∷ MutSlice (named 0) κ0 F ∷ MutRef (named 1) κ1 P ∷ MutSlice (named 2) κ2 u32 ∷ MutSlice (named 3) κ3 u32 ∷ MutSlice
-        (named 4) κ4 u16 ∷ MutSlice (named 5) κ5 u16 ∷ MutSlice (named 6) κ6 u16 ∷ MutSlice (named 7) κ7 u32 ∷ MutSlice (named 8) κ8 u16 ∷ MutSlice (named 9) κ9 u16 ∷ MutSlice (named 10) κ10 u16 ∷
-        MutSlice (named 11) κ11 u8 ∷ MutSlice (named 12) κ12 u8 ∷ MutSlice (named 13) κ13 u32 ∷ MutSlice (named 14) κ14 u8 ∷ MutSlice (named 15) κ15 u8 ∷ MutSlice (named 16) κ16 u16 ∷ MutSlice
-        (named 17) κ17 u16 ∷ []) (z, (request, (xf γf, (xp, xt)))) (sizes-val z ∷ [], (request-val request ∷ [], (sf ∷ [], (vptr bp op ∷ [], vt))))) ∷ []) ∵
+        qed W ((‵ (flft κ0 q0) ⊛ (‵ (flft κ1 q1) ⊛ tokens)) ∷ ‵ (owns (Z ∷ Q ∷ MutSlice (named 0) κ0 F ∷ MutRef (named 1) κ1 P ∷ MutSlice (named 2) κ2 u32 ∷ MutSlice (named 3) κ3 u32 ∷ MutSlice (named
+        4) κ4 u16 ∷ MutSlice (named 5) κ5 u16 ∷ MutSlice (named 6) κ6 u16 ∷ MutSlice (named 7) κ7 u32 ∷ MutSlice (named 8) κ8 u16 ∷ MutSlice (named 9) κ9 u16 ∷ MutSlice (named 10) κ10 u16 ∷ MutSlice
+        (named 11) κ11 u8 ∷ MutSlice (named 12) κ12 u8 ∷ MutSlice (named 13) κ13 u32 ∷ MutSlice (named 14) κ14 u8 ∷ MutSlice (named 15) κ15 u8 ∷ MutSlice (named 16) κ16 u16 ∷ MutSlice (named 17) κ17
+        u16 ∷ []) (z, (request, (xf γf, (xp, xt)))) (sizes-val z ∷ [], (request-val request ∷ [], (sf ∷ [], (vptr bp op ∷ [], vt))))) ∷ []) ∵
         split ! $ move ! (1 ∷ []) $ split ! $ move ! (3 ∷ []) $ fsplit ! $ drop ! $ fsplit ! $ drop ! $ fsplit ! $ move ! (1 ∷ []) $ fsplit ! $ keep ! (2 ∷ 5 ∷ 0 ∷ 3 ∷ 1 ∷ 4 ∷ []) $
         -- [what frames owns; its token; what pool owns; its token; what the slices own; their tokens]
         enter ! C Λ code.function (sizes-val z ∷ request-val request ∷ sf ∷ vptr bp op ∷ table-val x0 ∷ table-val x1 ∷ table-val x2 ∷ table-val x3 ∷ table-val x4 ∷ table-val x5 ∷ table-val x6 ∷ table-val x7 ∷ table-val x8 ∷ table-val x9 ∷ table-val x10 ∷ table-val x11 ∷ table-val x12 ∷ table-val x13 ∷ table-val x14 ∷ table-val x15 ∷ []) _ $
-        alloc1 ! (λ l0. alloc1 ! (λ l1. alloc1 ! (λ l2. alloc1 ! (λ l3. alloc1 ! (λ l4. alloc1 ! (λ l5. alloc1 ! (λ l6. alloc1 ! (λ l7. alloc1 ! (λ l8. alloc1 ! (λ l9. alloc1 ! (λ l10.
-        alloc1 ! (λ l11. alloc1 ! (λ l12. alloc1 ! (λ l13. alloc1 ! (λ l14. alloc1 ! (λ l15. alloc1 ! (λ l16. alloc1 ! (λ l17. alloc1 ! (λ l18. alloc1 ! (λ l19. alloc1 ! (λ l20. alloc1 ! (λ l21.
-        alloc1 ! (λ l22. alloc1 ! (λ l23. alloc1 ! (λ l24. alloc1 ! (λ l25. alloc1 ! (λ l26. alloc1 ! (λ l27. alloc1 ! (λ l28. alloc1 ! (λ l29. alloc1 ! (λ l30. alloc1 ! (λ l31. alloc1 ! (λ l32.
-        alloc1 ! (λ l33. alloc1 ! (λ l34. alloc1 ! (λ l35. alloc1 ! (λ l36. alloc1 ! (λ l37. alloc1 ! (λ l38. alloc1 ! (λ l39. alloc1 ! (λ l40. alloc1 ! (λ l41. alloc1 ! (λ l42. alloc1 ! (λ l43.
-        alloc1 ! (λ l44. alloc1 ! (λ l45. alloc1 ! (λ l46. alloc1 ! (λ l47. alloc1 ! (λ l48. alloc1 ! (λ l49. alloc1 ! (λ l50. alloc1 ! (λ l51. alloc1 ! (λ l52. alloc1 ! (λ l53. alloc1 ! (λ l54.
-        alloc1 ! (λ l55. alloc1 ! (λ l56. alloc1 ! (λ l57. alloc1 ! (λ l58. alloc1 ! (λ l59. alloc1 ! (λ l60. alloc1 ! (λ l61. alloc1 ! (λ l62. alloc1 ! (λ l63. alloc0 ! $ params1 ! $
+        alloc1 ! (λ l0. alloc1 ! (λ l1. alloc1 ! (λ l2. alloc1 ! (λ l3. alloc1 ! (λ l4. alloc1 ! (λ l5. alloc1 ! (λ l6. alloc1 ! (λ l7. alloc1 ! (λ l8. alloc1 ! (λ l9. alloc1 ! (λ l10. alloc1 ! (λ
+        l11. alloc1 ! (λ l12. alloc1 ! (λ l13. alloc1 ! (λ l14. alloc1 ! (λ l15. alloc1 ! (λ l16. alloc1 ! (λ l17. alloc1 ! (λ l18. alloc1 ! (λ l19. alloc1 ! (λ l20. alloc1 ! (λ l21. alloc1 ! (λ l22.
+        alloc1 ! (λ l23. alloc1 ! (λ l24. alloc1 ! (λ l25. alloc1 ! (λ l26. alloc1 ! (λ l27. alloc1 ! (λ l28. alloc1 ! (λ l29. alloc1 ! (λ l30. alloc1 ! (λ l31. alloc1 ! (λ l32. alloc1 ! (λ l33.
+        alloc1 ! (λ l34. alloc1 ! (λ l35. alloc1 ! (λ l36. alloc1 ! (λ l37. alloc1 ! (λ l38. alloc1 ! (λ l39. alloc1 ! (λ l40. alloc1 ! (λ l41. alloc1 ! (λ l42. alloc1 ! (λ l43. alloc1 ! (λ l44.
+        alloc1 ! (λ l45. alloc1 ! (λ l46. alloc1 ! (λ l47. alloc1 ! (λ l48. alloc1 ! (λ l49. alloc1 ! (λ l50. alloc1 ! (λ l51. alloc1 ! (λ l52. alloc1 ! (λ l53. alloc1 ! (λ l54. alloc1 ! (λ l55.
+        alloc1 ! (λ l56. alloc1 ! (λ l57. alloc1 ! (λ l58. alloc1 ! (λ l59. alloc1 ! (λ l60. alloc1 ! (λ l61. alloc1 ! (λ l62. alloc1 ! (λ l63. alloc0 ! $ params1 ! $
         pass1 ! (init ! 124 refl (typed-sizes 𝓤 H A W z is-z)) $ pass1 ! (init ! 122 refl (typed-request 𝓤 H A W request is-req)) $ pass1 ! (init ! 120 refl
         (tt, (tt, (record { fits = roomf .0 }, tt)))) $ pass1 ! (init ! 118 refl (tt, tt)) $ pass1 ! (init ! 116 refl (tt, (tt, (record { fits = room0 .0 }, tt)))) $ pass1 ! (init ! 114 refl
-        (tt, (tt, (record { fits = room1 .0 }, tt)))) $ pass1 ! (init ! 112 refl (tt, (tt, (record { fits = room2 .0 }, tt)))) $ pass1 ! (init ! 110 refl
-        (tt, (tt, (record { fits = room3 .0 }, tt)))) $ pass1 ! (init ! 108 refl (tt, (tt, (record { fits = room4 .0 }, tt)))) $ pass1 ! (init ! 106 refl
-        (tt, (tt, (record { fits = room5 .0 }, tt)))) $ pass1 ! (init ! 104 refl (tt, (tt, (record { fits = room6 .0 }, tt)))) $ pass1 ! (init ! 102 refl
-        (tt, (tt, (record { fits = room7 .0 }, tt)))) $ pass1 ! (init ! 100 refl (tt, (tt, (record { fits = room8 .0 }, tt)))) $ pass1 ! (init ! 98 refl (tt, (tt, (record { fits = room9 .0 }, tt)))) $
-        pass1 ! (init ! 96 refl (tt, (tt, (record { fits = room10 .0 }, tt)))) $ pass1 ! (init ! 94 refl (tt, (tt, (record { fits = room11 .0 }, tt)))) $ pass1 ! (init ! 92 refl
-        (tt, (tt, (record { fits = room12 .0 }, tt)))) $ pass1 ! (init ! 90 refl (tt, (tt, (record { fits = room13 .0 }, tt)))) $ pass1 ! (init ! 88 refl
-        (tt, (tt, (record { fits = room14 .0 }, tt)))) $ pass1 ! (init ! 86 refl (tt, (tt, (record { fits = room15 .0 }, tt)))) $ pass0 ! $
+        (tt, (tt, (record { fits = room1 .0 }, tt)))) $ pass1 ! (init ! 112 refl (tt, (tt, (record { fits = room2 .0 }, tt)))) $ pass1 ! (init ! 110 refl (tt, (tt, (record { fits = room3 .0 }, tt))))
+        $ pass1 ! (init ! 108 refl (tt, (tt, (record { fits = room4 .0 }, tt)))) $ pass1 ! (init ! 106 refl (tt, (tt, (record { fits = room5 .0 }, tt)))) $ pass1 ! (init ! 104 refl
+        (tt, (tt, (record { fits = room6 .0 }, tt)))) $ pass1 ! (init ! 102 refl (tt, (tt, (record { fits = room7 .0 }, tt)))) $ pass1 ! (init ! 100 refl (tt, (tt, (record { fits = room8 .0 }, tt))))
+        $ pass1 ! (init ! 98 refl (tt, (tt, (record { fits = room9 .0 }, tt)))) $ pass1 ! (init ! 96 refl (tt, (tt, (record { fits = room10 .0 }, tt)))) $ pass1 ! (init ! 94 refl
+        (tt, (tt, (record { fits = room11 .0 }, tt)))) $ pass1 ! (init ! 92 refl (tt, (tt, (record { fits = room12 .0 }, tt)))) $ pass1 ! (init ! 90 refl (tt, (tt, (record { fits = room13 .0 }, tt))))
+        $ pass1 ! (init ! 88 refl (tt, (tt, (record { fits = room14 .0 }, tt)))) $ pass1 ! (init ! 86 refl (tt, (tt, (record { fits = room15 .0 }, tt)))) $ pass0 ! $
         -- [_63 at 0; …; _i at 2 · (63 − i); …; what frames owns; …]
         assigns ! (of-opd ! (load ! (from ! (fld ! refl (stop !))) (look-in ! 120 (sub ! 1 refl (whole !))))) (from ! (stop !)) (init ! 84 refl (tt, record { fits = roomf .0 })) $
         reborrows ! 120 76 74 refl (sub ! 0 refl (whole !)) refl (tt, tt) refl refl (sub ! 1 refl (whole !)) refl (tt, (tt, (record { fits = roomf .0 }, tt))) $
@@ -301,13 +296,12 @@ module _ {M : Type 1} (𝓤 : URA M) (H : Heap 𝓤) (A : Atoms 𝓤) (W : Given
         -- the work
         move ! (135 ∷ 134 ∷ []) $ use2 W (raw (Core 𝓤 H A at-mem run .pre (to-core v (pool-val p)))) (goes-core v (pool-val p) is-a was) $
         calls-at ! fm (Core 𝓤 H A at-mem run) known-core (to-core v (pool-val p)) (and-then ! (load ! (from ! (stop !)) (look ! 131 refl)) (and-then ! (load ! (from ! (stop !)) (look ! 129 refl))
-        (and-then ! (load ! (from ! (stop !)) (look ! 91 refl)) (and-then ! (load ! (from ! (stop !)) (look ! 89 refl)) (and-then ! (load ! (from ! (stop !)) (look ! 87 refl))
-        (and-then ! (load ! (from ! (stop !)) (look ! 77 refl)) (and-then ! (load ! (from ! (stop !)) (look ! 73 refl)) (and-then ! (load ! (from ! (stop !)) (look ! 69 refl))
-        (and-then ! (load ! (from ! (stop !)) (look ! 65 refl)) (and-then ! (load ! (from ! (stop !)) (look ! 61 refl)) (and-then ! (load ! (from ! (stop !)) (look ! 57 refl))
-        (and-then ! (load ! (from ! (stop !)) (look ! 53 refl)) (and-then ! (load ! (from ! (stop !)) (look ! 49 refl)) (and-then ! (load ! (from ! (stop !)) (look ! 45 refl))
-        (and-then ! (load ! (from ! (stop !)) (look ! 41 refl)) (and-then ! (load ! (from ! (stop !)) (look ! 37 refl)) (and-then ! (load ! (from ! (stop !)) (look ! 33 refl))
-        (and-then ! (load ! (from ! (stop !)) (look ! 29 refl)) (and-then ! (load ! (from ! (stop !)) (look ! 25 refl)) (and-then ! (load ! (from ! (stop !)) (look ! 21 refl))
-        (and-then ! (load ! (from ! (stop !)) (look ! 17 refl)) (no-more !)))))))))))))))))))))) (λ w.
+        (and-then ! (load ! (from ! (stop !)) (look ! 91 refl)) (and-then ! (load ! (from ! (stop !)) (look ! 89 refl)) (and-then ! (load ! (from ! (stop !)) (look ! 87 refl)) (and-then ! (load !
+        (from ! (stop !)) (look ! 77 refl)) (and-then ! (load ! (from ! (stop !)) (look ! 73 refl)) (and-then ! (load ! (from ! (stop !)) (look ! 69 refl)) (and-then ! (load ! (from ! (stop !)) (look
+        ! 65 refl)) (and-then ! (load ! (from ! (stop !)) (look ! 61 refl)) (and-then ! (load ! (from ! (stop !)) (look ! 57 refl)) (and-then ! (load ! (from ! (stop !)) (look ! 53 refl)) (and-then !
+        (load ! (from ! (stop !)) (look ! 49 refl)) (and-then ! (load ! (from ! (stop !)) (look ! 45 refl)) (and-then ! (load ! (from ! (stop !)) (look ! 41 refl)) (and-then ! (load ! (from ! (stop
+        !)) (look ! 37 refl)) (and-then ! (load ! (from ! (stop !)) (look ! 33 refl)) (and-then ! (load ! (from ! (stop !)) (look ! 29 refl)) (and-then ! (load ! (from ! (stop !)) (look ! 25 refl))
+        (and-then ! (load ! (from ! (stop !)) (look ! 21 refl)) (and-then ! (load ! (from ! (stop !)) (look ! 17 refl)) (no-more !)))))))))))))))))))))) (λ w.
         use1 W (later (some (λ (out : Applied). (tokens ⊛ ‵ (O .own out (w ∷ []))) ⊛ raw (ensured 𝓤 H A core.ended (core.clauses 𝓤 H A at-mem run) κt (z, (request, (n, (loaded ys, (p, xt))))) tt out)))) (id⊢ 𝓤 _) $ await ! tt $ pick ! (λ out.
         split ! $ move ! (1 ∷ []) $ use1 W (some (λ (ms : Lasts). given (Left out ms) (‵ (Fin ms)))) (core-of out) $ pick ! (λ ms. learn ! (λ e₁.
         move ! (1 ∷ []) $ split ! $ move ! (1 ∷ []) $ peeks ! O (Is O) (shows 𝓤 H A O) out (w ∷ []) (λ is-o. drop ! $
@@ -326,8 +320,7 @@ module _ {M : Type 1} (𝓤 : URA M) (H : Heap 𝓤) (A : Atoms 𝓤) (W : Given
         lft-new ! tt (λ α. move ! (5 ∷ 6 ∷ []) $
         use2 W (later (some (λ (δ′ : GName). ‵ (MutRef (named 0) (α ∷ []) P .own (xq δ′ p) (vptr bp op ∷ [])) ⊛ ‵ (LentAgain P κ1 (α ∷ []) q1 γp bp op δ′ p)))) (lends-again 𝓤 H A W P (named 1) κ1 (α ∷ []) q1 γp bp op (named 0) p) $ await ! tt $ pick ! (λ δ′. split ! $
         move ! (2 ∷ 0 ∷ []) $ use2 W (raw (Take 𝓤 H A at-mem run .pre (to-take 𝓤 H A at-mem run (α ∷ []) fullShare (xq δ′ p) z (out .taken) (taken-val out)))) (goes-take 𝓤 H A at-mem run W (α ∷ []) fullShare (xq δ′ p) z (out .taken) (taken-val out) is-z (fields out w is-o .1 .0)) $
-        calls-at ! fm (Take 𝓤 H A at-mem run) known-take (to-take 𝓤 H A at-mem run (α ∷ []) fullShare (xq δ′ p) z (out .taken) (taken-val out)) (and-then ! (load ! (from ! (stop !)) (look ! 10 refl))
-        (and-then ! (load ! (from ! (stop !)) (look ! 132 refl)) (and-then ! (load ! (from ! (fld ! {d = 512} refl (stop !))) (look-in ! 86 (sub ! 1 {d = 512} refl (whole !)))) (no-more !)))) (λ u₁.
+        calls-at ! fm (Take 𝓤 H A at-mem run) known-take (to-take 𝓤 H A at-mem run (α ∷ []) fullShare (xq δ′ p) z (out .taken) (taken-val out)) (and-then ! (load ! (from ! (stop !)) (look ! 10 refl)) (and-then ! (load ! (from ! (stop !)) (look ! 132 refl)) (and-then ! (load ! (from ! (fld ! {d = 512} refl (stop !))) (look-in ! 86 (sub ! 1 {d = 512} refl (whole !)))) (no-more !)))) (λ u₁.
         use1 W (later (some (λ (r₁ : Unit {0}). ((‵ (flft (α ∷ []) fullShare) ⊛ ‵ ftrue) ⊛ ‵ (Nothing .own r₁ (u₁ ∷ []))) ⊛ raw (ensured 𝓤 H A take.ended (take.clauses 𝓤 H A at-mem run) (α ∷ [], tt) (xq δ′ p, (z, (out .taken, tt))) tt r₁)))) (id⊢ 𝓤 _) $ await ! tt $ pick ! (λ r₁.
         split ! $ move ! (1 ∷ []) $ use1 W (‵ (fres δ′ (P .coded .code (fewer out)))) (take-of 𝓤 H A at-mem run W (α ∷ []) (xq δ′ p) z (out .taken) r₁) $ move ! (1 ∷ []) $ split ! $ move ! (1 ∷ []) $ peeks ! Nothing (Is Nothing) (shows 𝓤 H A Nothing) r₁ (u₁ ∷ []) (λ is-u₁. drop ! $
         land ! (from ! (stop !)) (store ! 17 refl (nothing-lawful 𝓤 H A W .typed r₁ (u₁ ∷ []) is-u₁ .0)) $
@@ -341,25 +334,25 @@ module _ {M : Type 1} (𝓤 : URA M) (H : Heap 𝓤) (A : Atoms 𝓤) (W : Given
         land ! (from ! (stop !)) (store ! 17 refl (nothing-lawful 𝓤 H A W .typed r₃ (u₂ ∷ []) is-u₂ .0)) $
         assigns ! (of-opd ! (load ! (from ! (fld ! {d = 520} refl (stop !))) (look-in ! 87 (sub ! 3 {d = 520} refl (whole !))))) (from ! (stop !)) (init ! 135 refl (typed-answer 𝓤 H A W out (fields out w is-o .1 .1 .1))) $
         returns ! (look ! 135 refl) $
-        forget ! 135 refl $ forget ! 133 refl $ forget ! 131 refl $ forget ! 129 refl $ forget ! 127 refl $ forget ! 125 refl $ forget ! 123 refl $ forget ! 121 refl $ forget ! 119 refl $
-        forget ! 117 refl $ forget ! 115 refl $ forget ! 113 refl $ forget ! 111 refl $ forget ! 109 refl $ forget ! 107 refl $ forget ! 105 refl $ forget ! 103 refl $ forget ! 101 refl $
-        forget ! 99 refl $ forget ! 97 refl $ forget ! 95 refl $ forget ! 93 refl $ forget ! 91 refl $ forget ! 89 refl $ forget ! 87 refl $ forget ! 85 refl $ forget ! 83 refl $ forget ! 81 refl $
-        forget ! 79 refl $ forget ! 77 refl $ forget ! 75 refl $ forget ! 73 refl $ forget ! 71 refl $ forget ! 69 refl $ forget ! 67 refl $ forget ! 65 refl $ forget ! 63 refl $ forget ! 61 refl $
-        forget ! 59 refl $ forget ! 57 refl $ forget ! 55 refl $ forget ! 53 refl $ forget ! 51 refl $ forget ! 49 refl $ forget ! 47 refl $ forget ! 45 refl $ forget ! 43 refl $ forget ! 41 refl $
-        forget ! 39 refl $ forget ! 37 refl $ forget ! 35 refl $ forget ! 33 refl $ forget ! 31 refl $ forget ! 29 refl $ forget ! 27 refl $ forget ! 25 refl $ forget ! 23 refl $ forget ! 21 refl $
-        forget ! 19 refl $ forget ! 17 refl $ forget ! 15 refl $ forget ! 13 refl $ forget ! 11 refl $ forget ! 9 refl $
-        move ! (135 ∷ 136 ∷ []) $ free1 ! $ move ! (133 ∷ 134 ∷ []) $ free1 ! $ move ! (131 ∷ 132 ∷ []) $ free1 ! $ move ! (129 ∷ 130 ∷ []) $ free1 ! $ move ! (127 ∷ 128 ∷ []) $ free1 ! $
-        move ! (125 ∷ 126 ∷ []) $ free1 ! $ move ! (123 ∷ 124 ∷ []) $ free1 ! $ move ! (121 ∷ 122 ∷ []) $ free1 ! $ move ! (119 ∷ 120 ∷ []) $ free1 ! $ move ! (117 ∷ 118 ∷ []) $ free1 ! $
-        move ! (115 ∷ 116 ∷ []) $ free1 ! $ move ! (113 ∷ 114 ∷ []) $ free1 ! $ move ! (111 ∷ 112 ∷ []) $ free1 ! $ move ! (109 ∷ 110 ∷ []) $ free1 ! $ move ! (107 ∷ 108 ∷ []) $ free1 ! $
-        move ! (105 ∷ 106 ∷ []) $ free1 ! $ move ! (103 ∷ 104 ∷ []) $ free1 ! $ move ! (101 ∷ 102 ∷ []) $ free1 ! $ move ! (99 ∷ 100 ∷ []) $ free1 ! $ move ! (97 ∷ 98 ∷ []) $ free1 ! $ move ! (95 ∷
-        96 ∷ []) $ free1 ! $ move ! (93 ∷ 94 ∷ []) $ free1 ! $ move ! (91 ∷ 92 ∷ []) $ free1 ! $ move ! (89 ∷ 90 ∷ []) $ free1 ! $ move ! (87 ∷ 88 ∷ []) $ free1 ! $ move ! (85 ∷ 86 ∷ []) $ free1 ! $
-        move ! (83 ∷ 84 ∷ []) $ free1 ! $ move ! (81 ∷ 82 ∷ []) $ free1 ! $ move ! (79 ∷ 80 ∷ []) $ free1 ! $ move ! (77 ∷ 78 ∷ []) $ free1 ! $ move ! (75 ∷ 76 ∷ []) $ free1 ! $ move ! (73 ∷ 74 ∷
-        []) $ free1 ! $ move ! (71 ∷ 72 ∷ []) $ free1 ! $ move ! (69 ∷ 70 ∷ []) $ free1 ! $ move ! (67 ∷ 68 ∷ []) $ free1 ! $ move ! (65 ∷ 66 ∷ []) $ free1 ! $ move ! (63 ∷ 64 ∷ []) $ free1 ! $
-        move ! (61 ∷ 62 ∷ []) $ free1 ! $ move ! (59 ∷ 60 ∷ []) $ free1 ! $ move ! (57 ∷ 58 ∷ []) $ free1 ! $ move ! (55 ∷ 56 ∷ []) $ free1 ! $ move ! (53 ∷ 54 ∷ []) $ free1 ! $ move ! (51 ∷ 52 ∷
-        []) $ free1 ! $ move ! (49 ∷ 50 ∷ []) $ free1 ! $ move ! (47 ∷ 48 ∷ []) $ free1 ! $ move ! (45 ∷ 46 ∷ []) $ free1 ! $ move ! (43 ∷ 44 ∷ []) $ free1 ! $ move ! (41 ∷ 42 ∷ []) $ free1 ! $
-        move ! (39 ∷ 40 ∷ []) $ free1 ! $ move ! (37 ∷ 38 ∷ []) $ free1 ! $ move ! (35 ∷ 36 ∷ []) $ free1 ! $ move ! (33 ∷ 34 ∷ []) $ free1 ! $ move ! (31 ∷ 32 ∷ []) $ free1 ! $ move ! (29 ∷ 30 ∷
-        []) $ free1 ! $ move ! (27 ∷ 28 ∷ []) $ free1 ! $ move ! (25 ∷ 26 ∷ []) $ free1 ! $ move ! (23 ∷ 24 ∷ []) $ free1 ! $ move ! (21 ∷ 22 ∷ []) $ free1 ! $ move ! (19 ∷ 20 ∷ []) $ free1 ! $
-        move ! (17 ∷ 18 ∷ []) $ free1 ! $ move ! (15 ∷ 16 ∷ []) $ free1 ! $ move ! (13 ∷ 14 ∷ []) $ free1 ! $ move ! (11 ∷ 12 ∷ []) $ free1 ! $ move ! (9 ∷ 10 ∷ []) $ free1 ! $ free0 ! $
+        forget ! 135 refl $ forget ! 133 refl $ forget ! 131 refl $ forget ! 129 refl $ forget ! 127 refl $ forget ! 125 refl $ forget ! 123 refl $ forget ! 121 refl $ forget ! 119 refl $ forget ! 117
+        refl $ forget ! 115 refl $ forget ! 113 refl $ forget ! 111 refl $ forget ! 109 refl $ forget ! 107 refl $ forget ! 105 refl $ forget ! 103 refl $ forget ! 101 refl $ forget ! 99 refl $ forget
+        ! 97 refl $ forget ! 95 refl $ forget ! 93 refl $ forget ! 91 refl $ forget ! 89 refl $ forget ! 87 refl $ forget ! 85 refl $ forget ! 83 refl $ forget ! 81 refl $ forget ! 79 refl $ forget !
+        77 refl $ forget ! 75 refl $ forget ! 73 refl $ forget ! 71 refl $ forget ! 69 refl $ forget ! 67 refl $ forget ! 65 refl $ forget ! 63 refl $ forget ! 61 refl $ forget ! 59 refl $ forget ! 57
+        refl $ forget ! 55 refl $ forget ! 53 refl $ forget ! 51 refl $ forget ! 49 refl $ forget ! 47 refl $ forget ! 45 refl $ forget ! 43 refl $ forget ! 41 refl $ forget ! 39 refl $ forget ! 37
+        refl $ forget ! 35 refl $ forget ! 33 refl $ forget ! 31 refl $ forget ! 29 refl $ forget ! 27 refl $ forget ! 25 refl $ forget ! 23 refl $ forget ! 21 refl $ forget ! 19 refl $ forget ! 17
+        refl $ forget ! 15 refl $ forget ! 13 refl $ forget ! 11 refl $ forget ! 9 refl $
+        move ! (135 ∷ 136 ∷ []) $ free1 ! $ move ! (133 ∷ 134 ∷ []) $ free1 ! $ move ! (131 ∷ 132 ∷ []) $ free1 ! $ move ! (129 ∷ 130 ∷ []) $ free1 ! $ move ! (127 ∷ 128 ∷ []) $ free1 ! $ move ! (125
+        ∷ 126 ∷ []) $ free1 ! $ move ! (123 ∷ 124 ∷ []) $ free1 ! $ move ! (121 ∷ 122 ∷ []) $ free1 ! $ move ! (119 ∷ 120 ∷ []) $ free1 ! $ move ! (117 ∷ 118 ∷ []) $ free1 ! $ move ! (115 ∷ 116 ∷ [])
+        $ free1 ! $ move ! (113 ∷ 114 ∷ []) $ free1 ! $ move ! (111 ∷ 112 ∷ []) $ free1 ! $ move ! (109 ∷ 110 ∷ []) $ free1 ! $ move ! (107 ∷ 108 ∷ []) $ free1 ! $ move ! (105 ∷ 106 ∷ []) $ free1 ! $
+        move ! (103 ∷ 104 ∷ []) $ free1 ! $ move ! (101 ∷ 102 ∷ []) $ free1 ! $ move ! (99 ∷ 100 ∷ []) $ free1 ! $ move ! (97 ∷ 98 ∷ []) $ free1 ! $ move ! (95 ∷ 96 ∷ []) $ free1 ! $ move ! (93 ∷ 94 ∷
+        []) $ free1 ! $ move ! (91 ∷ 92 ∷ []) $ free1 ! $ move ! (89 ∷ 90 ∷ []) $ free1 ! $ move ! (87 ∷ 88 ∷ []) $ free1 ! $ move ! (85 ∷ 86 ∷ []) $ free1 ! $ move ! (83 ∷ 84 ∷ []) $ free1 ! $ move !
+        (81 ∷ 82 ∷ []) $ free1 ! $ move ! (79 ∷ 80 ∷ []) $ free1 ! $ move ! (77 ∷ 78 ∷ []) $ free1 ! $ move ! (75 ∷ 76 ∷ []) $ free1 ! $ move ! (73 ∷ 74 ∷ []) $ free1 ! $ move ! (71 ∷ 72 ∷ []) $ free1
+        ! $ move ! (69 ∷ 70 ∷ []) $ free1 ! $ move ! (67 ∷ 68 ∷ []) $ free1 ! $ move ! (65 ∷ 66 ∷ []) $ free1 ! $ move ! (63 ∷ 64 ∷ []) $ free1 ! $ move ! (61 ∷ 62 ∷ []) $ free1 ! $ move ! (59 ∷ 60 ∷
+        []) $ free1 ! $ move ! (57 ∷ 58 ∷ []) $ free1 ! $ move ! (55 ∷ 56 ∷ []) $ free1 ! $ move ! (53 ∷ 54 ∷ []) $ free1 ! $ move ! (51 ∷ 52 ∷ []) $ free1 ! $ move ! (49 ∷ 50 ∷ []) $ free1 ! $ move !
+        (47 ∷ 48 ∷ []) $ free1 ! $ move ! (45 ∷ 46 ∷ []) $ free1 ! $ move ! (43 ∷ 44 ∷ []) $ free1 ! $ move ! (41 ∷ 42 ∷ []) $ free1 ! $ move ! (39 ∷ 40 ∷ []) $ free1 ! $ move ! (37 ∷ 38 ∷ []) $ free1
+        ! $ move ! (35 ∷ 36 ∷ []) $ free1 ! $ move ! (33 ∷ 34 ∷ []) $ free1 ! $ move ! (31 ∷ 32 ∷ []) $ free1 ! $ move ! (29 ∷ 30 ∷ []) $ free1 ! $ move ! (27 ∷ 28 ∷ []) $ free1 ! $ move ! (25 ∷ 26 ∷
+        []) $ free1 ! $ move ! (23 ∷ 24 ∷ []) $ free1 ! $ move ! (21 ∷ 22 ∷ []) $ free1 ! $ move ! (19 ∷ 20 ∷ []) $ free1 ! $ move ! (17 ∷ 18 ∷ []) $ free1 ! $ move ! (15 ∷ 16 ∷ []) $ free1 ! $ move !
+        (13 ∷ 14 ∷ []) $ free1 ! $ move ! (11 ∷ 12 ∷ []) $ free1 ! $ move ! (9 ∷ 10 ∷ []) $ free1 ! $ free0 ! $
         move ! (2 ∷ []) $ drop ! $ move ! (2 ∷ []) $ split ! $ move ! (2 ∷ []) $ split ! $ keep ! (2 ∷ 0 ∷ 6 ∷ 5 ∷ 4 ∷ 7 ∷ []) $ by ! (exits out zs ms e₂ e₁ (fields out w is-o))))))))))))))))))))))))))))))))))))))))))))))))))))))))))))))))))))))))))))))))))))))))))))
 
 module _ {M : Type 1} (𝓤 : URA M) (H : Heap 𝓤) (A : Atoms 𝓤) (W : Given 𝓤 H A) (at-mem : Memory → SProp 𝓤) (run : Routine → Fun 𝓤) where
@@ -370,23 +363,22 @@ module _ {M : Type 1} (𝓤 : URA M) (H : Heap 𝓤) (A : Atoms 𝓤) (W : Given
       (λ (κ0, (κ1, (κ2, (κ3, (κ4, (κ5, (κ6, (κ7, (κ8, (κ9, (κ10, (κ11, (κ12, (κ13, (κ14, (κ15, (κ16, (κ17, _)))))))))))))))))).
       (sizes-tells, (request-tells, (mut 0 κ0 F, (mut-tells (named 1) κ1 P, (mut 2 κ2 u32, (mut 3 κ3 u32, (mut 4 κ4 u16, (mut 5 κ5 u16, (mut 6 κ6 u16, (mut 7 κ7 u32, (mut 8 κ8 u16, (mut 9 κ9 u16, (mut 10 κ10 u16, (mut 11 κ11 u8, (mut 12 κ12 u8, (mut 13 κ13 u32, (mut 14 κ14 u8, (mut 15 κ15 u8, (mut 16 κ16 u16, (mut 17 κ17 u16, tt)))))))))))))))))))))
       (λ κs qs bounds a g are. via 𝓤 _ (fst∗ 𝓤 _ (emp 𝓤))
-      (walk 𝓤 H A W at-mem run (κs .0) (qs .0) (κs .1 .0) (qs .1 .0) (κs .1 .1 .0) (qs .1 .1 .0) (κs .1 .1 .1 .0) (qs .1 .1 .1 .0) (κs .1 .1 .1 .1 .0) (qs .1 .1 .1 .1 .0) (κs .1 .1 .1 .1 .1 .0)
-      (qs .1 .1 .1 .1 .1 .0) (κs .1 .1 .1 .1 .1 .1 .0) (qs .1 .1 .1 .1 .1 .1 .0) (κs .1 .1 .1 .1 .1 .1 .1 .0) (qs .1 .1 .1 .1 .1 .1 .1 .0) (κs .1 .1 .1 .1 .1 .1 .1 .1 .0)
-      (qs .1 .1 .1 .1 .1 .1 .1 .1 .0) (κs .1 .1 .1 .1 .1 .1 .1 .1 .1 .0) (qs .1 .1 .1 .1 .1 .1 .1 .1 .1 .0) (κs .1 .1 .1 .1 .1 .1 .1 .1 .1 .1 .0) (qs .1 .1 .1 .1 .1 .1 .1 .1 .1 .1 .0)
-      (κs .1 .1 .1 .1 .1 .1 .1 .1 .1 .1 .1 .0) (qs .1 .1 .1 .1 .1 .1 .1 .1 .1 .1 .1 .0) (κs .1 .1 .1 .1 .1 .1 .1 .1 .1 .1 .1 .1 .0) (qs .1 .1 .1 .1 .1 .1 .1 .1 .1 .1 .1 .1 .0)
-      (κs .1 .1 .1 .1 .1 .1 .1 .1 .1 .1 .1 .1 .1 .0) (qs .1 .1 .1 .1 .1 .1 .1 .1 .1 .1 .1 .1 .1 .0) (κs .1 .1 .1 .1 .1 .1 .1 .1 .1 .1 .1 .1 .1 .1 .0) (qs .1 .1 .1 .1 .1 .1 .1 .1 .1 .1 .1 .1 .1 .1 .0)
-      (κs .1 .1 .1 .1 .1 .1 .1 .1 .1 .1 .1 .1 .1 .1 .1 .0) (qs .1 .1 .1 .1 .1 .1 .1 .1 .1 .1 .1 .1 .1 .1 .1 .0) (κs .1 .1 .1 .1 .1 .1 .1 .1 .1 .1 .1 .1 .1 .1 .1 .1 .0)
-      (qs .1 .1 .1 .1 .1 .1 .1 .1 .1 .1 .1 .1 .1 .1 .1 .1 .0) (κs .1 .1 .1 .1 .1 .1 .1 .1 .1 .1 .1 .1 .1 .1 .1 .1 .1 .0) (qs .1 .1 .1 .1 .1 .1 .1 .1 .1 .1 .1 .1 .1 .1 .1 .1 .1 .0) (a .0) (a .1 .0)
+      (walk 𝓤 H A W at-mem run (κs .0) (qs .0) (κs .1 .0) (qs .1 .0) (κs .1 .1 .0) (qs .1 .1 .0) (κs .1 .1 .1 .0) (qs .1 .1 .1 .0) (κs .1 .1 .1 .1 .0) (qs .1 .1 .1 .1 .0) (κs .1 .1 .1 .1 .1 .0) (qs .1
+      .1 .1 .1 .1 .0) (κs .1 .1 .1 .1 .1 .1 .0) (qs .1 .1 .1 .1 .1 .1 .0) (κs .1 .1 .1 .1 .1 .1 .1 .0) (qs .1 .1 .1 .1 .1 .1 .1 .0) (κs .1 .1 .1 .1 .1 .1 .1 .1 .0) (qs .1 .1 .1 .1 .1 .1 .1 .1 .0) (κs
+      .1 .1 .1 .1 .1 .1 .1 .1 .1 .0) (qs .1 .1 .1 .1 .1 .1 .1 .1 .1 .0) (κs .1 .1 .1 .1 .1 .1 .1 .1 .1 .1 .0) (qs .1 .1 .1 .1 .1 .1 .1 .1 .1 .1 .0) (κs .1 .1 .1 .1 .1 .1 .1 .1 .1 .1 .1 .0) (qs .1 .1
+      .1 .1 .1 .1 .1 .1 .1 .1 .1 .0) (κs .1 .1 .1 .1 .1 .1 .1 .1 .1 .1 .1 .1 .0) (qs .1 .1 .1 .1 .1 .1 .1 .1 .1 .1 .1 .1 .0) (κs .1 .1 .1 .1 .1 .1 .1 .1 .1 .1 .1 .1 .1 .0) (qs .1 .1 .1 .1 .1 .1 .1 .1
+      .1 .1 .1 .1 .1 .0) (κs .1 .1 .1 .1 .1 .1 .1 .1 .1 .1 .1 .1 .1 .1 .0) (qs .1 .1 .1 .1 .1 .1 .1 .1 .1 .1 .1 .1 .1 .1 .0) (κs .1 .1 .1 .1 .1 .1 .1 .1 .1 .1 .1 .1 .1 .1 .1 .0) (qs .1 .1 .1 .1 .1 .1
+      .1 .1 .1 .1 .1 .1 .1 .1 .1 .0) (κs .1 .1 .1 .1 .1 .1 .1 .1 .1 .1 .1 .1 .1 .1 .1 .1 .0) (qs .1 .1 .1 .1 .1 .1 .1 .1 .1 .1 .1 .1 .1 .1 .1 .1 .0) (κs .1 .1 .1 .1 .1 .1 .1 .1 .1 .1 .1 .1 .1 .1 .1 .1
+      .1 .0) (qs .1 .1 .1 .1 .1 .1 .1 .1 .1 .1 .1 .1 .1 .1 .1 .1 .1 .0) (a .0) (a .1 .0)
       (a .1 .1 .0 .ptr .0) (a .1 .1 .0 .ptr .1) (a .1 .1 .0 .name) (a .1 .1 .0 .now) (are .1 .1 .0 .0 .1) (a .1 .1 .1 .0 .ptr .0) (a .1 .1 .1 .0 .ptr .1) (a .1 .1 .1 .0 .name) (a .1 .1 .1 .0 .now)
-      (a .1 .1 .1 .1 .0) (are .1 .1 .1 .1 .0 .0 .1) (a .1 .1 .1 .1 .1 .0) (are .1 .1 .1 .1 .1 .0 .0 .1) (a .1 .1 .1 .1 .1 .1 .0) (are .1 .1 .1 .1 .1 .1 .0 .0 .1) (a .1 .1 .1 .1 .1 .1 .1 .0)
-      (are .1 .1 .1 .1 .1 .1 .1 .0 .0 .1) (a .1 .1 .1 .1 .1 .1 .1 .1 .0) (are .1 .1 .1 .1 .1 .1 .1 .1 .0 .0 .1) (a .1 .1 .1 .1 .1 .1 .1 .1 .1 .0) (are .1 .1 .1 .1 .1 .1 .1 .1 .1 .0 .0 .1)
-      (a .1 .1 .1 .1 .1 .1 .1 .1 .1 .1 .0) (are .1 .1 .1 .1 .1 .1 .1 .1 .1 .1 .0 .0 .1) (a .1 .1 .1 .1 .1 .1 .1 .1 .1 .1 .1 .0) (are .1 .1 .1 .1 .1 .1 .1 .1 .1 .1 .1 .0 .0 .1)
-      (a .1 .1 .1 .1 .1 .1 .1 .1 .1 .1 .1 .1 .0) (are .1 .1 .1 .1 .1 .1 .1 .1 .1 .1 .1 .1 .0 .0 .1) (a .1 .1 .1 .1 .1 .1 .1 .1 .1 .1 .1 .1 .1 .0) (are .1 .1 .1 .1 .1 .1 .1 .1 .1 .1 .1 .1 .1 .0 .0 .1)
-      (a .1 .1 .1 .1 .1 .1 .1 .1 .1 .1 .1 .1 .1 .1 .0) (are .1 .1 .1 .1 .1 .1 .1 .1 .1 .1 .1 .1 .1 .1 .0 .0 .1) (a .1 .1 .1 .1 .1 .1 .1 .1 .1 .1 .1 .1 .1 .1 .1 .0)
-      (are .1 .1 .1 .1 .1 .1 .1 .1 .1 .1 .1 .1 .1 .1 .1 .0 .0 .1) (a .1 .1 .1 .1 .1 .1 .1 .1 .1 .1 .1 .1 .1 .1 .1 .1 .0) (are .1 .1 .1 .1 .1 .1 .1 .1 .1 .1 .1 .1 .1 .1 .1 .1 .0 .0 .1)
-      (a .1 .1 .1 .1 .1 .1 .1 .1 .1 .1 .1 .1 .1 .1 .1 .1 .1 .0) (are .1 .1 .1 .1 .1 .1 .1 .1 .1 .1 .1 .1 .1 .1 .1 .1 .1 .0 .0 .1) (a .1 .1 .1 .1 .1 .1 .1 .1 .1 .1 .1 .1 .1 .1 .1 .1 .1 .1 .0)
-      (are .1 .1 .1 .1 .1 .1 .1 .1 .1 .1 .1 .1 .1 .1 .1 .1 .1 .1 .0 .0 .1) (a .1 .1 .1 .1 .1 .1 .1 .1 .1 .1 .1 .1 .1 .1 .1 .1 .1 .1 .1 .0)
-      (are .1 .1 .1 .1 .1 .1 .1 .1 .1 .1 .1 .1 .1 .1 .1 .1 .1 .1 .1 .0 .0 .1) (are .0) (are .1 .0) C Λ fm known-load known-core known-save known-take known-deposit))
+      (a .1 .1 .1 .1 .0) (are .1 .1 .1 .1 .0 .0 .1) (a .1 .1 .1 .1 .1 .0) (are .1 .1 .1 .1 .1 .0 .0 .1) (a .1 .1 .1 .1 .1 .1 .0) (are .1 .1 .1 .1 .1 .1 .0 .0 .1) (a .1 .1 .1 .1 .1 .1 .1 .0) (are .1 .1
+      .1 .1 .1 .1 .1 .0 .0 .1) (a .1 .1 .1 .1 .1 .1 .1 .1 .0) (are .1 .1 .1 .1 .1 .1 .1 .1 .0 .0 .1) (a .1 .1 .1 .1 .1 .1 .1 .1 .1 .0) (are .1 .1 .1 .1 .1 .1 .1 .1 .1 .0 .0 .1) (a .1 .1 .1 .1 .1 .1 .1
+      .1 .1 .1 .0) (are .1 .1 .1 .1 .1 .1 .1 .1 .1 .1 .0 .0 .1) (a .1 .1 .1 .1 .1 .1 .1 .1 .1 .1 .1 .0) (are .1 .1 .1 .1 .1 .1 .1 .1 .1 .1 .1 .0 .0 .1) (a .1 .1 .1 .1 .1 .1 .1 .1 .1 .1 .1 .1 .0) (are
+      .1 .1 .1 .1 .1 .1 .1 .1 .1 .1 .1 .1 .0 .0 .1) (a .1 .1 .1 .1 .1 .1 .1 .1 .1 .1 .1 .1 .1 .0) (are .1 .1 .1 .1 .1 .1 .1 .1 .1 .1 .1 .1 .1 .0 .0 .1) (a .1 .1 .1 .1 .1 .1 .1 .1 .1 .1 .1 .1 .1 .1 .0)
+      (are .1 .1 .1 .1 .1 .1 .1 .1 .1 .1 .1 .1 .1 .1 .0 .0 .1) (a .1 .1 .1 .1 .1 .1 .1 .1 .1 .1 .1 .1 .1 .1 .1 .0) (are .1 .1 .1 .1 .1 .1 .1 .1 .1 .1 .1 .1 .1 .1 .1 .0 .0 .1) (a .1 .1 .1 .1 .1 .1 .1
+      .1 .1 .1 .1 .1 .1 .1 .1 .1 .0) (are .1 .1 .1 .1 .1 .1 .1 .1 .1 .1 .1 .1 .1 .1 .1 .1 .0 .0 .1) (a .1 .1 .1 .1 .1 .1 .1 .1 .1 .1 .1 .1 .1 .1 .1 .1 .1 .0) (are .1 .1 .1 .1 .1 .1 .1 .1 .1 .1 .1 .1
+      .1 .1 .1 .1 .1 .0 .0 .1) (a .1 .1 .1 .1 .1 .1 .1 .1 .1 .1 .1 .1 .1 .1 .1 .1 .1 .1 .0) (are .1 .1 .1 .1 .1 .1 .1 .1 .1 .1 .1 .1 .1 .1 .1 .1 .1 .1 .0 .0 .1) (a .1 .1 .1 .1 .1 .1 .1 .1 .1 .1 .1 .1
+      .1 .1 .1 .1 .1 .1 .1 .0) (are .1 .1 .1 .1 .1 .1 .1 .1 .1 .1 .1 .1 .1 .1 .1 .1 .1 .1 .1 .0 .0 .1) (are .0) (are .1 .0) C Λ fm known-load known-core known-save known-take known-deposit))
 
 meets : {M : Type 1} (𝓤 : URA M) (H : Heap 𝓤) (A : Atoms 𝓤) → Given 𝓤 H A → (at-mem : Memory → SProp 𝓤) (run : Routine → Fun 𝓤) (𝓣 : Tables 𝓤 H)
     → Triple 𝓤 (𝓣 .C #load) (Load 𝓤 H A at-mem run) → Triple 𝓤 (𝓣 .C #core) (Core 𝓤 H A at-mem run) → Triple 𝓤 (𝓣 .C #save) (Save 𝓤 H A at-mem run) → Triple 𝓤 (𝓣 .C #take) (Take 𝓤 H A at-mem run) → Triple 𝓤 (𝓣 .C #deposit) (Deposit 𝓤 H A at-mem run)

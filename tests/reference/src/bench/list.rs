@@ -35,7 +35,7 @@ pub fn list(sizes: Sizes, mixed: usize, last: usize) -> List {
 }
 
 /// Restarted from a disk in use, its busy designs active, its frames filled; then some events of mixed kinds.
-fn started(sizes: Sizes, mix: &mut Mix) -> Keeper {
+pub fn started(sizes: Sizes, mix: &mut Mix) -> Keeper {
     let mut keeper = disk::used(sizes, &mut mix.random);
     carried_out(&mut keeper, &Step { kind: RESTART, values: [0; 4] });
     for slot in 0..disk::busy(&sizes) {
@@ -54,7 +54,7 @@ fn started(sizes: Sizes, mix: &mut Mix) -> Keeper {
 }
 
 /// The reference's answer to a call that is carried out, as all are but the refused ones at the end.
-fn carried_out(keeper: &mut Keeper, step: &Step) -> Answer {
+pub fn carried_out(keeper: &mut Keeper, step: &Step) -> Answer {
     let answer = calls::REFERENCE[step.kind](keeper, &step.values);
     assert_eq!(answer.refusal, 0, "{step:?}");
     answer

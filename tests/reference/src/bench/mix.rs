@@ -34,11 +34,20 @@ pub struct Mix {
 
 impl Mix {
     pub fn new(random: Random) -> Mix {
-        let kinds = (0..15).chain([LOOK]).map(|kind| (0, kind));
-        Mix { random, counts: kinds.collect() }
+        Mix::of(random, (0..15).chain([LOOK]))
+    }
+
+    /// Of these kinds alone.
+    pub fn of(random: Random, kinds: impl Iterator<Item = usize>) -> Mix {
+        Mix { random, counts: kinds.map(|kind| (0, kind)).collect() }
     }
 
     pub fn next(&mut self, keeper: &Keeper) -> Step {
+        self.one(keeper).expect("a limit can always be set")
+    }
+
+    /// If the tables allow one of its kinds.
+    pub fn one(&mut self, keeper: &Keeper) -> Option<Step> {
         let random = &mut self.random;
         let report = values::many_transfers(keeper);
         self.counts
@@ -47,10 +56,10 @@ impl Mix {
             let kind = self.counts[at].1;
             if let Some(step) = self.allowed(kind, keeper) {
                 self.counts[at].0 += 1;
-                return step;
+                return Some(step);
             }
         }
-        unreachable!("a limit can always be set")
+        None
     }
 
     /// A call of this kind that every question says yes to, if a few tries find one.

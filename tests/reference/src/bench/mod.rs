@@ -3,6 +3,9 @@
 pub mod calls; // each keeper's calls, one function a kind
 pub mod disk; // a disk in use, to start from
 pub mod list; // the list of a size, and the tables that it starts from
+#[cfg(keeper)]
+pub mod lists; // requests one by one and in lists
+pub mod stretch; // events of some kinds, for lists in one call
 pub mod mix; // the next event of a list
 pub mod replay; // a list replayed with a clock
 #[cfg(keeper)]

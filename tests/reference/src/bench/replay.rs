@@ -8,7 +8,7 @@ use std::ops::Range;
 use std::time::Instant;
 
 /// The processor's time stamp; what is before it is done, what is after it not yet begun.
-fn ticks() -> u64 {
+pub fn ticks() -> u64 {
     unsafe {
         _mm_lfence();
         let now = _rdtsc();

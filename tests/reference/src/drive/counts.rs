@@ -2,6 +2,7 @@
 
 use super::act::{Call, Outcome};
 use super::choose::LARGE;
+use super::batch::Batches;
 use crate::event::Request;
 use crate::events::pages::{free_records, neighbour};
 use crate::keeper::Keeper;
@@ -40,6 +41,7 @@ pub struct Counts {
     pub cuts: u64,
     pub taken: Taken,
     pub written: Written,
+    pub batches: Batches,
 }
 
 /// Records taken by faults, and among them: where a lower page of the design had a record, where a higher one had (the pages come out
@@ -176,6 +178,7 @@ impl fmt::Display for Counts {
         writeln!(out, "{} calls, {} cuts", self.calls, self.cuts)?;
         writeln!(out, "{:?}", self.taken)?;
         writeln!(out, "{:?}", self.written)?;
+        writeln!(out, "{:?}", self.batches)?;
         writeln!(out, "carried out: {:?}", self.carried_out)?;
         writeln!(out, "refused: {:?}", self.refused)?;
         writeln!(out, "rules that alone refused a damaged table:")?;

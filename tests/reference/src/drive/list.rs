@@ -1,6 +1,7 @@
 //! A run: many lists of events at mixed sizes, two subjects side by side.
 
-use super::act::{Act, Before};
+use super::act::{Act, Before, Call};
+use super::batch::{self, Batch};
 use super::choose::{Chooser, LARGE};
 use super::compare::{compare, promises, Side};
 use super::counts::Counts;
@@ -83,12 +84,53 @@ fn list(subjects: &[Subject; 2], sizes: Sizes, seed: u64, length: usize, counts:
     };
     let mut keepers = [start.clone(), start];
     let mut shadow = Shadow::new(&keepers[0]);
-    for number in 0..length {
+    let mut cuts = Random::new(!seed);
+    let mut number = 0;
+    while number < length {
         let act = chooser.next(&keepers[0]);
-        if let Err(what) = step(subjects, &mut keepers, &mut shadow, &act, counts) {
+        let (batch, next) = stretch(&act, &keepers[0], &mut chooser, &mut cuts);
+        let went = batch.iter().try_for_each(|batch| {
+            number += batch.requests.len();
+            batch::carry_out(subjects, &mut keepers, &mut shadow, batch, &mut cuts, counts)
+        });
+        let went = went.and_then(|()| match next {
+            Some(act) => step(subjects, &mut keepers, &mut shadow, &act, counts),
+            None => Ok(()),
+        });
+        number += 1;
+        if let Err(what) = went {
             let names = [subjects[0].name, subjects[1].name];
-            panic!("{what}\n{names:?}, list seed {seed}, {sizes:?}, act {number}: {act:?}");
+            panic!("{what}\n{names:?}, list seed {seed}, {sizes:?}, act {number}: {next:?}, or a batch before it");
         }
+    }
+}
+
+/// One time in six the act begins a stretch that is made in one call: the events from it on, chosen one after the other by what they
+/// leave, and the act that ends the stretch; or the same event some times, of tables damaged. Otherwise the act alone.
+fn stretch(
+    act: &Act,
+    keeper: &Keeper,
+    chooser: &mut Chooser,
+    cuts: &mut Random,
+) -> (Option<Batch>, Option<Act>) {
+    if !cuts.percent(16) {
+        return (None, Some(*act));
+    }
+    let most = cuts.up_to(40);
+    match (act.before, act.call) {
+        (Before::Damage(_) | Before::Misfit(_), Call::Apply(request)) => {
+            (Some(Batch { before: act.before, requests: vec![request; most / 8] }), None)
+        }
+        (Before::Nothing, Call::Apply(_)) => {
+            let (mut ahead, mut requests, mut next) = (keeper.clone(), Vec::new(), *act);
+            while let Some(request) = batch::plain(&next).filter(|_| requests.len() < most) {
+                ahead.apply(request);
+                requests.push(request);
+                next = chooser.next(&ahead);
+            }
+            (Some(Batch { before: Before::Nothing, requests }), Some(next))
+        }
+        _ => (None, Some(*act)),
     }
 }
 
@@ -118,7 +160,7 @@ fn step(
     Ok(())
 }
 
-fn prepare(keeper: &mut Keeper, before: Before) {
+pub fn prepare(keeper: &mut Keeper, before: Before) {
     match before {
         Before::Nothing => {}
         Before::Cut(seed) => cut::cut(keeper, seed),

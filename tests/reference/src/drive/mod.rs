@@ -2,6 +2,7 @@
 
 pub mod act; // one thing that a list does
 pub mod aims; // the next event on the way to a design at rest
+pub mod batch; // a stretch of a list in one call
 pub mod choose; // the next act of a list, by what the tables hold
 pub mod compare; // the two subjects agree, and each keeps the paper's promises
 pub mod counts; // how often each kind and refusal was seen
@@ -24,6 +25,7 @@ pub struct Subject {
     pub format: fn(&mut Keeper) -> Answer,
     pub restart: fn(&mut Keeper) -> Answer,
     pub apply: fn(&mut Keeper, Request) -> Answer,
+    pub apply_all: fn(&mut Keeper, &[u32], &mut [u32]) -> Answer,
     pub page_look: fn(&Keeper, u32, u32) -> Part,
 }
 
@@ -32,5 +34,6 @@ pub const REFERENCE: Subject = Subject {
     format: Keeper::format,
     restart: Keeper::restart,
     apply: Keeper::apply,
+    apply_all: Keeper::apply_all,
     page_look: Keeper::page_look,
 };

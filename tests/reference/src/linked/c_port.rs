@@ -56,6 +56,13 @@ extern "C" {
     fn c_port_restart(keeper: *mut Lent) -> Answer;
     fn c_port_apply(keeper: *mut Lent, request: Request) -> Answer;
     fn c_port_mend(keeper: *mut Lent, changes: Slice<Change>) -> Answer;
+    fn c_port_apply_all(
+        keeper: *mut Lent,
+        requests: *const u32,
+        requests_count: usize,
+        answers: *mut u32,
+        answers_count: usize,
+    ) -> Answer;
     fn c_port_page_look(keeper: *const Lent, slot: usize, page: usize) -> Part;
 }
 
@@ -119,6 +126,11 @@ impl Lent<'_> {
         unsafe { c_port_mend(self, slice(list)) }
     }
 
+    pub fn apply_all(&mut self, requests: &[u32], answers: &mut [u32]) -> Answer {
+        let (asked, told) = (requests.len(), answers.len());
+        unsafe { c_port_apply_all(self, requests.as_ptr(), asked, answers.as_mut_ptr(), told) }
+    }
+
     pub fn page_look(&self, slot: u32, page: u32) -> Part {
         unsafe { c_port_page_look(self, slot as usize, page as usize) }
     }
@@ -129,6 +141,7 @@ pub const C_PORT: Subject = Subject {
     format: |keeper| Lent::of(keeper).format(),
     restart: |keeper| Lent::of(keeper).restart(),
     apply: |keeper, request| Lent::of(keeper).apply(request),
+    apply_all: |keeper, requests, answers| Lent::of(keeper).apply_all(requests, answers),
     // the look changes nothing, so a copy of the tables serves
     page_look: |keeper, slot, page| Lent::of(&mut keeper.clone()).page_look(slot, page),
 };

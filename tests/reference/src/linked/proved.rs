@@ -99,6 +99,48 @@ extern "C" {
         used: *mut u16,
         used_count: usize,
     ) -> Answer;
+    fn keeper_apply_all(
+        sizes: Sizes,
+        requests: *const u32,
+        requests_count: usize,
+        answers: *mut u32,
+        answers_count: usize,
+        frames: *mut Frame,
+        frames_count: usize,
+        pool: *mut Pool,
+        records: *mut u32,
+        records_count: usize,
+        numbers: *mut u32,
+        numbers_count: usize,
+        accounts: *mut u16,
+        accounts_count: usize,
+        maps: *mut u16,
+        maps_count: usize,
+        limits: *mut u16,
+        limits_count: usize,
+        frame_words: *mut u32,
+        frame_words_count: usize,
+        free_queue: *mut u16,
+        free_queue_count: usize,
+        removal_list: *mut u16,
+        removal_list_count: usize,
+        addresses: *mut u16,
+        addresses_count: usize,
+        states: *mut u8,
+        states_count: usize,
+        owners: *mut u8,
+        owners_count: usize,
+        free_map: *mut u32,
+        free_map_count: usize,
+        active: *mut u8,
+        active_count: usize,
+        updating: *mut u8,
+        updating_count: usize,
+        images: *mut u16,
+        images_count: usize,
+        used: *mut u16,
+        used_count: usize,
+    ) -> Answer;
     fn keeper_page_look(
         sizes: Sizes,
         slot: usize,
@@ -241,8 +283,18 @@ pub fn mend(keeper: &mut Keeper, list: &mut [Change]) -> Answer {
     lend!(keeper_mend(keeper; disk; as_mut_ptr; list.as_mut_ptr().cast(); 4 * list.len()))
 }
 
+pub fn apply_all(keeper: &mut Keeper, requests: &[u32], answers: &mut [u32]) -> Answer {
+    let (asked, told) = (requests.len(), answers.len());
+    lend!(keeper_apply_all(
+        keeper;
+        requests.as_ptr(), asked, answers.as_mut_ptr(), told;
+        &mut keeper.memory.pool;
+        as_mut_ptr
+    ))
+}
+
 pub fn page_look(keeper: &Keeper, slot: u32, page: u32) -> Part {
     lend!(keeper_page_look(keeper; slot as usize, page as usize; keeper.memory.pool; as_ptr))
 }
 
-pub const PROVED: Subject = Subject { name: "keeper", format, restart, apply, page_look };
+pub const PROVED: Subject = Subject { name: "keeper", format, restart, apply, apply_all, page_look };

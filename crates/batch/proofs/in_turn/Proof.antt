@@ -1,0 +1,92 @@
+-- `in_turn` meets its contract: what the tables hold is what the first t requests leave; lengths and rules follow from that.
+use mathlib.Core.Path.{sym, _∙_}
+use Prim.Native.Nat.{_-_, _≤_}
+use native.Mathlib.Omega.{arith}
+use lib.ListN.{take}
+use Rattle.model.specs.Lent.{stateOf}
+use Rattle.batch.proofs.Together.{Turned, turned-none, turned-next, turned-end, turned-long, turned-kept}
+use Rattle.batch.proofs.in_turn.Statement.{statement}
+use Rattle.batch.proofs.in_turn.Tie as tie
+
+-- the tables, in the order in which they are lent: a to r
+abbrev Inv-loop : tie.InvT-loop
+Inv-loop z n requests answers₀ a₀ b₀ c₀ d₀ e₀ f₀ g₀ h₀ i₀ j₀ k₀ l₀ m₀ o₀ q₀ r₀ held₀ t₀
+    answers a b c d e f g h i j k l m o q r held t =
+    (t ≤ n) × Turned z requests answers₀
+    (stateOf (take (z .frames) (held₀ .frames)) (held₀ .pool) a₀ b₀ c₀ d₀ e₀ f₀ g₀ h₀ i₀ j₀ k₀ l₀ m₀ o₀ q₀ r₀) t (held .answer) answers
+    (stateOf (take (z .frames) (held .frames)) (held .pool) a b c d e f g h i j k l m o q r)
+
+abbrev μ-loop : tie.MeasureT-loop
+μ-loop z n requests answers₀ a₀ b₀ c₀ d₀ e₀ f₀ g₀ h₀ i₀ j₀ k₀ l₀ m₀ o₀ q₀ r₀ held₀ t₀
+    answers a b c d e f g h i j k l m o q r held t = n - t
+
+-- from the loop back to the start; from the call, from what follows it and from the end back to the loop
+abbrev start : tie.At-loop Inv-loop μ-loop → tie.Start Inv-loop μ-loop
+start l = search
+
+abbrev turning : tie.After-turn-arg17 Inv-loop μ-loop → tie.In-loop Inv-loop μ-loop
+turning c = search
+
+abbrev turned : tie.After-slice-known34 Inv-loop μ-loop → tie.After-turn Inv-loop μ-loop
+turned c = search
+
+abbrev looped : tie.After-loop Inv-loop μ-loop → tie.At-loop Inv-loop μ-loop
+looped c = search
+
+loop-holds : tie.Need-loop-holds Inv-loop μ-loop
+loop-holds c = (omega arith, turned-none)
+
+turn-requires : tie.Need-turn-requires Inv-loop μ-loop
+turn-requires c κs =
+    let i = turning c in
+    let s = start (i .before) in (
+      omega (arith, s .pre .0, i .loop-test .taken),
+      omega (arith, s .pre .1, i .loop-test .taken, turned-long (i .before .loop .inv .1)),
+      turned-kept (s .pre .2) (i .before .loop .inv .1),
+    )
+
+add-k : tie.Need-add-k Inv-loop μ-loop
+add-k c = let i = turning (turned c .before) in omega (arith, i .loop-test .taken, start (i .before) .fits .n)
+
+loop-less : tie.Need-loop-less Inv-loop μ-loop
+loop-less c = let i = turning (turned c .before) in omega (arith, i .loop-test .taken)
+
+loop-again : tie.Need-loop-again Inv-loop μ-loop
+loop-again c =
+    let w = turned c in
+    let i = turning (w .before) in
+    (omega (arith, i .loop-test .taken), turned-next (i .before .loop .inv .1) (w .turn .ensures))
+
+returns : tie.Need-returns Inv-loop μ-loop
+returns c = turned-end (looped c .loop .inv .0) (omega (arith, c .loop-test .left)) (looped c .loop .inv .1) .is
+
+pub in-turn-spec : {M : Type 1} → statement M
+in-turn-spec =
+    tie.close
+    (tie.spec
+    Inv-loop
+    μ-loop
+    loop-holds
+    turn-requires
+    add-k
+    loop-less
+    loop-again
+    (λ c. turned-long (looped c .loop .inv .1))
+    -- question 1 of the tables as they are and as they came: so their lengths are the same
+    (λ c. let k = start (looped c) .pre .2 in turned-kept k (looped c .loop .inv .1) .fits .disk .records ∙ sym (k .fits .disk .records))
+    (λ c. let k = start (looped c) .pre .2 in turned-kept k (looped c .loop .inv .1) .fits .disk .numbers ∙ sym (k .fits .disk .numbers))
+    (λ c. let k = start (looped c) .pre .2 in turned-kept k (looped c .loop .inv .1) .fits .disk .accounts ∙ sym (k .fits .disk .accounts))
+    (λ c. let k = start (looped c) .pre .2 in turned-kept k (looped c .loop .inv .1) .fits .disk .maps ∙ sym (k .fits .disk .maps))
+    (λ c. let k = start (looped c) .pre .2 in turned-kept k (looped c .loop .inv .1) .fits .disk .limits ∙ sym (k .fits .disk .limits))
+    (λ c. let k = start (looped c) .pre .2 in turned-kept k (looped c .loop .inv .1) .fits .memory .words ∙ sym (k .fits .memory .words))
+    (λ c. let k = start (looped c) .pre .2 in turned-kept k (looped c .loop .inv .1) .fits .memory .free-queue ∙ sym (k .fits .memory .free-queue))
+    (λ c. let k = start (looped c) .pre .2 in turned-kept k (looped c .loop .inv .1) .fits .memory .removal-list ∙ sym (k .fits .memory .removal-list))
+    (λ c. let k = start (looped c) .pre .2 in turned-kept k (looped c .loop .inv .1) .fits .memory .addresses ∙ sym (k .fits .memory .addresses))
+    (λ c. let k = start (looped c) .pre .2 in turned-kept k (looped c .loop .inv .1) .fits .memory .states ∙ sym (k .fits .memory .states))
+    (λ c. let k = start (looped c) .pre .2 in turned-kept k (looped c .loop .inv .1) .fits .memory .owners ∙ sym (k .fits .memory .owners))
+    (λ c. let k = start (looped c) .pre .2 in turned-kept k (looped c .loop .inv .1) .fits .memory .free-map ∙ sym (k .fits .memory .free-map))
+    (λ c. let k = start (looped c) .pre .2 in turned-kept k (looped c .loop .inv .1) .fits .memory .active ∙ sym (k .fits .memory .active))
+    (λ c. let k = start (looped c) .pre .2 in turned-kept k (looped c .loop .inv .1) .fits .memory .updating ∙ sym (k .fits .memory .updating))
+    (λ c. let k = start (looped c) .pre .2 in turned-kept k (looped c .loop .inv .1) .fits .memory .images ∙ sym (k .fits .memory .images))
+    (λ c. let k = start (looped c) .pre .2 in turned-kept k (looped c .loop .inv .1) .fits .memory .used ∙ sym (k .fits .memory .used))
+    returns)

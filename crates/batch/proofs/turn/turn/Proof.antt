@@ -1,0 +1,102 @@
+-- `turn` meets its contract: after a yes to questions 1 and 2 the request's own questions answer it.
+use borrow.Author.Needs.{needs}
+use mathlib.Core.Path.{sym, ap, _∙_}
+use lib.ListN.{take}
+use Rattle.model.specs.State.{State}
+use Rattle.model.specs.Lent.{given}
+use Rattle.model.specs.Pool.{deposited}
+use Rattle.batch.proofs.Turning.{turned-unknown, turned-known}
+use Rattle.batch.proofs.turn.turn.Statement.{statement}
+use Rattle.batch.proofs.turn.turn.Tie as tie
+
+-- the tables as they come
+abbrev lent : tie.Start → State
+lent s =
+    let a = s .args in
+    given (take (a .sizes .frames) (a .held .frames)) (a .held .pool) (a .records) (a .numbers) (a .accounts) (a .maps) (a .limits)
+    (a .frame-words) (a .free-queue) (a .removal-list) (a .addresses) (a .states) (a .owners) (a .free-map) (a .active) (a .updating) (a .images) (a .used)
+
+-- from the request back to the start; from the work back to the decoded event; from the end back to the work
+abbrev start : tie.After-pool → tie.Start
+start q = search
+
+abbrev known : tie.After-carry → tie.After-decoded
+known w = search
+
+abbrev over : tie.After-slice-known35 → tie.After-answer
+over c = search
+
+abbrev ended : tie.After-answer → tie.After-carry
+ended c = search
+
+abbrev worked : tie.After-slice-known35 → tie.After-carry
+worked c = ended (over c)
+
+abbrev begun : tie.After-carry → tie.Start
+begun w = start (known w .before .before .before .before)
+
+returns : tie.Need-returns
+returns c =
+    let p : tie.After-put-answer = search in
+    let e : tie.After-enum-told = search in
+    let q = e .before .before .before in
+    let s = start (q .before) in
+    let a = s .args in
+    turned-unknown (a .sizes) (a .requests .now) (a .answers .now) (a .k) (a .held .answer) (lent s) (s .pre .2) _ (q .request-at .ensures) (sym (e .enum-told .given .1) ∙ e .before .before .decode .ensures .0) (p .put-answer .ensures)
+
+carry-requires : tie.Need-carry-requires
+carry-requires c κs =
+    let d : tie.After-decoded = search in
+    start (d .before .before .before .before) .pre .2
+
+put-answer-requires-2 : tie.Need-put-answer-requires-2
+put-answer-requires-2 c κs =
+    let t : tie.After-take = search in
+    begun (ended (t .before)) .pre .1
+
+returns-2 : tie.Need-returns-2
+returns-2 c =
+    let p : tie.After-put-answer2 = search in
+    let d : tie.After-deposit = search in
+    let t : tie.After-take = search in
+    let w = ended (t .before) in
+    let k = known w in
+    let q = k .before .before .before in
+    let s = start (q .before) in
+    let a = s .args in
+    turned-known (a .sizes) (a .requests .now) (a .answers .now) (a .k) (a .held .answer) (lent s) (s .pre .2) _ _ _ (q .request-at .ensures) (sym (k .decoded .given .1) ∙ k .before .before .decode .ensures .0)
+    (w .carry .ensures) (d .deposit .ensures ∙ ap (deposited (w .carry .result .deposited)) (t .take .ensures)) (p .put-answer2 .ensures)
+
+pub turn-spec : {M : Type 1} → statement M
+turn-spec =
+    tie.close
+    (tie.spec
+    (λ c κs. start c .pre .0)
+    (λ c κs. search needs)
+    (λ c. search needs)
+    (λ c. search needs)
+    (λ c κs. let e : tie.After-enum-told = search in start (e .before .before .before .before) .pre .1)
+    (λ c. let p : tie.After-put-answer = search in p .put-answer .kept .0)
+    returns
+    carry-requires
+    (λ c κs. search needs)
+    (λ c κs. search needs)
+    put-answer-requires-2
+    (λ c. let p : tie.After-put-answer2 = search in p .put-answer2 .kept .0)
+    (λ c. worked c .carry .kept .1 .1 .1 .1 .0)
+    (λ c. worked c .carry .kept .1 .1 .1 .1 .1 .0)
+    (λ c. worked c .carry .kept .1 .1 .1 .1 .1 .1 .0)
+    (λ c. worked c .carry .kept .1 .1 .1 .1 .1 .1 .1 .0)
+    (λ c. worked c .carry .kept .1 .1 .1 .1 .1 .1 .1 .1 .0)
+    (λ c. worked c .carry .kept .1 .1 .1 .1 .1 .1 .1 .1 .1 .0)
+    (λ c. worked c .carry .kept .1 .1 .1 .1 .1 .1 .1 .1 .1 .1 .0)
+    (λ c. worked c .carry .kept .1 .1 .1 .1 .1 .1 .1 .1 .1 .1 .1 .0)
+    (λ c. worked c .carry .kept .1 .1 .1 .1 .1 .1 .1 .1 .1 .1 .1 .1 .0)
+    (λ c. worked c .carry .kept .1 .1 .1 .1 .1 .1 .1 .1 .1 .1 .1 .1 .1 .0)
+    (λ c. worked c .carry .kept .1 .1 .1 .1 .1 .1 .1 .1 .1 .1 .1 .1 .1 .1 .0)
+    (λ c. worked c .carry .kept .1 .1 .1 .1 .1 .1 .1 .1 .1 .1 .1 .1 .1 .1 .1 .0)
+    (λ c. worked c .carry .kept .1 .1 .1 .1 .1 .1 .1 .1 .1 .1 .1 .1 .1 .1 .1 .1 .0)
+    (λ c. worked c .carry .kept .1 .1 .1 .1 .1 .1 .1 .1 .1 .1 .1 .1 .1 .1 .1 .1 .1 .0)
+    (λ c. worked c .carry .kept .1 .1 .1 .1 .1 .1 .1 .1 .1 .1 .1 .1 .1 .1 .1 .1 .1 .1 .0)
+    (λ c. worked c .carry .kept .1 .1 .1 .1 .1 .1 .1 .1 .1 .1 .1 .1 .1 .1 .1 .1 .1 .1 .1 .0)
+    returns-2)

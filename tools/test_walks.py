@@ -1,0 +1,74 @@
+#!/usr/bin/env python3
+"""Tests of walks.py: python3 tools/test_walks.py"""
+
+import re
+import unittest
+from unittest import mock
+
+import lent
+import walks
+from regions import Bad
+
+FURTHER = lent.Table("wanted", "memory", "u16", "S", "wanted", {call: "mut" for call in lent.CALLS} | {"look": "ref", "format": "-"}, "a table more")
+
+
+def with_one_more():
+    """The list with a table more, after images and before used, as docs/EXTENDING.md says."""
+    at = [table.name for table in lent.TABLES].index("used")
+    return mock.patch.object(lent, "TABLES", lent.TABLES[:at] + [FURTHER] + lent.TABLES[at:])
+
+
+class Walks(unittest.TestCase):
+    def test_as_they_are(self):
+        for name in walks.WALKS:
+            with self.subTest(name):
+                self.assertEqual((walks.PROOFS / name / "Proof.antt").read_text(), walks.made(name))
+
+    def test_every_walk_of_a_call(self):
+        """Each proof of a public call that is a walk of the code comes from here."""
+        by_hand = [path.parent.name for path in walks.PROOFS.glob("*/Proof.antt") if "a walk of its MIR" in path.read_text()]
+        self.assertEqual(sorted(by_hand), sorted(walks.WALKS))
+
+    def test_one_more_table(self):
+        for name, walk in walks.WALKS.items():
+            before = walk()
+            with with_one_more(), self.subTest(name):
+                after, text = walk(), " ".join(walks.made(name).split())
+                self.assertEqual(after.count, before.count + 1)
+                self.assertEqual(after.locals, before.locals + (1 if "look" in name else 3))
+                self.assertIn(f"(named {before.lifetime_count}) κ{before.lifetime_count} u16", text)
+                self.assertEqual(text.count("("), text.count(")"))
+                self.assertNotIn("⟦", text)
+
+    def test_groups(self):
+        """The paths to the last lists: those of a group start from its name."""
+        after = walks.Change("restart", 1, 1).marks()["AFTER"]
+        self.assertIn("let m = ms .1 .1 .1 .1 .1 .1 .1 .1 .1 in\n", after)
+        self.assertIn("(now x4) (m .0)", after)
+        with with_one_more():
+            self.assertTrue(walks.Change("restart", 1, 1).marks()["AFTER"].endswith("(s .1 .1 .1 .0) (s .1 .1 .1 .1 .0)"))
+
+    def test_wrapped(self):
+        line = "    " + " ".join(["word"] * 100)
+        parts = walks.wrapped(line).split("\n")
+        self.assertEqual(" ".join(part.strip() for part in parts), line.strip())
+        self.assertTrue(all(len(part) <= walks.WIDTH for part in parts) and parts[1].startswith(" " * 8 + "w"))
+        self.assertEqual(walks.wrapped("short  line"), "short  line")
+
+    def test_whole(self):
+        """No break within a tuple or a record."""
+        self.assertEqual({"f (a b) (c, d e) { g h }"[place] for place in walks.whole("f (a b) (c, d e) { g h }")}, set("(c, de{gh "))
+        self.assertNotIn(4, walks.whole("f (a b) (c, d e)"))
+
+    def test_unknown_mark(self):
+        with self.assertRaises(Bad):
+            walks.filled("⟦NOTHING⟧", {})
+
+    def test_every_mark_is_used(self):
+        texts = {name: (walks.TEMPLATES / f"{name}.txt").read_text() for name in walks.WALKS}
+        used = {mark for text in texts.values() for mark in re.findall(r"⟦(\w+)⟧", text)}
+        self.assertEqual(used, {mark for name in walks.WALKS for mark in walks.WALKS[name]().marks()})
+
+
+if __name__ == "__main__":
+    unittest.main()
