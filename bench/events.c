@@ -175,7 +175,6 @@ static uint32_t fault(struct keeper *k, size_t page)
         take_record(k, page);
     frame->initial = 1;
     push_front(m->removal_list, number);
-    ++*used_of(k, page);
     return (uint32_t)number;
 }
 
@@ -189,6 +188,8 @@ static uint32_t touch(struct keeper *k, const struct request *r, size_t page)
         frame->used = 1;
         return words_in(k, number)[r->third];
     case WRITE:
+        if (!charged(k, page, (int)number))
+            ++*used_of(k, page);
         frame->used = frame->modified = 1;
         words_in(k, number)[r->third] = r->fourth;
         return 0;
@@ -227,9 +228,8 @@ static uint32_t claim(struct keeper *k)
             return looks;
         }
         m->states.at[m->addresses.at[page] - 1] = NULLED;
-    }
-    if (holds(k, page, NULLED))
         --*used_of(k, page);
+    }
     free_frame(k, number);
     return looks;
 }
@@ -239,7 +239,7 @@ static void truncate(struct keeper *k, size_t from, size_t end)
     struct memory *m = &k->memory;
     for (size_t page = from; page < end; page++) {
         int frame = frame_of(k, page);
-        if (frame >= 0 || holds(k, page, LIVE))
+        if (charged(k, page, frame))
             --*used_of(k, page);
         if (frame >= 0) {
             take_out(m->removal_list, (size_t)frame);

@@ -30,6 +30,12 @@ static inline bool holds(const struct keeper *k, size_t page, uint8_t state)
     return address != 0 && k->memory.states.at[address - 1] == state;
 }
 
+/* Whether a page is charged: its address is live, or it is in a frame (-1: in none) and modified. */
+static inline bool charged(const struct keeper *k, size_t page, int frame)
+{
+    return holds(k, page, LIVE) || (frame >= 0 && k->memory.frames.at[frame].modified);
+}
+
 static inline bool all_zero(const uint32_t *words, size_t count)
 {
     for (size_t i = 0; i < count; i++)

@@ -55,19 +55,14 @@ static uint32_t deactivate(const struct keeper *k, size_t slot)
     return 0;
 }
 
-static uint32_t fault(const struct keeper *k, size_t slot, size_t page)
+static uint32_t fault(const struct keeper *k, size_t page)
 {
     const struct memory *m = &k->memory;
     int frame = frame_of(k, page);
     if (frame >= 0)
         return m->frames.at[frame].transfer != NO_TRANSFER ? 14 : 15;
-    if (!holds(k, page, LIVE)) {
-        uint16_t account = k->disk.accounts.at[slot];
-        if (m->used.at[account] >= k->disk.limits.at[account])
-            return 18;
-        if (m->addresses.at[page] == 0 && m->pool->free == 0)
-            return 19;
-    }
+    if (m->addresses.at[page] == 0 && m->pool->free == 0)
+        return 19;
     return m->free_queue.at[0] == 0 ? 20 : 0;
 }
 
@@ -80,6 +75,9 @@ static uint32_t touch(const struct keeper *k, uint32_t kind, size_t page)
     const struct frame *frame = &k->memory.frames.at[number];
     if (kind == READ || kind == LOOK ? frame->transfer == READING : frame->transfer != NO_TRANSFER)
         return 14;
+    uint16_t account = k->disk.accounts.at[page / k->sizes.pages];
+    if (kind == WRITE && !charged(k, page, number) && k->memory.used.at[account] >= k->disk.limits.at[account])
+        return 18;
     if (kind == WIRE && frame->wired)
         return 16;
     return kind == UNWIRE && !frame->wired ? 17 : 0;
@@ -120,7 +118,7 @@ uint32_t first_refusal(const struct keeper *k, const struct request *r)
         return 8;
     switch (r->kind) {
     case DEACTIVATE: return deactivate(k, slot);
-    case FAULT: return fault(k, slot, page);
+    case FAULT: return fault(k, page);
     case TRUNCATE: return truncate(k, page, (slot + 1) * pages);
     case UPDATE: return k->memory.updating.at[slot] ? 10 : 0;
     case MAP_DONE: return k->memory.updating.at[slot] ? 0 : 22;

@@ -74,7 +74,7 @@ bool keeps_disk_rules(const struct keeper *k)
 struct tally {
     uint8_t places[MOST_FRAMES];              /* in how many queues a frame stands */
     bool queued_free[MOST_FRAMES];
-    bool framed[MOST_SLOTS * MOST_PAGES];     /* the page is in a frame */
+    uint8_t framed[MOST_SLOTS * MOST_PAGES];  /* 1: the page is in a frame, 2: and modified */
     uint32_t used[MOST_ACCOUNTS];
     size_t held, filed;                       /* addresses; entries of inactive designs */
 };
@@ -132,7 +132,7 @@ static bool frames_ok(const struct keeper *k, struct tally *t)
         }
         if (f->page == 0 || t->framed[f->page - 1] || !page_ok(k, i, f))
             return false;
-        t->framed[f->page - 1] = true;
+        t->framed[f->page - 1] = 1 + f->modified;
     }
     return true;
 }
@@ -157,7 +157,7 @@ static bool active_page_ok(const struct keeper *k, size_t slot, size_t page, str
             return false;
     }
     bool live = address != 0 && m->states.at[address - 1] == LIVE;
-    t->used[k->disk.accounts.at[slot]] += live || t->framed[page];
+    t->used[k->disk.accounts.at[slot]] += live || t->framed[page] == 2;
     return true;
 }
 

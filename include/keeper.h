@@ -132,7 +132,7 @@ enum {
     KEEPER_PAGE_IN = 15,        /* fault: the page is in a frame */
     KEEPER_WIRED = 16,          /* a page concerned is wired */
     KEEPER_NOT_WIRED = 17,      /* unwire: the page is not wired */
-    KEEPER_AT_LIMIT = 18,       /* fault: the account is at its limit or above */
+    KEEPER_AT_LIMIT = 18,       /* write to a page that is not charged: the account is at its limit or above */
     KEEPER_NO_RECORD = 19,      /* fault: no record is free */
     KEEPER_NO_FRAME = 20,       /* fault: no frame is free */
     KEEPER_NOTHING_TO_CLAIM = 21, /* claim: the removal list is empty */

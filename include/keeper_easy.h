@@ -422,7 +422,7 @@ static inline const char *keeper_text(uint32_t refusal)
     case KEEPER_PAGE_IN: return "fault: the page is in a frame";
     case KEEPER_WIRED: return "a page concerned is wired";
     case KEEPER_NOT_WIRED: return "unwire: the page is not wired";
-    case KEEPER_AT_LIMIT: return "fault: the account is at its limit or above";
+    case KEEPER_AT_LIMIT: return "write to a page that is not charged: the account is at its limit or above";
     case KEEPER_NO_RECORD: return "fault: no record is free";
     case KEEPER_NO_FRAME: return "fault: no frame is free";
     case KEEPER_NOTHING_TO_CLAIM: return "claim: the removal list is empty";

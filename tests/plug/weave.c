@@ -323,14 +323,14 @@ static int opens(Run *run)
     return answer == FILEDISK_GOOD;
 }
 
-/* A page as it reads now; one that the limit or the records leave no room for is not listed, and reads zeros. */
+/* A page as it reads now; one that the records leave no room for is not listed, and reads zeros. */
 static void tell_found(Run *run, uint32_t slot, uint32_t page)
 {
     static const uint32_t zeros[PLUG_MOST_WORDS];
     Keeper *keeper = run->own->keeper;
     const uint32_t refusal = filedisk_bring(&run->disk, keeper, slot, page);
     const uint32_t *words = keeper_words(keeper, slot, page);
-    if (refusal == KEEPER_AT_LIMIT || refusal == KEEPER_NO_RECORD)
+    if (refusal == KEEPER_NO_RECORD)
         words = zeros;
     if (words)
         tell_words(run, NOTE_FOUND_PAGE, slot, page, 0, words);

@@ -64,11 +64,11 @@ module _ (z : Sizes) (s p : ℕ) (st : State) (l : Ledger) (b : Before z st l (E
 
   queued : 0 < times (members (st .memory .core .free-queue)) f
   unfolding Pages.faultFrame
-  queued = first-in (st .memory .core .free-queue) (b .asked .1 .1 .1 .1 .1 .1 .1 .0)
+  queued = first-in (st .memory .core .free-queue) (b .asked .1 .1 .1 .1 .1 .1 .0)
 
   hf : f < z .frames
   unfolding Pages.faultFrame
-  hf = first-below (st .memory .core .free-queue) (b .fit .memory .free-queue) (b .ruled .queues .free-queue) (b .asked .1 .1 .1 .1 .1 .1 .1 .0)
+  hf = first-below (st .memory .core .free-queue) (b .fit .memory .free-queue) (b .ruled .queues .free-queue) (b .asked .1 .1 .1 .1 .1 .1 .0)
 
   still : fs f .transfer ≡ NONE
   still = Stands.still (seat-at z st (b .ruled) f hf) (omega (arith, queued))
@@ -177,7 +177,7 @@ module _ (z : Sizes) (s p : ℕ) (st : State) (l : Ledger) (b : Before z st l (E
 
     free : state r₀ ≡ FREE
     unfolding freeCount
-    free = let t = count-some (z .records) (λ r. eqb (state r) FREE) (elim (b .asked .1 .1 .1 .1 .1 .1 .0) [ inl x ↦ absurd (x none) | inr x ↦ rw (← b .ruled .counts .free) x ]) in
+    free = let t = count-some (z .records) (λ r. eqb (state r) FREE) (elim (b .asked .1 .1 .1 .1 .1 .0) [ inl x ↦ absurd (x none) | inr x ↦ rw (← b .ruled .counts .free) x ]) in
         pick-free z address state (st .memory .held .pool .hand) i₀ (t .0) (t .1) (b .ruled .counts .hand) (eqb→eq _ _ (t .2))
 
     address-split : (i : ℕ) → Split (i ≡ i₀) (at (set (st .memory .held .addresses) i₀ (suc r₀)) i) (suc r₀) (address i)

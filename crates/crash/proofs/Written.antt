@@ -15,6 +15,7 @@ use Rattle.model.specs.declared.event.Page.the-variants.{Write}
 use Rattle.model.specs.declared.event.Event.the-variants as Event
 use Rattle.model.specs.State.{State, frames, noFrame, frameAt, NONE, READING, pageOf}
 use Rattle.model.specs.Parts.{frameOf}
+use Rattle.model.specs.Setters.{counted}
 use Rattle.model.specs.Pages
 use Rattle.model.specs.Step.{carried}
 use Rattle.model.specs.Ledger.{Ledger, note, put}
@@ -92,7 +93,7 @@ module _ (z : Sizes) (s p n x : ℕ) (st : State) (l : Ledger) (b : Before z st 
   not-here i a e = omega (arith, still, a (in-it .1 ∙ ap suc (sym e)))
 
   pub write : Tied z (carried z st (Event.Page (Write s p n x))) (note z l (fed z st (Event.Page (Write s p n x))))
-  unfolding carried fed note Pages.write
+  unfolding carried fed note Pages.write counted
   write = one-frame z st l f new _ _ _ _ _ _ _ (b .tied) (let m = b .tied .memory in let o = m .framed f (in-it .0) in record {
     within = in-it .0;
     stored = getD-set-same (st .memory .core .frames) f new noFrame (rw (b .fit .memory .frames) (in-it .0));

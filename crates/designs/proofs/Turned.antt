@@ -110,7 +110,7 @@ module _ (z : Sizes) (st : State) (f : Fit z st) (r : Ruled z st) (s : ℕ) (ins
       where
         from : Holds (charged z on (frames st) i) → 0 < v .map i
         from (inl (q, p, l)) = let m : v .map i ≡ suc q = sym (split-in (address (v .map) FILED LIVE 1 i h) e) ∙ p in omega (arith, m)
-        from (inr (g, l, p)) = absurd (quiet i e (r .frames .active g l i p))
+        from (inr (g, l, p)) = absurd (quiet i e (r .frames .active g l i (p .0)))
 
   -- its map is what an update now would store, and no page of it is in a frame
   module _ (act : v .active s ≡ 1) (stored : (i : ℕ) → slotOf z i ≡ s → v .map i ≡ wouldStore z st i) (out : (i : ℕ) → slotOf z i ≡ s → ¬ Holds (framed z (frames st) i)) where
@@ -128,7 +128,7 @@ module _ (z : Sizes) (st : State) (f : Fit z st) (r : Ruled z st) (s : ℕ) (ins
     turned-off : (i : ℕ) → i < allPages z → slotOf z i ≡ s → counts z v (frames st) i ≡ counts z gone (frames st) i
     unfolding charged test
     turned-off i h e = if-yes (v .active (slotOf z i)) 1 (test (charged z v (frames st) i)) (ltb 0 (v .map i)) (ap (v .active) e ∙ act)
-        ∙ alike (charged z v (frames st) i) (below 0 (v .map i)) (λ k. elim k [ inl l ↦ listed i e l | inr g ↦ absurd (out i e g) ]) (λ l. inl (lived i e l))
+        ∙ alike (charged z v (frames st) i) (below 0 (v .map i)) (λ k. elim k [ inl l ↦ listed i e l | inr g ↦ absurd (out i e (g .0, g .1, g .2 .0)) ]) (λ l. inl (lived i e l))
         ∙ sym (if-no (gone .active (slotOf z i)) 1 (test (charged z gone (frames st) i)) (ltb 0 (v .map i)) (λ a. let n : gone .active (slotOf z i) ≡ 0 = ap (gone .active) e ∙ switch (λ i. 0) LIVE FILED 0 in omega (arith, a, n)))
 
 module _ (z : Sizes) (st : State) (f : Fit z st) (r : Ruled z st) (s : ℕ) where

@@ -1,10 +1,11 @@
 -- A fault over all tables: what it requires once questions 1 and 2 said yes, the counts that it leaves, and its outcome.
 use mathlib.Core.Path.{_≡_, refl, ap, sym, _∙_, subst}
-use mathlib.Core.Bool.{Bool, true, false, not, _&&_}
+use mathlib.Core.Bool.{Bool, true, false, _&&_}
 use mathlib.Core.Logic.{inl, inr}
 use mathlib.Core.List.{List}
 use Prim.Native.Nat.{ℕ, suc, _-_, _*_, _<_}
 use native.Mathlib.Omega.{arith}
+use native.Mathlib.Nat.{suc-inj}
 use native.Mathlib.Decide.{ℕ-discrete}
 use lib.Dec.{T}
 use lib.ListN.{length, set}
@@ -33,14 +34,14 @@ use Rattle.model.specs.Step.{Outcome, carried, result}
 use Rattle.model.specs.Own.{own, refusal, leaves}
 use Rattle.model.specs.OwnLaws.{done, own-no, own-yes}
 use Rattle.model.specs.Ruled.{once-free}
-use Rattle.leaves.specs.Counts.{usedCounts, counts-more, counts-same, free-less}
+use Rattle.leaves.specs.Counts.{usedCounts, counts-same, free-less}
 use Rattle.leaves.specs.FreeMap.{freeMap, free-map-clear}
 use Rattle.pages.specs.Seen.{seenFault}
 use Rattle.pages.specs.Needs.{Seats, Queued, Pooled}
-use Rattle.pages.specs.Faults.{goes, taken, cleared, charged1, FaultLeft}
+use Rattle.pages.specs.Faults.{goes, taken, cleared, FaultLeft}
 use Rattle.pages.proofs.Holding.{chosen-free, chosen-below}
 use Rattle.dispatch.specs.Kept.{Kept}
-use Rattle.dispatch.proofs.Charges.{within, framed-same, counts-alike, counts-active, used-table, map-table}
+use Rattle.dispatch.proofs.Charges.{within, woven-same, counts-alike, used-table, map-table}
 use Rattle.dispatch.proofs.PageLaws.{served-ready}
 
 -- a state's tables but the counts
@@ -108,44 +109,19 @@ module _ (z : Sizes) (st : State) (k : Kept z st) where
       f = first (core .free-queue)
 
       inside : f < z .frames
-      inside = first-below (core .free-queue) (k .fits .memory .free-queue) (k .rules .queues .free-queue) (ok .1 .1 .1 .1 .1 .1 .1 .0)
+      inside = first-below (core .free-queue) (k .fits .memory .free-queue) (k .rules .queues .free-queue) (ok .1 .1 .1 .1 .1 .1 .0)
 
       -- the first queued frame has no page
       bare : frameAt (core .frames) f .page ≡ 0
-      bare = k .rules .frames .free f inside (λ h. omega (arith, h, first-once (core .free-queue) (k .fits .memory .free-queue) (k .rules .queues .free-queue) (once-free z st (k .rules)) (ok .1 .1 .1 .1 .1 .1 .1 .0))) .0
-
-      its-slot : slotOf z i ≡ s
-      its-slot = slot-of-page z (k .fits .sizes .pages) s p (ok .0 .1)
+      bare = k .rules .frames .free f inside (λ h. omega (arith, h, first-once (core .free-queue) (k .fits .memory .free-queue) (k .rules .queues .free-queue) (once-free z st (k .rules)) (ok .1 .1 .1 .1 .1 .1 .0))) .0
 
       in-pages : i < allPages z
       in-pages = page-below z (k .fits .sizes .pages) s p (ok .0 .0) (ok .0 .1)
 
-      its-active : v .active (slotOf z i) ≡ 1
-      its-active = ap (v .active) its-slot ∙ ok .1 .1 .0
-
-      -- ── the page is in frame f then ──
-      module _ (g : Frame) (has : g .page ≡ suc i) where
-        long : f < length (core .frames)
-        long = rw (k .fits .memory .frames) inside
-
-        framed-other : (j : ℕ) → ¬ (j ≡ i) → test (within (z .frames) (core .frames) j) ≡ test (within (z .frames) (set (core .frames) f g) j)
-        framed-other j d = framed-same (z .frames) (core .frames) f g long j (λ h. absurd (omega (arith, h, bare))) (λ h. absurd (d (omega (arith, h, has))))
-
-        framed-now : Holds (within (z .frames) (set (core .frames) f g) i)
-        framed-now = (f, inside, ap (λ (h : Frame). h .page) (getD-set-same (core .frames) f g noFrame long) ∙ has)
-
-      -- ── the used counts where it is charged then ──
-      module _ (t : State) (pays : (x : ℕ) → payer v x ≡ payer (files t) x) (acts : (x : ℕ) → v .active x ≡ files t .active x) (maps : (x : ℕ) → v .map x ≡ files t .map x)
-          (lives : (j : ℕ) → ¬ (j ≡ i) → test (live v j) ≡ test (live (files t) j)) (other : (j : ℕ) → ¬ (j ≡ i) → test (framed z c j) ≡ test (framed z (frames t) j))
-          (there : Holds (framed z (frames t) i)) (dead : ¬ Holds (live v i)) where
-        charged-more : charged1 (st .memory .used) (payer v s) ≡ usedCounts z (files t) (frames t)
-        unfolding charged payer
-        charged-more = ap (λ (x : ℕ). charged1 (st .memory .used) (payer v x)) (sym its-slot) ∙ ap (λ (l : List ℕ). charged1 l (payer v (slotOf z i))) (used-table z st k)
-            ∙ counts-more z v (files t) c (frames t) pays i in-pages
-            (λ j l d. counts-alike z v (files t) c (frames t) j (acts (slotOf z j)) (maps j) (lives j d) (other j d))
-            (k .rules .disk .account-fit (slotOf z i) (slot-below z (k .fits .sizes .pages) i in-pages))
-            (λ x. elim (sound (charged z v c i) (subst T (counts-active z v c i its-active) x)) [ inl u ↦ dead u | inr u ↦ ok .1 .1 .1 .1 .0 u ])
-            (subst T (sym (counts-active z (files t) (frames t) i (sym (acts (slotOf z i)) ∙ its-active))) (complete (charged z (files t) (frames t) i) (inr there)))
+      -- ── the page is in frame f then, unmodified: as before no page is charged by it ──
+      module _ (g : Frame) (off : g .modified ≡ 0) where
+        woven-as : (j : ℕ) → test (within (z .frames) (core .frames) j) ≡ test (within (z .frames) (set (core .frames) f g) j)
+        woven-as j = woven-same (z .frames) (core .frames) f g (rw (k .fits .memory .frames) inside) j (λ h. absurd (omega (arith, h .0, bare))) (λ h. absurd (omega (arith, h .1, off)))
 
       -- ── the record taken ──
       module _ (some : 0 < held .pool .free) where
@@ -173,11 +149,16 @@ module _ (z : Sizes) (st : State) (k : Kept z st) where
         map-then : cleared (held .free-map) r ≡ freeMap z (at new)
         map-then = ap (λ (m : List ℕ). cleared m r) (map-table z st k) ∙ free-map-clear z r below (at (held .states)) (at new) states-other was-free (λ h. omega (arith, h, now-nulled))
 
-        lives-other : (j : ℕ) → ¬ (j ≡ i) → test (live v j) ≡ test (live (files (taking z st s p)) j)
+        -- no page is live that was not: this one had no address, and its record is nulled then
+        lives-as : v .address i ≡ 0 → (j : ℕ) → test (live v j) ≡ test (live (files (taking z st s p)) j)
         unfolding Pages.serveZeros Pages.takeRecord
-        lives-other j d = alike (live v j) (live (files (taking z st s p)) j)
-            (λ (x, a, l). (x, getD-set-other (held .addresses) i j (suc r) 0 d ∙ a, sym (states-other x (λ e. let y : at (held .states) r ≡ LIVE = sym (ap (at (held .states)) e) ∙ l in omega (arith, y, was-free))) ∙ l))
-            (λ (x, a, l). (x, sym (getD-set-other (held .addresses) i j (suc r) 0 d) ∙ a, states-other x (λ e. let y : at new r ≡ LIVE = sym (ap (at new) e) ∙ l in omega (arith, y, now-nulled)) ∙ l))
+        lives-as none j = alike (live v j) (live (files (taking z st s p)) j)
+            (λ (x, a, l). (x, getD-set-other (held .addresses) i j (suc r) 0 (λ e. omega (arith, sym (ap (at (held .addresses)) e) ∙ a, none)) ∙ a, sym (states-other x (λ e. let y : at (held .states) r ≡ LIVE = sym (ap (at (held .states)) e) ∙ l in omega (arith, y, was-free))) ∙ l))
+            (λ (x, a, l). let q : ¬ (x ≡ r) = λ e. let y : at new r ≡ LIVE = sym (ap (at new) e) ∙ l in omega (arith, y, now-nulled) in
+            elim (ℕ-discrete j i) [
+              | yes e ↦ absurd (q (suc-inj (sym a ∙ ap (at (set (held .addresses) i (suc r))) e ∙ getD-set-same (held .addresses) i (suc r) 0 (rw (k .fits .memory .addresses) in-pages))))
+              | no e ↦ (x, sym (getD-set-other (held .addresses) i j (suc r) 0 e) ∙ a, states-other x q ∙ l)
+            ])
 
       -- ── the counts by the way ──
       module _ (a b : Bool) (ea : test (live v i) ≡ a) (eb : test (same (v .address i) 0) ≡ b) where
@@ -187,23 +168,15 @@ module _ (z : Sizes) (st : State) (k : Kept z st) where
         is-live : T a → Holds (live v i)
         is-live x = sound (live v i) (subst T (sym ea) x)
 
-        is-dead : ¬ (T a) → ¬ Holds (live v i)
-        is-dead x h = x (subst T ea (complete (live v i) h))
-
         enough : T b → 0 < held .pool .free
-        enough x = elim (ok .1 .1 .1 .1 .1 .1 .0) [ inl u ↦ absurd (u (is-none x)) | inr u ↦ u ]
+        enough x = elim (ok .1 .1 .1 .1 .1 .0) [ inl u ↦ absurd (u (is-none x)) | inr u ↦ u ]
 
-      used-then : (a b : Bool) → test (live v i) ≡ a → test (same (v .address i) 0) ≡ b → if (not a) (charged1 (st .memory .used) (payer v s)) (st .memory .used) ≡ usedCounts z (files (by-way z st s p a b)) (frames (by-way z st s p a b))
+      used-then : (a b : Bool) → test (live v i) ≡ a → test (same (v .address i) 0) ≡ b → st .memory .used ≡ usedCounts z (files (by-way z st s p a b)) (frames (by-way z st s p a b))
       unfolding Pages.beginRead Pages.serveZeros Pages.takeRecord Pages.faultFrame charged payer
-      used-then true b ea eb = used-table z st k ∙ counts-same z v v c (frames (reading z st s p)) (λ x. refl) (λ j h. elim (ℕ-discrete j i) [
-        | yes d ↦ rw d (counts-active z v c i its-active ∙ told-live c ∙ sym (told-live (frames (reading z st s p))) ∙ sym (counts-active z v (frames (reading z st s p)) i its-active))
-        | no d ↦ counts-alike z v v c (frames (reading z st s p)) j refl refl refl (framed-other (Pages.awaiting i) refl j d)
-      ])
-        where
-          told-live : (c' : Frames) → test (charged z v c' i) ≡ true
-          told-live c' = told (charged z v c' i) (inl (is-live true b ea eb tt))
-      used-then false true ea eb = charged-more (taking z st s p) (λ x. refl) (λ x. refl) (λ x. refl) (lives-other (enough false true ea eb tt)) (framed-other (Pages.fresh i) refl) (framed-now (Pages.fresh i) refl) (is-dead false true ea eb (λ x. x))
-      used-then false false ea eb = charged-more (serving z st s p) (λ x. refl) (λ x. refl) (λ x. refl) (λ j d. refl) (framed-other (Pages.fresh i) refl) (framed-now (Pages.fresh i) refl) (is-dead false false ea eb (λ x. x))
+      used-then true b ea eb = used-table z st k ∙ counts-same z v v c (frames (reading z st s p)) (λ x. refl) (λ j h. counts-alike z v v c (frames (reading z st s p)) j refl refl refl (woven-as (Pages.awaiting i) refl j))
+      used-then false true ea eb = used-table z st k ∙ counts-same z v (files (taking z st s p)) c (frames (taking z st s p)) (λ x. refl)
+          (λ j h. counts-alike z v (files (taking z st s p)) c (frames (taking z st s p)) j refl refl (lives-as (enough false true ea eb tt) (is-none false true ea eb tt) j) (woven-as (Pages.fresh i) refl j))
+      used-then false false ea eb = used-table z st k ∙ counts-same z v v c (frames (serving z st s p)) (λ x. refl) (λ j h. counts-alike z v v c (frames (serving z st s p)) j refl refl refl (woven-as (Pages.fresh i) refl j))
 
       free-by : (a b : Bool) → test (live v i) ≡ a → test (same (v .address i) 0) ≡ b → if b (held .pool .free - 1) (held .pool .free) ≡ freeCount z (files (by-way z st s p a b) .state)
       unfolding Pages.beginRead Pages.serveZeros Pages.takeRecord
@@ -222,41 +195,41 @@ module _ (z : Sizes) (st : State) (k : Kept z st) where
     -- ── the outcome ──
     -- the tables that a fault sees
     abbrev sees : State
-    sees = seenFault (core .frames) (held .pool) (st .disk .numbers) (st .disk .accounts) (st .disk .limits) (core .words) (core .free-queue) (core .removal-list) (held .addresses) (held .states) (held .owners) (held .free-map)
-        (st .memory .slots .active) (st .memory .used)
+    sees = seenFault (core .frames) (held .pool) (st .disk .numbers) (core .words) (core .free-queue) (core .removal-list) (held .addresses) (held .states) (held .owners) (held .free-map)
+        (st .memory .slots .active)
 
     on : firstNo (questions z st faults) ≡ 0 → goes z sees s p ≡ true
-    unfolding goes payer
+    unfolding goes
     on h = eq-eqb (firstNo (questions z st faults)) 0 h
 
     off : ¬ (firstNo (questions z st faults) ≡ 0) → goes z sees s p ≡ false
-    unfolding goes payer
+    unfolding goes
     off h = ne-eqb (firstNo (questions z st faults)) 0 h
 
     -- all tables, with those new that a fault changes
-    abbrev left : List Frame → Pool → List ℕ → List ℕ → List ℕ → List ℕ → List ℕ → List ℕ → List ℕ → List ℕ → State
-    left fs pool ws fq rl ads ss os fm us =
-        stateOf fs pool (st .disk .records) (st .disk .numbers) (st .disk .accounts) (st .disk .maps) (st .disk .limits) ws fq rl ads ss os fm (st .memory .slots .active) (st .memory .slots .updating) (st .memory .slots .images) us
+    abbrev left : List Frame → Pool → List ℕ → List ℕ → List ℕ → List ℕ → List ℕ → List ℕ → List ℕ → State
+    left fs pool ws fq rl ads ss os fm =
+        stateOf fs pool (st .disk .records) (st .disk .numbers) (st .disk .accounts) (st .disk .maps) (st .disk .limits) ws fq rl ads ss os fm (st .memory .slots .active) (st .memory .slots .updating) (st .memory .slots .images) (st .memory .used)
 
-    module _ {fs : List Frame} (pool : Pool) {ws fq rl ads ss os fm us : List ℕ} where
+    module _ {fs : List Frame} (pool : Pool) {ws fq rl ads ss os fm : List ℕ} where
       -- carried out, by the way
       fault-by : Asked (questions z st faults) → (a b : Bool) → test (live v i) ≡ a → test (same (v .address i) 0) ≡ b → Tables (counted z (by-way z sees s p a b)) fs (pool .hand) ws fq rl ads ss os
           → pool .free ≡ if b (held .pool .free - 1) (held .pool .free) → fm ≡ if b (cleared (held .free-map) (taken z st s p)) (held .free-map)
-          → us ≡ if (not a) (charged1 (st .memory .used) (payer v s)) (st .memory .used) → left fs pool ws fq rl ads ss os fm us ≡ counted z (by-way z st s p a b)
+          → left fs pool ws fq rl ads ss os fm ≡ counted z (by-way z st s p a b)
       unfolding Pages.beginRead Pages.serveZeros Pages.takeRecord Pages.faultFrame counted
-      fault-by ok a b ea eb t n m u = go a b t (n ∙ free-by ok a b ea eb) (m ∙ map-by ok a b ea eb) (u ∙ used-then ok a b ea eb)
+      fault-by ok a b ea eb t n m = go a b t (n ∙ free-by ok a b ea eb) (m ∙ map-by ok a b ea eb) (used-then ok a b ea eb)
         where
           go : (a b : Bool) → Tables (counted z (by-way z sees s p a b)) fs (pool .hand) ws fq rl ads ss os → pool .free ≡ freeCount z (files (by-way z st s p a b) .state) → fm ≡ freeMap z (files (by-way z st s p a b) .state)
-              → us ≡ usedCounts z (files (by-way z st s p a b)) (frames (by-way z st s p a b)) → left fs pool ws fq rl ads ss os fm us ≡ counted z (by-way z st s p a b)
+              → st .memory .used ≡ usedCounts z (files (by-way z st s p a b)) (frames (by-way z st s p a b)) → left fs pool ws fq rl ads ss os fm ≡ counted z (by-way z st s p a b)
           go true b t n m u = same-state (t .the-frames) (λ x. record { hand = t .the-hand x; free = n x }) refl refl refl refl refl (t .the-words) (t .the-queue) (t .the-list) (t .the-addresses) (t .the-states) (t .the-owners) m refl refl refl u
           go false true t n m u = same-state (t .the-frames) (λ x. record { hand = t .the-hand x; free = n x }) refl refl refl refl refl (t .the-words) (t .the-queue) (t .the-list) (t .the-addresses) (t .the-states) (t .the-owners) m refl refl refl u
           go false false t n m u = same-state (t .the-frames) (λ x. record { hand = t .the-hand x; free = n x }) refl refl refl refl refl (t .the-words) (t .the-queue) (t .the-list) (t .the-addresses) (t .the-states) (t .the-owners) m refl refl refl u
 
       -- refused
-      fault-none : Tables sees fs (pool .hand) ws fq rl ads ss os → pool .free ≡ held .pool .free → fm ≡ held .free-map → us ≡ st .memory .used → left fs pool ws fq rl ads ss os fm us ≡ st
-      fault-none t n m u = same-state (t .the-frames) (λ x. record { hand = t .the-hand x; free = n x }) refl refl refl refl refl (t .the-words) (t .the-queue) (t .the-list) (t .the-addresses) (t .the-states) (t .the-owners) m refl refl refl u
+      fault-none : Tables sees fs (pool .hand) ws fq rl ads ss os → pool .free ≡ held .pool .free → fm ≡ held .free-map → left fs pool ws fq rl ads ss os fm ≡ st
+      fault-none t n m = same-state (t .the-frames) (λ x. record { hand = t .the-hand x; free = n x }) refl refl refl refl refl (t .the-words) (t .the-queue) (t .the-list) (t .the-addresses) (t .the-states) (t .the-owners) m refl refl refl refl
 
-      module _ (l : FaultLeft z sees s p fs pool ws fq rl ads ss os fm us) where
+      module _ (l : FaultLeft z sees s p fs pool ws fq rl ads ss os fm) where
         tables : {o : Outcome State} → own z sees faults ≡ o → Tables (o .left) fs (pool .hand) ws fq rl ads ss os
         tables o = record {
           the-frames = l .frames ∙ (λ y. o y .left .memory .core .frames);
@@ -276,19 +249,15 @@ module _ (z : Sizes) (st : State) (k : Kept z st) where
           map-left : fm ≡ if (b && test (same (v .address i) 0)) (cleared (held .free-map) (taken z st s p)) (held .free-map)
           map-left = l .map-left ∙ (λ y. if (g y && test (same (v .address i) 0)) (cleared (held .free-map) (taken z st s p)) (held .free-map))
 
-          used-left : us ≡ if (b && not (test (live v i))) (charged1 (st .memory .used) (payer v s)) (st .memory .used)
-          unfolding payer
-          used-left = l .used-left ∙ (λ y. if (g y && not (test (live v i))) (charged1 (st .memory .used) (payer v s)) (st .memory .used))
-
-        pub fault-own : {answer : Answer} → answer ≡ own z sees faults .answer → leaves answer (left fs pool ws fq rl ads ss os fm us) ≡ own z st faults
-        unfolding carried result Pages.fault Pages.faultFrame payer
+        pub fault-own : {answer : Answer} → answer ≡ own z sees faults .answer → leaves answer (left fs pool ws fq rl ads ss os fm) ≡ own z st faults
+        unfolding carried result Pages.fault Pages.faultFrame
         fault-own {answer} e = elim (ℕ-discrete (firstNo (questions z st faults)) 0) [
           | yes h ↦
               let o : own z sees faults ≡ done z sees faults = sym (own-yes z sees faults (firstNo (questions z st faults)) refl h) in
-              let t = fault-by (all-yes 0 (questions z st faults) tt h) (test (live v i)) (test (same (v .address i) 0)) refl refl (tables o) (free-left (on h)) (map-left (on h)) (used-left (on h)) in
+              let t = fault-by (all-yes 0 (questions z st faults) tt h) (test (live v i)) (test (same (v .address i) 0)) refl refl (tables o) (free-left (on h)) (map-left (on h)) in
               (λ x. leaves ((e ∙ (λ y. o y .answer)) x) (t x)) ∙ own-yes z st faults (firstNo (questions z st faults)) refl h
           | no h ↦
               let o : own z sees faults ≡ refusal (firstNo (questions z st faults)) sees = sym (own-no z sees faults (firstNo (questions z st faults)) refl h) in
-              let t = fault-none (tables o) (free-left (off h)) (map-left (off h)) (used-left (off h)) in
+              let t = fault-none (tables o) (free-left (off h)) (map-left (off h)) in
               (λ x. leaves ((e ∙ (λ y. o y .answer)) x) (t x)) ∙ own-no z st faults (firstNo (questions z st faults)) refl h
         ]

@@ -4,4 +4,5 @@ pub mod Outcomes
 pub mod DesignLaws
 pub mod PageLaws
 pub mod FaultLaws
+pub mod WriteLaws
 pub mod WritebackLaws

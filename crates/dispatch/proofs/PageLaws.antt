@@ -11,7 +11,7 @@ use Rattle.model.specs.declared.event.Event.{Event}
 use Rattle.model.specs.declared.event.Event.the-variants as Event
 use Rattle.model.specs.declared.event.Page.the-variants as Page
 use Rattle.model.specs.State.{Core, State}
-use Rattle.model.specs.Setters.{onCore, setFrames, setWords, setRemovalList}
+use Rattle.model.specs.Setters.{onCore, setFrames, setRemovalList}
 use Rattle.model.specs.Parts.{frameOf}
 use Rattle.model.specs.Questions.{questions}
 use Rattle.model.specs.Pages as Pages
@@ -37,7 +37,7 @@ module _ (z : Sizes) (st : State) where
     pub listed-ready : RemovalList z (core .frames) (core .removal-list)
     listed-ready = record { long = k .fits .memory .removal-list; packed = k .rules .queues .removal-list; placed = λ f h. omega (arith, k .rules .frames .in-one-place f h) }
 
-  -- ── read and write, and the tables that they see ──
+  -- ── read, and the tables that it sees ──
   abbrev words : State
   words = seen (core .frames) (st .disk .numbers) (core .words) [] (st .memory .slots .active)
 
@@ -52,18 +52,6 @@ module _ (z : Sizes) (st : State) where
         go : (n : ℕ) → a ≡ after n words reads .answer → fs ≡ after n words reads .left .memory .core .frames → leaves a (onCore (setFrames fs) st) ≡ after n st reads
         go zero x y = λ i. leaves (x i) (onCore (setFrames (y i)) st)
         go (suc n) x y = λ i. leaves (x i) (onCore (setFrames (y i)) st)
-
-  module _ (s p w v : ℕ) where
-    abbrev writes : Event
-    writes = Event.Page (Page.Write s p w v)
-
-    pub write-own : {a : Answer} {fs : List Frame} {ws : List ℕ} → a ≡ own z words writes .answer → fs ≡ own z words writes .left .memory .core .frames → ws ≡ own z words writes .left .memory .core .words → leaves a (onCore (λ c. setFrames fs (setWords ws c)) st) ≡ own z st writes
-    unfolding own carried result frameOf Pages.write
-    write-own {a} {fs} {ws} x y u = go (firstNo (questions z st writes)) x y u
-      where
-        go : (n : ℕ) → a ≡ after n words writes .answer → fs ≡ after n words writes .left .memory .core .frames → ws ≡ after n words writes .left .memory .core .words → leaves a (onCore (λ c. setFrames fs (setWords ws c)) st) ≡ after n st writes
-        go zero x y u = λ i. leaves (x i) (onCore (λ c. setFrames (y i) (setWords (u i) c)) st)
-        go (suc n) x y u = λ i. leaves (x i) (onCore (λ c. setFrames (y i) (setWords (u i) c)) st)
 
   -- ── wire and unwire, and the tables that they see ──
   abbrev lists : State

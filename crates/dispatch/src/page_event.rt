@@ -59,8 +59,6 @@ pub fn page_event(
             frames,
             pool,
             numbers,
-            accounts,
-            limits,
             frame_words,
             free_queue,
             removal_list,
@@ -69,7 +67,6 @@ pub fn page_event(
             owners,
             free_map,
             active,
-            used,
         ),
         Page::Read { slot, page, word } => framed(read(
             sizes,
@@ -94,8 +91,13 @@ pub fn page_event(
             value,
             frames,
             numbers,
-            active,
+            accounts,
+            limits,
             frame_words,
+            addresses,
+            states,
+            active,
+            used,
         )),
         Page::Wire { slot, page } => {
             framed(wire(sizes, slot, page, frames, numbers, active, removal_list))

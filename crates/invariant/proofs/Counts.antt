@@ -8,6 +8,7 @@ use Rattle.tables.specs.Base.{if}
 use Rattle.tables.specs.Laws.{at-tab0, length-tab, count-same}
 use Rattle.tables.specs.Rule.{test, alike}
 use Rattle.model.specs.declared.sizes.Sizes.{Sizes}
+use Rattle.model.specs.declared.frame.Frame.{Frame}
 use Rattle.model.specs.State.{Core, State, Files, Frames, files, frames, frameAt, allPages, slotOf, mapWords, charged, payer, usedOf, freeWord}
 use Rattle.model.specs.Setters.{onCore, counted}
 use Rattle.model.specs.Ruled.{OfCounts}
@@ -34,18 +35,22 @@ pub counted-framed : (z : Sizes) (st : State) → Framing z st → Framed z (cou
 unfolding counted
 counted-framed z st h = record { queues = record { free-queue = h .queues .free-queue; removal-list = h .queues .removal-list }; frames = h .frames; counts = counted-counts z st (h .hand); lengths = counted-fit z st (h .lengths) }
 
--- the same frames' pages, the same used counts
-pub used-same : (z : Sizes) (v : Files) (c d : Frames) → ((f : ℕ) → f < z .frames → c .frame f .page ≡ d .frame f .page) → (q : ℕ) → usedOf z v c q ≡ usedOf z v d q
+-- frames with the same page and the same modified switch
+abbrev pub Alike : Frame → Frame → Type 0
+Alike g h = (g .page ≡ h .page) × (g .modified ≡ h .modified)
+
+-- .. charge the same pages
+pub used-same : (z : Sizes) (v : Files) (c d : Frames) → ((f : ℕ) → f < z .frames → Alike (c .frame f) (d .frame f)) → (q : ℕ) → usedOf z v c q ≡ usedOf z v d q
 unfolding usedOf charged
 used-same z v c d e q = count-same (allPages z) (λ i. eqb (payer v (slotOf z i)) q && if (eqb (v .active (slotOf z i)) 1) (test (charged z v c i)) (ltb 0 (v .map i)))
     (λ i. eqb (payer v (slotOf z i)) q && if (eqb (v .active (slotOf z i)) 1) (test (charged z v d i)) (ltb 0 (v .map i)))
     (λ i h. ap (λ (b : Bool). eqb (payer v (slotOf z i)) q && if (eqb (v .active (slotOf z i)) 1) b (ltb 0 (v .map i)))
     (alike (charged z v c i) (charged z v d i)
-    (λ k. elim k [ inl x ↦ inl x | inr x ↦ inr (x .0, x .1, sym (e (x .0) (x .1)) ∙ x .2) ])
-    (λ k. elim k [ inl x ↦ inl x | inr x ↦ inr (x .0, x .1, e (x .0) (x .1) ∙ x .2) ])))
+    (λ k. elim k [ inl x ↦ inl x | inr x ↦ let s = e (x .0) (x .1) in inr (x .0, x .1, (sym (s .0) ∙ x .2 .0, sym (s .1) ∙ x .2 .1)) ])
+    (λ k. elim k [ inl x ↦ inl x | inr x ↦ let s = e (x .0) (x .1) in inr (x .0, x .1, (s .0 ∙ x .2 .0, s .1 ∙ x .2 .1)) ])))
 
--- an event that changes only the core, and no frame's page
-pub core-framed : (z : Sizes) (st : State) (x : Core) → Fit z st → OfCounts z st → Framing z (onCore (λ c. x) st) → ((f : ℕ) → f < z .frames → frameAt (st .memory .core .frames) f .page ≡ frameAt (x .frames) f .page) → Framed z (onCore (λ c. x) st)
+-- an event that changes only the core, and no frame's page or modified switch
+pub core-framed : (z : Sizes) (st : State) (x : Core) → Fit z st → OfCounts z st → Framing z (onCore (λ c. x) st) → ((f : ℕ) → f < z .frames → Alike (frameAt (st .memory .core .frames) f) (frameAt (x .frames) f)) → Framed z (onCore (λ c. x) st)
 core-framed z st x f c h e = record {
   queues = h .queues;
   frames = h .frames;

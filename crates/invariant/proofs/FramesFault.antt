@@ -170,7 +170,7 @@ module _ (z : Sizes) (st : State) (f : Fit z st) (r : Ruled z st) where
       away h l e = a .1 .1 .1 .1 .0 (h, l, e)
 
       some : 0 < size (st .memory .core .free-queue)
-      some = a .1 .1 .1 .1 .1 .1 .1 .0
+      some = a .1 .1 .1 .1 .1 .1 .0
 
       taken : files st .address i ≡ 0 → files st .state (pick z (files st .address) (files st .state) (st .memory .held .pool .hand) i) ≡ FREE
-      taken e = elim (a .1 .1 .1 .1 .1 .1 .0) [ inl x ↦ absurd (x e) | inr x ↦ found-free i x ]
+      taken e = elim (a .1 .1 .1 .1 .1 .0) [ inl x ↦ absurd (x e) | inr x ↦ found-free i x ]

@@ -28,7 +28,7 @@ use Rattle.model.specs.Ruled.{Ruled, once-list}
 use Rattle.model.specs.Fit.{Fit}
 use Rattle.invariant.proofs.Lengths.{long}
 use Rattle.invariant.proofs.Framed.{Framed, Framing}
-use Rattle.invariant.proofs.Counts.{core-framed}
+use Rattle.invariant.proofs.Counts.{counted-framed, core-framed}
 use Rattle.invariant.proofs.Seats.{SeatAt, textOf, cooler-same, kept-all}
 use Rattle.invariant.proofs.NewSeats.{Switched, seat-switched}
 use Rattle.invariant.proofs.QueueMoves.{Moved, unmoved, moved-back, moved-out}
@@ -70,8 +70,9 @@ module _ (z : Sizes) (st : State) (f : Fit z st) (r : Ruled z st) where
           slots = l .slots;
         })
 
-    pub switched-framed : Framed z (onCore (λ c. core) st)
-    switched-framed = core-framed z st core f (r .counts) switched-framing (λ h l. elim (ℕ-discrete h k) [ yes e ↦ rw (e, there) (sym (sw .page)) | no d ↦ rw (elsewhere h d) ])
+    -- modified is as it was
+    pub switched-framed : g .modified ≡ frames st .frame k .modified → Framed z (onCore (λ c. core) st)
+    switched-framed m = core-framed z st core f (r .counts) switched-framing (λ h l. elim (ℕ-discrete h k) [ yes e ↦ rw (e, there) (sym (sw .page), sym m) | no d ↦ rw (elsewhere h d) (refl, refl) ])
 
   -- Limit touches no table of memory.
   pub limit-frames : (q n : ℕ) → Asked (questions z st (Event.Design (Limit q n))) → Framed z (Designs.limit z st q n)
@@ -118,7 +119,7 @@ module _ (z : Sizes) (st : State) (f : Fit z st) (r : Ruled z st) where
           unread = arrived k below page;
           writing = its .writing;
           clean = λ e m. (e, m, λ w l. refl);
-        })
+        }) refl
 
     -- in service
     module _ (still : (h : ℕ) → h < z .frames → frames st .frame h .page ≡ suc i → frames st .frame h .transfer ≡ NONE) where
@@ -131,8 +132,8 @@ module _ (z : Sizes) (st : State) (f : Fit z st) (r : Ruled z st) where
       no-transfer : (n : ℕ) → n ≡ 1 → n + if (eqb (old .transfer) NONE) 0 1 ≡ 1
       no-transfer n e = rw (e, none)
 
-      write-framed : (w x : ℕ) → w < z .words → Framed z (onCore (λ c. onFrame k (λ g. setUsedSwitch 1 (setModified 1 g)) (setWords (set (c .words) (k * z .words + w) x) c)) st)
-      write-framed w x lw = switched-framed k below queued (setUsedSwitch 1 (setModified 1 old)) (st .memory .core .removal-list) (set (st .memory .core .words) (k * z .words + w) x) (frames st .removing k)
+      write-framing : (w x : ℕ) → w < z .words → Framing z (onCore (λ c. onFrame k (λ g. setUsedSwitch 1 (setModified 1 g)) (setWords (set (c .words) (k * z .words + w) x) c)) st)
+      write-framing w x lw = switched-framing k below queued (setUsedSwitch 1 (setModified 1 old)) (st .memory .core .removal-list) (set (st .memory .core .words) (k * z .words + w) x) (frames st .removing k)
           (unmoved (z .frames) (st .memory .core .removal-list) (f .memory .removal-list) (r .queues .removal-list) k (frames st .removing k) refl)
           (length-set (st .memory .core .words) (k * z .words + w) x ∙ f .memory .words) (λ h l d u b. word-other (st .memory .core .words) (z .words) k w h u x lw b d)
           (record {
@@ -162,7 +163,7 @@ module _ (z : Sizes) (st : State) (f : Fit z st) (r : Ruled z st) where
             unread = λ e. omega (arith, e, none);
             writing = λ e. absurd (omega (arith, e, none));
             clean = λ e m. (e, m, λ w l. refl);
-          })
+          }) refl
 
       unwire-framed : old .wired ≡ 1 → Framed z (onCore (λ c. onFrame k (λ g. setWired 0 (setInitial 0 g)) (setRemovalList (push-back (c .removal-list) k) c)) st)
       unwire-framed on = switched-framed k below queued (setWired 0 (setInitial 0 old)) (push-back (st .memory .core .removal-list) k) (st .memory .core .words) 1
@@ -178,7 +179,7 @@ module _ (z : Sizes) (st : State) (f : Fit z st) (r : Ruled z st) where
             unread = λ e. omega (arith, e, none);
             writing = λ e. absurd (omega (arith, e, none));
             clean = λ e m. (e, m, λ w l. refl);
-          })
+          }) refl
 
     -- the questions of wire and unwire speak of each frame with that page
     its-wired : ¬ ((h : ℕ) → h < z .frames → frames st .frame h .page ≡ suc i → ¬ (frames st .frame h .wired ≡ 1)) → old .wired ≡ 1
@@ -193,7 +194,7 @@ module _ (z : Sizes) (st : State) (f : Fit z st) (r : Ruled z st) where
 
   pub write-frames : (s p w x : ℕ) → Asked (questions z st (Event.Page (Write s p w x))) → Framed z (Pages.write z st s p w x)
   unfolding Pages.write
-  write-frames s p w x a = write-framed (pageOf z s p) (a .1 .1 .1 .0) (a .1 .1 .1 .1 .0) w x (a .0 .1 .1)
+  write-frames s p w x a = counted-framed z _ (write-framing (pageOf z s p) (a .1 .1 .1 .0) (a .1 .1 .1 .1 .0) w x (a .0 .1 .1))
 
   pub wire-frames : (s p : ℕ) → Asked (questions z st (Event.Page (Wire s p))) → Framed z (Pages.wire z st s p)
   unfolding Pages.wire

@@ -8,6 +8,7 @@ use Rattle.model.specs.declared.event.Design.the-variants.{Limit, Create, Delet
 use Rattle.model.specs.declared.event.Page.the-variants.{Fault, Read, Write, Wire, Unwire}
 use Rattle.model.specs.declared.event.Writeback.the-variants.{Claim, Truncate, Update, PageDone, MapDone}
 use Rattle.model.specs.State.{State}
+use Rattle.model.specs.Setters.{counted}
 use Rattle.model.specs.Questions.{questions}
 use Rattle.model.specs.Ruled.{Ruled}
 use Rattle.model.specs.Fit.{Fit}
@@ -32,7 +33,7 @@ module _ (z : Sizes) (st : State) (f : Fit z st) (r : Ruled z st) where
   read-records s p w a = (r .disk, r .records)
 
   pub write-records : (s p w x : ℕ) → Asked (questions z st (Event.Page (Write s p w x))) → Kept z (Pages.write z st s p w x)
-  unfolding Pages.write
+  unfolding Pages.write counted
   write-records s p w x a = (r .disk, r .records)
 
   pub wire-records : (s p : ℕ) → Asked (questions z st (Event.Page (Wire s p))) → Kept z (Pages.wire z st s p)

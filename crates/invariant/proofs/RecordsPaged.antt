@@ -86,7 +86,7 @@ module _ (z : Sizes) (st : State) (f : Fit z st) (r : Ruled z st) where
       q = pick z (v .address) (v .state) (st .memory .held .pool .hand) i
 
       take : v .address i ≡ 0 → Done z st (Pages.takeRecord z st i q)
-      take e = elim (a .1 .1 .1 .1 .1 .1 .0) [
+      take e = elim (a .1 .1 .1 .1 .1 .0) [
         | inl n ↦ absurd (n e)
         | inr n ↦ let t = a-free-record n in
             free-kept z st f r i q (page-below z (f .sizes .pages) s p (a .0 .0) (a .0 .1)) (pick-below z (v .address) (v .state) (st .memory .held .pool .hand) i (f .sizes .records))

@@ -113,7 +113,7 @@ module _ (z : Sizes) (st : State) (fits : Fit z st) (r : Ruled z st) (f : ℕ) (
       k = first (st .memory .core .free-queue)
 
       queued : frames st .queued k ≡ 1
-      queued = first-once (st .memory .core .free-queue) (fits .memory .free-queue) (r .queues .free-queue) (once-free z st r) (a .1 .1 .1 .1 .1 .1 .1 .0)
+      queued = first-once (st .memory .core .free-queue) (fits .memory .free-queue) (r .queues .free-queue) (once-free z st r) (a .1 .1 .1 .1 .1 .1 .0)
 
       d : ¬ (f ≡ k)
       d e = omega (arith, nowhere, queued, ap (frames st .queued) e)
@@ -134,7 +134,7 @@ module _ (z : Sizes) (st : State) (fits : Fit z st) (r : Ruled z st) (f : ℕ) (
 
   -- ── write, wire, unwire: of a page in no transfer ──
   write-untouched : (s p w x : ℕ) → Asked (questions z st (Event.Page (Write s p w x))) → Same (Pages.write z st s p w x)
-  unfolding Pages.write
+  unfolding Pages.write counted
   write-untouched s p w x a =
       let d = apart (pageOf z s p) (a .1 .1 .1 .0) (a .1 .1 .1 .1 .0) in
       others _ (frameOf z (frames st) (pageOf z s p)) _ d refl (λ u l. word-other ws (z .words) (frameOf z (frames st) (pageOf z s p)) w f u x (a .0 .1 .1) l d)

@@ -59,15 +59,16 @@ pub record Edges : Type 0 where
   e4-all : says small (opened 2 ++ truncate 0 3 ∷ []) ≡ 0 ∷ 0 ∷ []
   e4-same : T (equal (tables (leaves small (opened 2 ++ truncate 0 3 ∷ []))) (tables (leaves small (opened 2))))
   e4-past : says small (opened 2 ++ truncate 0 4 ∷ []) ≡ 3 ∷ 0 ∷ []
-  -- 5. empty page, used = limit, no record, no frame: 18. Used one less, a record free: 20.
-  e5-quota : says (sized 1 1) (opened 1 ++ fault 0 1 ∷ []) ≡ 18 ∷ 0 ∷ []
-  e5-frame : says (sized 2 1) (opened 2 ++ fault 0 1 ∷ []) ≡ 20 ∷ 0 ∷ []
+  -- 5. empty page, used = limit, no record, no frame: (02) now gives 19, and 20 with a record free.
+  e5-used : leaves (sized 1 1) (opened 1 ++ write 0 0 0 9 ∷ []) .memory .used ≡ 1 ∷ []
+  e5-record : says (sized 1 1) (opened 1 ++ write 0 0 0 9 ∷ fault 0 1 ∷ []) ≡ 19 ∷ 0 ∷ []
+  e5-frame : says (sized 2 1) (opened 1 ++ write 0 0 0 9 ∷ fault 0 1 ∷ []) ≡ 20 ∷ 0 ∷ []
   -- 6. claim, one entry, initial on: 2 looks. n entries, all used: n+1.
   e6-one : says small (opened 2 ++ claim ∷ []) ≡ 0 ∷ 2 ∷ []
   e6-all : says small (opened 2 ++ fault 0 1 ∷ wire 0 0 ∷ unwire 0 0 ∷ wire 0 1 ∷ unwire 0 1 ∷ read 0 0 0 ∷ read 0 1 0 ∷ claim ∷ []) ≡ 0 ∷ 3 ∷ []
-  -- 7. a fresh untouched page claimed: nulled, one charge less.
+  -- 7. a fresh untouched page claimed: nulled, (02) the charge does not fall.
   e7-state : leaves small (opened 2 ++ claim ∷ []) .memory .held .states ≡ 2 ∷ 0 ∷ 0 ∷ 0 ∷ []
-  e7-before : leaves small (opened 2) .memory .used ≡ 1 ∷ []
+  e7-before : leaves small (opened 2) .memory .used ≡ 0 ∷ []
   e7-after : leaves small (opened 2 ++ claim ∷ []) .memory .used ≡ 0 ∷ []
   -- 8. a listed page written to zeros and claimed: no write; a cut now brings the old words back.
   e8-none : leaves small blanked .memory .core .free-queue ≡ 1 ∷ 2 ∷ []
@@ -94,7 +95,8 @@ edges = record {
   e4-all = refl;
   e4-same = tt;
   e4-past = refl;
-  e5-quota = refl;
+  e5-used = refl;
+  e5-record = refl;
   e5-frame = refl;
   e6-one = refl;
   e6-all = refl;
@@ -110,7 +112,7 @@ edges = record {
   e11 = refl;
 }
 
--- 12. Limit 1, design A's listed page claimed as zeros, design B's page written and updated, cut: restart gives used 2; an empty fault gives 18.
+-- 12. Limit 1, design A's listed page claimed as zeros, design B's page written and updated, cut: restart gives used 2; (02) the fault is accepted and the first write gives 18.
 twelfth : List Act
 twelfth = restart ∷ limit 0 1 ∷ create 0 0 7 ∷ create 1 0 8 ∷ activate 0 ∷ fault 0 0 ∷ write 0 0 0 9 ∷ claim ∷ pageDone 0 1 ∷ update 0 ∷ mapDone 0 1 ∷ fault 0 0 ∷ pageDone 1 1 ∷ write 0 0 0 0 ∷ claim
     ∷ activate 1 ∷ fault 1 0 ∷ write 1 0 0 4 ∷ claim ∷ pageDone 0 1 ∷ update 1 ∷ mapDone 1 1 ∷ cut [] [] ∷ restart ∷ []
@@ -119,9 +121,13 @@ e12-used : leaves small twelfth .memory .used ≡ 2 ∷ []
 unfolding leaves twelfth
 e12-used = refl
 
-e12-fault : says small (twelfth ++ activate 0 ∷ fault 0 1 ∷ []) ≡ 18 ∷ 0 ∷ []
+e12-fault : says small (twelfth ++ activate 0 ∷ fault 0 1 ∷ []) ≡ 0 ∷ 0 ∷ []
 unfolding says trace twelfth
 e12-fault = refl
+
+e12-write : says small (twelfth ++ activate 0 ∷ fault 0 1 ∷ write 0 1 0 4 ∷ []) ≡ 18 ∷ 0 ∷ []
+unfolding says trace twelfth
+e12-write = refl
 
 -- the worked example of the event program
 example : List Act

@@ -4,6 +4,7 @@ pub mod Lines
 pub mod Requests
 pub mod State
 pub mod Lent
+pub mod Woven
 pub mod Rules
 pub mod Ruled
 pub mod Setters
@@ -35,6 +36,7 @@ pub mod FromPack
 pub mod Linked
 pub mod Lists
 pub mod Edges
+pub mod ChargeEdges
 pub mod TransferEdges
 pub mod RuleList
 pub mod Refusals

@@ -49,7 +49,7 @@ module _ (z : Sizes) (st : State) where
   wordRead s p w = at (st .memory .core .words) (its s p * z .words + w)
 
   unfoldable pub write : ℕ → ℕ → ℕ → ℕ → State
-  write s p w x = onCore (λ c. onFrame (its s p) (λ g. setUsedSwitch 1 (setModified 1 g)) (setWords (set (c .words) (its s p * z .words + w) x) c)) st
+  write s p w x = counted z (onCore (λ c. onFrame (its s p) (λ g. setUsedSwitch 1 (setModified 1 g)) (setWords (set (c .words) (its s p * z .words + w) x) c)) st)
 
   -- Wire takes a frame off the list;
   unfoldable pub wire : ℕ → ℕ → State

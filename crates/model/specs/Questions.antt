@@ -1,5 +1,5 @@
 -- The questions that come after 1 and 2: each stands once here, under paper 01's sentence and with its number. Number 23 is not used (Unasked).
-use Prim.Native.Nat.{ℕ, suc}
+use Prim.Native.Nat.{ℕ, suc, _+_}
 use Rattle.tables.specs.Base.{at, if}
 use Rattle.tables.specs.Queue.{size}
 use Rattle.tables.specs.Questions.{Questions, none, ask}
@@ -14,7 +14,7 @@ use Rattle.model.specs.declared.event.Writeback.the-variants.{Claim, Tru
 use Rattle.model.specs.declared.event.Event.{Event}
 use Rattle.model.specs.declared.event.Event.the-variants as Event
 use Rattle.model.specs.Lines.{NULLED, RELEASED}
-use Rattle.model.specs.State.{State, Files, Frames, files, frames, NONE, READING, pageOf, framed, live, payer}
+use Rattle.model.specs.State.{State, Files, Frames, files, frames, NONE, READING, pageOf, framed, live, charged, payer}
 use Rattle.model.specs.Rules.{isActive}
 
 module _ (z : Sizes) (st : State) where
@@ -46,6 +46,10 @@ module _ (z : Sizes) (st : State) where
   -- what an update now would store for a page
   unfoldable pub wouldStore : ℕ → ℕ
   wouldStore i = if (test (live v i)) (v .address i) 0
+
+  -- so many pages more for the account that pays for the slot: used and these together are at most its limit
+  abbrev pub payable : ℕ → ℕ → Rule
+  payable s n = below (at (st .memory .used) (payer v s) + n) (suc (at (st .disk .limits) (payer v s)))
 
   -- ── each question, with its number ──
   -- 3. Slot, page, word, frame, account below their sizes, k at most N, good 0 or 1, number above 0?
@@ -110,9 +114,9 @@ module _ (z : Sizes) (st : State) where
   abbrev q17 : ℕ → Questions → Questions
   q17 i = ask 17 (non (unwired i))
 
-  -- 18. Fault without live address: used below limit?
+  -- (02) 18. Write to an uncharged page: used below limit?
   abbrev q18 : ℕ → ℕ → Questions → Questions
-  q18 s i = ask 18 (live v i or below (at (st .memory .used) (payer v s)) (at (st .disk .limits) (payer v s)))
+  q18 s i = ask 18 (charged z v c i or payable s 1)
 
   -- 19. Fault without address: a record free?
   abbrev q19 : ℕ → Questions → Questions
@@ -140,7 +144,7 @@ module _ (z : Sizes) (st : State) where
   abbrev wordRange : ℕ → ℕ → ℕ → Rule
   wordRange s p w = below s (z .slots) and below p (z .pages) and below w (z .words)
 
-  -- the questions of a read, a write and a page look; quiet is what 14 asks of the page
+  -- the questions of a read and a page look, and the first of a write; quiet is what 14 asks of the page
   abbrev pub served : Rule → (ℕ → Rule) → ℕ → ℕ → Questions
   served range quiet s p = q3 range (q4 s (q8 s (q13 (page s p) (q14 (quiet (page s p)) none))))
 
@@ -156,9 +160,9 @@ module _ (z : Sizes) (st : State) where
   designQuestions (Deactivate s) = q3 (slotRange s) (q4 s (q8 s (q10 s (q11 s (q12 s none)))))
 
   abbrev pub pageQuestions : Page → Questions
-  pageQuestions (Fault s p) = q3 (pageRange s p) (q4 s (q8 s (q14 (still (page s p)) (q15 (page s p) (q18 s (page s p) (q19 (page s p) (q20 none)))))))
+  pageQuestions (Fault s p) = q3 (pageRange s p) (q4 s (q8 s (q14 (still (page s p)) (q15 (page s p) (q19 (page s p) (q20 none))))))
   pageQuestions (Read s p w) = served (wordRange s p w) arrived s p
-  pageQuestions (Write s p w x) = served (wordRange s p w) still s p
+  pageQuestions (Write s p w x) = q3 (wordRange s p w) (q4 s (q8 s (q13 (page s p) (q14 (still (page s p)) (q18 s (page s p) none)))))
   pageQuestions (Wire s p) = q3 (pageRange s p) (q4 s (q8 s (q13 (page s p) (q14 (still (page s p)) (q16 (unwired (page s p)) none)))))
   pageQuestions (Unwire s p) = q3 (pageRange s p) (q4 s (q8 s (q13 (page s p) (q14 (still (page s p)) (q17 (page s p) none)))))
 

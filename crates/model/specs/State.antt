@@ -8,7 +8,7 @@ use lib.ListN.{getD}
 use Rattle.tables.specs.Base.{at, if, count}
 use Rattle.tables.specs.Bits.{bits}
 use Rattle.tables.specs.Queue.{members, times}
-use Rattle.tables.specs.Rule.{Rule, same, _or_, some, names, test}
+use Rattle.tables.specs.Rule.{Rule, same, _and_, _or_, some, names, test}
 use Rattle.model.specs.declared.sizes.Sizes.{Sizes}
 use Rattle.model.specs.declared.frame.Frame.{Frame}
 use Rattle.model.specs.declared.frame.Pool.{Pool}
@@ -140,9 +140,13 @@ framed z c i = some (z .frames) λ f. same (c .frame f .page) (suc i)
 abbrev pub live : Files → ℕ → Rule
 live v i = names (v .address i) λ r. same (v .state r) LIVE
 
--- A page is charged if its address is live or it is in a frame.
+-- the page is in a frame and modified
+abbrev pub woven : Sizes → Frames → ℕ → Rule
+woven z c i = some (z .frames) λ f. same (c .frame f .page) (suc i) and same (c .frame f .modified) 1
+
+-- (02) A page is charged if its address is live, or if it is in a frame and modified.
 unfoldable pub charged : Sizes → Files → Frames → ℕ → Rule
-charged z v c i = live v i or framed z c i
+charged z v c i = live v i or woven z c i
 
 -- who pays for the pages of a slot: its account
 unfoldable pub payer : Files → ℕ → ℕ

@@ -52,7 +52,7 @@ pub const WIRED: u32 = 16;
 // Unwire: wired?
 pub const NOT_WIRED: u32 = 17;
 
-// Fault without live address: used below limit?
+// Write to an uncharged page: used below limit?
 pub const AT_LIMIT: u32 = 18;
 
 // Fault without address: a record free?

@@ -1,6 +1,6 @@
 -- A fault in code: refused, it leaves all; carried out, each table is what the model leaves.
 use mathlib.Core.Path.{_≡_, refl, ap, sym, _∙_, subst}
-use mathlib.Core.Bool.{Bool, true, false, not, _&&_}
+use mathlib.Core.Bool.{Bool, true, false, _&&_}
 use mathlib.Core.Logic.{inl, inr}
 use mathlib.Core.List.{List}
 use Prim.Native.Nat.{ℕ, suc, _-_, _%_, _<_}
@@ -22,7 +22,7 @@ use Rattle.model.specs.declared.event.Event.{Event}
 use Rattle.model.specs.declared.event.Event.the-variants as Event
 use Rattle.model.specs.declared.event.Page.the-variants as Page
 use Rattle.model.specs.Lines.{NULLED}
-use Rattle.model.specs.State.{State, files, pageOf, slotOf, payer, live}
+use Rattle.model.specs.State.{State, files, pageOf, slotOf, live}
 use Rattle.model.specs.Index.{slot-of-page}
 use Rattle.model.specs.Parts.{pick, setPart}
 use Rattle.model.specs.Pool.{taken, taken-by}
@@ -36,20 +36,15 @@ use Rattle.leaves.specs.FrameLaws.{take-frame}
 use Rattle.pages.specs.Seen.{seenFault}
 use Rattle.pages.specs.Needs.{Queued}
 use Rattle.leaves.specs.Asks.{slotAsked, asked-range}
-use Rattle.pages.specs.Faults.{wayOf, awayAsked, supplyAsked, goes, cleared, charged1, FaultLeft}
+use Rattle.pages.specs.Faults.{wayOf, awayAsked, supplyAsked, goes, cleared, FaultLeft}
 use Rattle.pages.proofs.Served.{pageTest, pageRange, page-test}
-use Rattle.pages.proofs.Ways.{way-live, zero-none}
-use Rattle.pages.proofs.Faulting.{way, live-none, way-two, fault-frames, fault-words, fault-queue, fault-list, fault-addresses, fault-states, fault-owners, fault-hand}
+use Rattle.pages.proofs.Ways.{zero-none}
+use Rattle.pages.proofs.Faulting.{way, live-none, fault-frames, fault-words, fault-queue, fault-list, fault-addresses, fault-states, fault-owners, fault-hand}
 
 -- a carried-out fault counts by its way
 if-also : {A : Type 0} (g b : Bool) (x y : A) → g ≡ true → if b x y ≡ if (g && b) x y
 if-also true b x y e = refl
 if-also false b x y e = absurd (subst (λ (c : Bool). T c) (sym e) tt)
-
-if-not : {A : Type 0} (g b : Bool) (x y : A) → g ≡ true → if b y x ≡ if (g && not b) x y
-if-not true true x y e = refl
-if-not true false x y e = refl
-if-not false b x y e = absurd (subst (λ (c : Bool). T c) (sym e) tt)
 
 if-never : {A : Type 0} (g b : Bool) (x y : A) → g ≡ false → y ≡ if (g && b) x y
 if-never true b x y e = absurd (subst (λ (c : Bool). T c) e tt)
@@ -64,19 +59,18 @@ if-free true x y = refl
 if-free false x y = refl
 
 -- n is the answer to a fault's questions, over what the code is lent
-pub record FaultAsked (z : Sizes) (fs : List Frame) (pool : Pool) (numbers accounts limits words queue list addresses states owners map active used : List ℕ) (s p n : ℕ) : Type 0 where
-  pub answered : n ≡ firstNo (questions z (seenFault (take (z .frames) fs) pool numbers accounts limits words queue list addresses states owners map active used) (Event.Page (Page.Fault s p)))
+pub record FaultAsked (z : Sizes) (fs : List Frame) (pool : Pool) (numbers words queue list addresses states owners map active : List ℕ) (s p n : ℕ) : Type 0 where
+  pub answered : n ≡ firstNo (questions z (seenFault (take (z .frames) fs) pool numbers words queue list addresses states owners map active) (Event.Page (Page.Fault s p)))
 
-pub fault-asked : {z : Sizes} {fs : List Frame} {pool : Pool} {numbers accounts limits words queue list addresses states owners map active used : List ℕ} {s p n : ℕ}
-    → n ≡ firstNo (slotAsked (pageTest z s p) s numbers active also awayAsked z (take (z .frames) fs) (pageOf z s p) also supplyAsked (pageOf z s p) addresses states (at used (at accounts s)) (at limits (at accounts s)) (pool .free) queue)
-    → FaultAsked z fs pool numbers accounts limits words queue list addresses states owners map active used s p n
-unfolding payer
+pub fault-asked : {z : Sizes} {fs : List Frame} {pool : Pool} {numbers words queue list addresses states owners map active : List ℕ} {s p n : ℕ}
+    → n ≡ firstNo (slotAsked (pageTest z s p) s numbers active also awayAsked z (take (z .frames) fs) (pageOf z s p) also supplyAsked (pageOf z s p) addresses (pool .free) queue)
+    → FaultAsked z fs pool numbers words queue list addresses states owners map active s p n
 fault-asked {z} {s = s} {p = p} h = record { answered = h ∙ asked-range (pageTest z s p) (pageRange z s p) _ (page-test z s p) }
 
-module _ {z : Sizes} {fs : List Frame} {pool : Pool} {numbers accounts limits words queue list addresses states owners map active used : List ℕ} {s p n : ℕ}
-    (q : FaultAsked z fs pool numbers accounts limits words queue list addresses states owners map active used s p n) where
+module _ {z : Sizes} {fs : List Frame} {pool : Pool} {numbers words queue list addresses states owners map active : List ℕ} {s p n : ℕ}
+    (q : FaultAsked z fs pool numbers words queue list addresses states owners map active s p n) where
   abbrev st : State
-  st = seenFault (take (z .frames) fs) pool numbers accounts limits words queue list addresses states owners map active used
+  st = seenFault (take (z .frames) fs) pool numbers words queue list addresses states owners map active
 
   abbrev i : ℕ
   i = pageOf z s p
@@ -96,7 +90,7 @@ module _ {z : Sizes} {fs : List Frame} {pool : Pool} {numbers accounts limits wo
     pub fault-no : _≡_ {A = Answer} (record { refusal = n; result = 0 }) (own z st e .answer)
     fault-no = λ t. o t .answer
 
-    pub fault-none : FaultLeft z st s p (take (z .frames) fs) (taken z 0 pool) words queue list addresses states owners map used
+    pub fault-none : FaultLeft z st s p (take (z .frames) fs) (taken z 0 pool) words queue list addresses states owners map
     unfolding taken
     fault-none = record {
       frames = λ t. o t .left .memory .core .frames;
@@ -109,7 +103,6 @@ module _ {z : Sizes} {fs : List Frame} {pool : Pool} {numbers accounts limits wo
       hand = λ t. o t .left .memory .held .pool .hand;
       free = if-never (goes z st s p) _ _ (pool .free) stays;
       map-left = if-never (goes z st s p) _ _ map stays;
-      used-left = if-never (goes z st s p) _ _ used stays;
     }
 
   -- ── carried out ──
@@ -125,7 +118,7 @@ module _ {z : Sizes} {fs : List Frame} {pool : Pool} {numbers accounts limits wo
     fault-range = (asked .0 .0, asked .0 .1)
 
     pub fault-some : 0 < size queue
-    fault-some = asked .1 .1 .1 .1 .1 .1 .1 .0
+    fault-some = asked .1 .1 .1 .1 .1 .1 .0
 
     -- j, w and f are the code's page, way and frame
     module _ {j w f : ℕ} (ej : j ≡ i) (ew : w ≡ wayOf addresses states j) (ef : f ≡ first queue) where
@@ -133,14 +126,7 @@ module _ {z : Sizes} {fs : List Frame} {pool : Pool} {numbers accounts limits wo
       its = ew ∙ ap (wayOf addresses states) ej
 
       pub fault-record : w ≡ 0 → 0 < pool .free
-      fault-record x = elim (asked .1 .1 .1 .1 .1 .1 .0) [ inl u ↦ absurd (u (zero-none addresses states i (sym its ∙ x))) | inr u ↦ u ]
-
-      pub fault-quota : ¬ (w ≡ 2) → at used (at accounts s) < at limits (at accounts s)
-      unfolding payer
-      fault-quota x = elim (asked .1 .1 .1 .1 .1 .0) [ inl u ↦ absurd (x (its ∙ live-way u)) | inr u ↦ u ]
-        where
-          live-way : Holds (live (files st) i) → way z st s p ≡ 2
-          live-way u = way-live addresses states i u
+      fault-record x = elim (asked .1 .1 .1 .1 .1 .0) [ inl u ↦ absurd (u (zero-none addresses states i (sym its ∙ x))) | inr u ↦ u ]
 
       none-way : eqb (way z st s p) 0 ≡ test (same (at addresses i) 0)
       unfolding wayOf
@@ -153,7 +139,7 @@ module _ {z : Sizes} {fs : List Frame} {pool : Pool} {numbers accounts limits wo
       unfolding result Pages.faultFrame
       fault-yes = (λ t. record { refusal = 0; result = ef t }) ∙ (λ t. y t .answer)
 
-      pub fault-done : (pos : 0 < z .pages) (gs : List Frame) (t : ℕ) (words' queue' list' addresses' states' owners' map' used' : List ℕ) (k : ℕ) → k ≡ at accounts s
+      pub fault-done : (pos : 0 < z .pages) (gs : List Frame) (t : ℕ) (words' queue' list' addresses' states' owners' map' : List ℕ)
           → gs ≡ set fs f (if (eqb w 2) (awaiting j) (fresh j))
           → t ≡ if (eqb w 0) (suc (pick z (at addresses) (at states) (pool .hand) j)) 0
           → words' ≡ if (eqb w 2) words (setPart z f (λ x. 0) words)
@@ -163,10 +149,9 @@ module _ {z : Sizes} {fs : List Frame} {pool : Pool} {numbers accounts limits wo
           → states' ≡ if (eqb w 0) (set states (pick z (at addresses) (at states) (pool .hand) j) NULLED) states
           → owners' ≡ if (eqb w 0) (set owners (pick z (at addresses) (at states) (pool .hand) j) s) owners
           → map' ≡ if (eqb w 0) (cleared map (pick z (at addresses) (at states) (pool .hand) j)) map
-          → used' ≡ if (eqb w 2) used (charged1 used k)
-          → FaultLeft z st s p (take (z .frames) gs) (taken z t pool) words' queue' list' addresses' states' owners' map' used'
-      unfolding carried payer
-      fault-done pos gs n′ words' queue' list' addresses' states' owners' map' used' k ek eg ep ewo eq el ea es eo em eu = record {
+          → FaultLeft z st s p (take (z .frames) gs) (taken z t pool) words' queue' list' addresses' states' owners' map'
+      unfolding carried
+      fault-done pos gs n′ words' queue' list' addresses' states' owners' map' eg ep ewo eq el ea es eo em = record {
         frames = ap (take (z .frames)) eg ∙ take-frame (z .frames) fs f _ ∙ (λ t. set (take (z .frames) fs) (ef t) (if (eqb (its t) 2) (awaiting (ej t)) (fresh (ej t)))) ∙ sym (fault-frames z st s p) ∙ (λ t. y t .left .memory .core .frames);
         words-left = ewo ∙ (λ t. if (eqb (its t) 2) words (setPart z (ef t) (λ x. 0) words)) ∙ sym (fault-words z st s p) ∙ (λ t. y t .left .memory .core .words);
         queue-left = eq ∙ sym (fault-queue z st s p) ∙ (λ t. y t .left .memory .core .free-queue);
@@ -177,7 +162,6 @@ module _ {z : Sizes} {fs : List Frame} {pool : Pool} {numbers accounts limits wo
         hand = ap (λ (x : Pool). x .hand) held ∙ if-pool (eqb w 0) _ pool ∙ (λ t. if (eqb (its t) 0) (suc (pick z (at addresses) (at states) (pool .hand) (ej t)) % z .records) (pool .hand)) ∙ sym (fault-hand z st s p) ∙ (λ t. y t .left .memory .held .pool .hand);
         free = ap (λ (x : Pool). x .free) held ∙ if-free (eqb w 0) _ pool ∙ (λ t. if (none t) (pool .free - 1) (pool .free)) ∙ if-also (goes z st s p) (test (same (at addresses i) 0)) (pool .free - 1) (pool .free) going;
         map-left = em ∙ (λ t. if (none t) (cleared map (pick z (at addresses) (at states) (pool .hand) (ej t))) map) ∙ if-also (goes z st s p) (test (same (at addresses i) 0)) (cleared map (pick z (at addresses) (at states) (pool .hand) i)) map going;
-        used-left = eu ∙ (λ t. if (two t) used (charged1 used (ek t))) ∙ if-not (goes z st s p) (test (live (files st) i)) (charged1 used (at accounts s)) used going;
       }
         where
           held : taken z n′ pool ≡ if (eqb w 0) (record { hand = suc (pick z (at addresses) (at states) (pool .hand) j) % z .records; free = pool .free - 1 }) pool
@@ -188,9 +172,6 @@ module _ {z : Sizes} {fs : List Frame} {pool : Pool} {numbers accounts limits wo
 
           none : eqb w 0 ≡ test (same (at addresses i) 0)
           none = ap (λ (x : ℕ). eqb x 0) its ∙ none-way
-
-          two : eqb w 2 ≡ test (live (files st) i)
-          two = ap (λ (x : ℕ). eqb x 2) its ∙ way-two z st s p
 
 -- the first queued frame, and room for it in the removal list
 pub serve-needs : (z : Sizes) (free list : List ℕ) (f : ℕ) → Queued z free list → 0 < size free → f ≡ first free → (f < z .frames) × Holds (queue (length list) list) × (size list < length list)

@@ -22,7 +22,7 @@ use Rattle.model.specs.State.{State, frames, frameAt}
 use Rattle.model.specs.Questions.{served, still, lookQuestions}
 use Rattle.model.specs.Pages as Pages
 use Rattle.model.specs.Part.{part, no-part}
-use Rattle.model.specs.Setters.{setUsedSwitch, setModified, setWired, setInitial}
+use Rattle.model.specs.Setters.{setUsedSwitch, setWired, setInitial}
 use Rattle.model.specs.Parts.{frameOf}
 use Rattle.model.specs.Step.{carried, result}
 use Rattle.model.specs.OwnLaws.{done, own-no, own-yes}
@@ -118,7 +118,7 @@ module _ (a : Call) where
   pub place-fits : (f k : ℕ) → f < z .frames → k ≡ f * z .words + 0 → k + z .words ≤ z .frames * z .words
   place-fits f k h e = omega (arith, mul-le-mul-right (z .words) h)
 
-  -- ── read and write ──
+  -- ── read ──
   module _ (w : ℕ) where
     pub word-answer : (reads : Bool) (n : ℕ) → n ≡ firstNo (slotAsked (wordTest z s p w) s (a .numbers) (a .active) also frameAsked reads z (take (z .frames) fs) i)
         → n ≡ firstNo (served z st (wordRange z s p w) (quietOf reads z st) s p)
@@ -133,14 +133,6 @@ module _ (a : Call) where
       pub read-frames : l ≡ set fs f (setUsedSwitch 1 g) → take (z .frames) l ≡ done z st (Event.Page (Page.Read s p w)) .left .memory .core .frames
       unfolding carried Pages.read
       read-frames el = its-changed z fs i (frames st) (λ k j. refl) h (setUsedSwitch 1) f g l ef eg el
-
-      pub write-frames : (x : ℕ) → l ≡ set fs f (setUsedSwitch 1 (setModified 1 g)) → take (z .frames) l ≡ done z st (Event.Page (Page.Write s p w x)) .left .memory .core .frames
-      unfolding carried Pages.write
-      write-frames x el = its-changed z fs i (frames st) (λ k j. refl) h (λ y. setUsedSwitch 1 (setModified 1 y)) f g l ef eg el
-
-      pub write-words : (k x : ℕ) (m : List ℕ) → k ≡ f * z .words + w → m ≡ set words k x → m ≡ done z st (Event.Page (Page.Write s p w x)) .left .memory .core .words
-      unfolding carried Pages.write
-      write-words k x m ek em = em ∙ ap (λ (j : ℕ). set words j x) (ek ∙ ap (λ (j : ℕ). j * z .words + w) (its-place f ef))
 
   -- ── wire and unwire ──
   module _ (h : frameIn (z .frames) fs i < z .frames) (f : ℕ) (ef : f ≡ frameIn (z .frames) fs i) where

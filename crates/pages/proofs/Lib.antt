@@ -6,3 +6,5 @@ pub mod Ways
 pub mod Holding
 pub mod Faulting
 pub mod Faulted
+pub mod Charging
+pub mod Writing

@@ -1,12 +1,14 @@
--- The three ways of a fault: the code's numbers, and the questions by them.
+-- The three ways of a fault: the code's numbers; and question 19.
 use mathlib.Core.Path.{_≡_, ap, sym, _∙_}
 use mathlib.Core.Bool.{Bool, true, _||_}
 use mathlib.Core.Logic.{inl}
 use mathlib.Core.List.{List}
 use Prim.Native.Nat.{ℕ, _-_}
 use native.Mathlib.Omega.{arith}
+use native.Mathlib.Decide.{ℕ-discrete}
 use lib.Dec.{eqb, ltb}
 use Rattle.tables.specs.Base.{if, at}
+use Rattle.tables.specs.Laws.{if-yes, if-no}
 use Rattle.tables.specs.Rule.{Holds, same, below, non, _or_, test, told, untold, decided}
 use Rattle.model.specs.Lines.{LIVE}
 use Rattle.pages.specs.Faults.{isLive, wayOf}
@@ -38,23 +40,10 @@ module _ (addresses states : List ℕ) (i : ℕ) where
     | no e ↦ elim (decided (isLive addresses states i)) [ yes l ↦ absurd (omega (arith, way-live l, w)) | no l ↦ absurd (omega (arith, way-held e l, w)) ]
   ]
 
-  -- ── the questions by the way ──
-  pub quota-told : (u l : ℕ) → if (eqb (wayOf addresses states i) 2) true (ltb u l) ≡ test (isLive addresses states i or below u l)
-  unfolding test
-  quota-told u l = elim (decided (isLive addresses states i)) [
-    | yes h ↦ rw (way-live h) (sym (told (isLive addresses states i or below u l) (inl h)))
-    | no h ↦ elim (decided (same (at addresses i) 0)) [
-      | yes e ↦ rw (way-none e) (sym (ap (λ (b : Bool). b || ltb u l) (untold (isLive addresses states i) h)))
-      | no e ↦ rw (way-held e h) (sym (ap (λ (b : Bool). b || ltb u l) (untold (isLive addresses states i) h)))
-    ]
-  ]
-
-  pub supplied-told : (free : ℕ) → if (eqb (wayOf addresses states i) 0) (ltb 0 free) true ≡ test (non (same (at addresses i) 0) or below 0 free)
-  unfolding test
-  supplied-told free = elim (decided (same (at addresses i) 0)) [
-    | yes e ↦ rw (way-none e) (sym (ap (λ (b : Bool). b || ltb 0 free) (untold (non (same (at addresses i) 0)) (λ k. k e))))
-    | no e ↦ elim (decided (isLive addresses states i)) [
-      | yes h ↦ rw (way-live h) (sym (told (non (same (at addresses i) 0) or below 0 free) (inl e)))
-      | no h ↦ rw (way-held e h) (sym (told (non (same (at addresses i) 0) or below 0 free) (inl e)))
-    ]
-  ]
+-- ── question 19 by the address ──
+pub supplied-told : (a free : ℕ) → if (eqb a 0) (ltb 0 free) true ≡ test (non (same a 0) or below 0 free)
+unfolding test
+supplied-told a free = elim (ℕ-discrete a 0) [
+  | yes e ↦ if-yes a 0 (ltb 0 free) true e ∙ sym (ap (λ (b : Bool). b || ltb 0 free) (untold (non (same a 0)) (λ k. k e)))
+  | no e ↦ if-no a 0 (ltb 0 free) true e ∙ sym (told (non (same a 0) or below 0 free) (inl e))
+]

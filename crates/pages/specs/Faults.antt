@@ -1,8 +1,8 @@
--- The three ways of a fault, by the page's address, its questions in parts, and what it counts up and down.
+-- The three ways of a fault, by the page's address, its questions in parts, and what it counts down.
 use mathlib.Core.Path.{_≡_}
-use mathlib.Core.Bool.{Bool, _&&_, not}
+use mathlib.Core.Bool.{Bool, _&&_}
 use mathlib.Core.List.{List}
-use Prim.Native.Nat.{ℕ, _+_, _-_, _/_, _%_, _^_}
+use Prim.Native.Nat.{ℕ, _-_, _/_, _%_, _^_}
 use lib.Dec.{eqb}
 use lib.ListN.{set}
 use Rattle.tables.specs.Base.{if, at}
@@ -15,7 +15,7 @@ use Rattle.model.specs.declared.frame.Pool.{Pool}
 use Rattle.model.specs.declared.event.Event.the-variants as Event
 use Rattle.model.specs.declared.event.Page.the-variants as Page
 use Rattle.model.specs.Lines.{LIVE}
-use Rattle.model.specs.State.{State, files, pageOf, live, payer, framed}
+use Rattle.model.specs.State.{State, files, pageOf, framed}
 use Rattle.model.specs.Lent.{Table}
 use Rattle.model.specs.Parts.{pick}
 use Rattle.model.specs.Questions.{questions}
@@ -35,10 +35,9 @@ wayOf addresses states i = if (test (isLive addresses states i)) 2 (if (test (sa
 abbrev pub awayAsked : Sizes → List Frame → ℕ → Questions
 awayAsked z fs i = ask 14 (ofFrame z fs i isStill) (ask 15 (non (framed z (framesOf fs) i)) none)
 
--- 18, 19 and 20: used below limit, a record free, a frame free
-abbrev pub supplyAsked : ℕ → List ℕ → List ℕ → ℕ → ℕ → ℕ → List ℕ → Questions
-supplyAsked i addresses states used limit free queue =
-    ask 18 (isLive addresses states i or below used limit) (ask 19 (non (same (at addresses i) 0) or below 0 free) (ask 20 (below 0 (size queue)) none))
+-- 19 and 20: a record free, a frame free
+abbrev pub supplyAsked : ℕ → List ℕ → ℕ → List ℕ → Questions
+supplyAsked i addresses free queue = ask 19 (non (same (at addresses i) 0) or below 0 free) (ask 20 (below 0 (size queue)) none)
 
 module _ (z : Sizes) (st : State) (s p : ℕ) where
   -- the fault is carried out
@@ -48,10 +47,6 @@ module _ (z : Sizes) (st : State) (s p : ℕ) where
   -- .. and takes a record
   abbrev pub takes : Bool
   takes = goes && test (same (files st .address (pageOf z s p)) 0)
-
-  -- .. and charges a page
-  abbrev pub charges : Bool
-  charges = goes && not (test (live (files st) (pageOf z s p)))
 
   -- the record taken
   abbrev pub taken : ℕ
@@ -65,12 +60,8 @@ chosen z pool addresses states i = pick z (at (addresses .entry .now)) (at (stat
 abbrev pub cleared : List ℕ → ℕ → List ℕ
 cleared map r = set map (r / 32) (at map (r / 32) - 2 ^ (r % 32))
 
--- an account charged with one page more
-abbrev pub charged1 : List ℕ → ℕ → List ℕ
-charged1 used q = set used q (at used q + 1)
-
--- What a fault leaves in each table that it changes: what the model leaves; the counts are counted up and down.
-pub record FaultLeft (z : Sizes) (st : State) (s p : ℕ) (fs : List Frame) (pool : Pool) (words queue list addresses states owners map used : List ℕ) : Type 0 where
+-- What a fault leaves in each table that it changes: what the model leaves; the free records are counted down.
+pub record FaultLeft (z : Sizes) (st : State) (s p : ℕ) (fs : List Frame) (pool : Pool) (words queue list addresses states owners map : List ℕ) : Type 0 where
   pub frames : fs ≡ own z st (Event.Page (Page.Fault s p)) .left .memory .core .frames
   pub words-left : words ≡ own z st (Event.Page (Page.Fault s p)) .left .memory .core .words
   pub queue-left : queue ≡ own z st (Event.Page (Page.Fault s p)) .left .memory .core .free-queue
@@ -81,9 +72,8 @@ pub record FaultLeft (z : Sizes) (st : State) (s p : ℕ) (fs : List Frame) (poo
   pub hand : pool .hand ≡ own z st (Event.Page (Page.Fault s p)) .left .memory .held .pool .hand
   pub free : pool .free ≡ if (takes z st s p) (st .memory .held .pool .free - 1) (st .memory .held .pool .free)
   pub map-left : map ≡ if (takes z st s p) (cleared (st .memory .held .free-map) (taken z st s p)) (st .memory .held .free-map)
-  pub used-left : used ≡ if (charges z st s p) (charged1 (st .memory .used) (payer (files st) s)) (st .memory .used)
 
 -- .. by bare names
-abbrev pub Left : Sizes → State → ℕ → ℕ → List Frame → Pool → Table → Table → Table → Table → Table → Table → Table → Table → Type 0
-Left z st s p fs pool words queue list addresses states owners map used =
-    FaultLeft z st s p fs pool (words .exit .now) (queue .exit .now) (list .exit .now) (addresses .exit .now) (states .exit .now) (owners .exit .now) (map .exit .now) (used .exit .now)
+abbrev pub Left : Sizes → State → ℕ → ℕ → List Frame → Pool → Table → Table → Table → Table → Table → Table → Table → Type 0
+Left z st s p fs pool words queue list addresses states owners map =
+    FaultLeft z st s p fs pool (words .exit .now) (queue .exit .now) (list .exit .now) (addresses .exit .now) (states .exit .now) (owners .exit .now) (map .exit .now)

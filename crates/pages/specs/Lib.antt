@@ -4,3 +4,4 @@ pub mod Asks
 pub mod Needs
 pub mod Looks
 pub mod Faults
+pub mod Writes

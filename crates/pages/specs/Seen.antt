@@ -8,12 +8,12 @@ use Rattle.model.specs.Setters.{onDisk, onCore, onHeld, onSlots, setNumbers, se
 use Rattle.model.specs.Setters.{setAddresses, setStates, setOwners, setFreeMap, setHand, setFree, setActive, setUsed}
 use Rattle.model.specs.Lent.{Table, noState}
 
--- of a read, a write, a wire, an unwire and a page look: frames, numbers, words, removal list, active switches
+-- of a read, a wire, an unwire and a page look: frames, numbers, words, removal list, active switches
 abbrev pub seen : List Frame → List ℕ → List ℕ → List ℕ → List ℕ → State
 seen frames numbers words list active =
     onDisk (setNumbers numbers) (onCore (λ c. setFrames frames (setWords words (setRemovalList list c))) (onSlots (setActive active) noState))
 
--- .. as a read and a write are passed them, by bare names,
+-- .. as a read is passed them, by bare names,
 abbrev pub enteredWords : List Frame → Table → Table → Table → State
 enteredWords frames numbers words active = seen frames (numbers .entry .now) (words .entry .now) [] (active .entry .now)
 
@@ -21,16 +21,27 @@ enteredWords frames numbers words active = seen frames (numbers .entry .now) (wo
 abbrev pub enteredList : List Frame → Table → Table → Table → State
 enteredList frames numbers list active = seen frames (numbers .entry .now) [] (list .entry .now) (active .entry .now)
 
--- of a fault: all but the records, the maps, the update switches and the images
-abbrev pub seenFault : List Frame → Pool → List ℕ → List ℕ → List ℕ → List ℕ → List ℕ → List ℕ → List ℕ → List ℕ → List ℕ → List ℕ → List ℕ → List ℕ → State
-seenFault frames pool numbers accounts limits words queue list addresses states owners map active used =
+-- of a write: these but the list, and what is charged to whom
+abbrev pub seenWrite : List Frame → List ℕ → List ℕ → List ℕ → List ℕ → List ℕ → List ℕ → List ℕ → List ℕ → State
+seenWrite frames numbers accounts limits words addresses states active used =
     onDisk (λ d. setNumbers numbers (setAccounts accounts (setLimits limits d)))
-    (onCore (λ c. setFrames frames (setWords words (setFreeQueue queue (setRemovalList list c))))
-    (onHeld (λ h. setAddresses addresses (setStates states (setOwners owners (setFreeMap map (setHand (pool .hand) (setFree (pool .free) h))))))
-    (onSlots (setActive active) (setUsed used noState))))
+    (onCore (λ c. setFrames frames (setWords words c)) (onHeld (λ h. setAddresses addresses (setStates states h)) (onSlots (setActive active) (setUsed used noState))))
 
 -- .. as it is passed them, by bare names
-abbrev pub enteredFault : List Frame → Pool → Table → Table → Table → Table → Table → Table → Table → Table → Table → Table → Table → Table → State
-enteredFault frames pool numbers accounts limits words queue list addresses states owners map active used =
-    seenFault frames pool (numbers .entry .now) (accounts .entry .now) (limits .entry .now) (words .entry .now) (queue .entry .now) (list .entry .now) (addresses .entry .now)
-    (states .entry .now) (owners .entry .now) (map .entry .now) (active .entry .now) (used .entry .now)
+abbrev pub enteredWrite : List Frame → Table → Table → Table → Table → Table → Table → Table → Table → State
+enteredWrite frames numbers accounts limits words addresses states active used =
+    seenWrite frames (numbers .entry .now) (accounts .entry .now) (limits .entry .now) (words .entry .now) (addresses .entry .now) (states .entry .now) (active .entry .now) (used .entry .now)
+
+-- of a fault: all but what is charged to whom, the records, the maps, the update switches and the images
+abbrev pub seenFault : List Frame → Pool → List ℕ → List ℕ → List ℕ → List ℕ → List ℕ → List ℕ → List ℕ → List ℕ → List ℕ → State
+seenFault frames pool numbers words queue list addresses states owners map active =
+    onDisk (setNumbers numbers)
+    (onCore (λ c. setFrames frames (setWords words (setFreeQueue queue (setRemovalList list c))))
+    (onHeld (λ h. setAddresses addresses (setStates states (setOwners owners (setFreeMap map (setHand (pool .hand) (setFree (pool .free) h))))))
+    (onSlots (setActive active) noState)))
+
+-- .. as it is passed them, by bare names
+abbrev pub enteredFault : List Frame → Pool → Table → Table → Table → Table → Table → Table → Table → Table → Table → State
+enteredFault frames pool numbers words queue list addresses states owners map active =
+    seenFault frames pool (numbers .entry .now) (words .entry .now) (queue .entry .now) (list .entry .now) (addresses .entry .now)
+    (states .entry .now) (owners .entry .now) (map .entry .now) (active .entry .now)

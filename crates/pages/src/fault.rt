@@ -3,7 +3,6 @@ ghost use mathlib.Core.Path.{_≡_};
 ghost use mathlib.Core.Bool.{true};
 ghost use Prim.Native.Nat.{_*_, _<_};
 ghost use lib.ListN.{length, take};
-ghost use Rattle.tables.specs.Base.{at};
 ghost use Rattle.tables.specs.Questions.{firstNo};
 ghost use Rattle.tables.specs.Also.{_also_};
 ghost use Rattle.model.specs.declared.event.Event.the-variants as Event;
@@ -18,12 +17,10 @@ ghost use Rattle.pages.specs.Faults.{awayAsked, supplyAsked, Left};
 use crate::asks::page_of;
 use crate::supply::ask_away;
 use crate::supply::ask_supply;
-use crate::supply::charge;
 use crate::supply::hold;
 use crate::supply::serve;
 use crate::supply::way_of;
 use leaves::asks::ask_slot;
-use leaves::cells::at16;
 use leaves::queue::first;
 use leaves::queue::pop;
 use model::applied::Applied;
@@ -42,16 +39,12 @@ pub fn ask_fault(
     free: u32,
     numbers: &[u32],
     active: &[u8],
-    accounts: &[u16],
-    limits: &[u16],
-    used: &[u16],
     addresses: &[u16],
-    states: &[u8],
     free_queue: &[u16],
 ) -> u32
     requires { ⌜ Seats sizes (take (sizes .frames) frames) × ((«in_range» ≡ true) → (slot < sizes .slots) × (page < sizes .pages)) ⌝ }
     ensures { λ r. ⌜ r ≡ firstNo (slotAsked «in_range» slot (now (numbers .entry)) (now (active .entry)) also awayAsked sizes (take (sizes .frames) frames) (pageOf sizes slot page) also
-        supplyAsked (pageOf sizes slot page) (now (addresses .entry)) (now (states .entry)) (at (now (used .entry)) (at (now (accounts .entry)) slot)) (at (now (limits .entry)) (at (now (accounts .entry)) slot)) free (now («free_queue» .entry))) ⌝ }
+        supplyAsked (pageOf sizes slot page) (now (addresses .entry)) free (now («free_queue» .entry))) ⌝ }
 {
     let no = ask_slot(in_range, slot, numbers, active);
     if no != 0 {
@@ -62,13 +55,10 @@ pub fn ask_fault(
     if no != 0 {
         return no;
     }
-    let payer = at16(accounts, slot) as usize;
-    let count = at16(used, payer);
-    let limit = at16(limits, payer);
-    ask_supply(i, free, count, limit, addresses, states, free_queue)
+    ask_supply(i, free, addresses, free_queue)
 }
 
-// Result: the frame. The used count goes up by one where the address is not live; the record that a page with no address takes is told.
+// Result: the frame. No page is charged; the record that a page with no address takes is told.
 pub fn fault(
     sizes: Sizes,
     slot: usize,
@@ -76,8 +66,6 @@ pub fn fault(
     frames: [Frame; 64],
     pool: Pool,
     numbers: &[u32],
-    accounts: &[u16],
-    limits: &[u16],
     words: &mut [u32],
     free_queue: &mut [u16],
     removal_list: &mut [u16],
@@ -86,11 +74,10 @@ pub fn fault(
     owners: &mut [u8],
     free_map: &mut [u32],
     active: &[u8],
-    used: &mut [u16],
 ) -> Applied
     requires { ⌜ Seats sizes (take (sizes .frames) frames) × Queued sizes (now «free_queue») (now «removal_list») × (length (now words) ≡ sizes .frames * sizes .words) × Pooled sizes pool (now states) (now «free_map») ⌝ }
-    ensures answer { λ r. ⌜ r .answer ≡ own sizes (enteredFault (take (sizes .frames) frames) pool numbers accounts limits words «free_queue» «removal_list» addresses states owners «free_map» active used) (Event.Page (Page.Fault slot page)) .answer ⌝ }
-    ensures left { λ r. ⌜ Left sizes (enteredFault (take (sizes .frames) frames) pool numbers accounts limits words «free_queue» «removal_list» addresses states owners «free_map» active used) slot page (take (sizes .frames) (r .frames)) (taken sizes (r .taken) pool) words «free_queue» «removal_list» addresses states owners «free_map» used ⌝ }
+    ensures answer { λ r. ⌜ r .answer ≡ own sizes (enteredFault (take (sizes .frames) frames) pool numbers words «free_queue» «removal_list» addresses states owners «free_map» active) (Event.Page (Page.Fault slot page)) .answer ⌝ }
+    ensures left { λ r. ⌜ Left sizes (enteredFault (take (sizes .frames) frames) pool numbers words «free_queue» «removal_list» addresses states owners «free_map» active) slot page (take (sizes .frames) (r .frames)) (taken sizes (r .taken) pool) words «free_queue» «removal_list» addresses states owners «free_map» ⌝ }
     ensures deposited { λ r. ⌜ r .deposited ≡ 0 ⌝ }
 {
     let in_range = (slot < sizes.slots) & (page < sizes.pages);
@@ -103,11 +90,7 @@ pub fn fault(
         pool.free,
         numbers,
         active,
-        accounts,
-        limits,
-        used,
         addresses,
-        states,
         free_queue,
     );
     if refusal != 0 {
@@ -121,7 +104,6 @@ pub fn fault(
     let i = page_of(sizes, slot, page);
     let f = first(free_queue);
     let way = way_of(i, addresses, states);
-    let payer = at16(accounts, slot) as usize;
     let taken = hold(
         way,
         sizes,
@@ -135,7 +117,6 @@ pub fn fault(
     );
     let frames = serve(way, sizes, i, f, frames, words, removal_list);
     pop(free_queue);
-    charge(way, payer, used);
     Applied {
         frames,
         taken,

@@ -1,4 +1,4 @@
-// What a fault asks and takes: quota, a record, a frame.
+// What a fault asks and takes: a record, a frame.
 ghost use mathlib.Core.Path.{_≡_};
 ghost use mathlib.Core.Bool.{true};
 ghost use Prim.Native.Nat.{suc, _*_, _<_};
@@ -13,7 +13,7 @@ ghost use Rattle.model.specs.Parts.{setPart};
 ghost use Rattle.model.specs.Pages.{awaiting, fresh};
 ghost use Rattle.model.specs.Fit.{Within};
 ghost use Rattle.pages.specs.Needs.{Seats, Pooled};
-ghost use Rattle.pages.specs.Faults.{wayOf, awayAsked, supplyAsked, cleared, charged1, chosen};
+ghost use Rattle.pages.specs.Faults.{wayOf, awayAsked, supplyAsked, cleared, chosen};
 use leaves::cells::at8;
 use leaves::cells::at16;
 use leaves::cells::put8;
@@ -32,6 +32,8 @@ use model::frame::Pool;
 use model::frame::READING;
 use model::lines::LIVE;
 use model::lines::NULLED;
+use model::refusals::NO_FRAME;
+use model::refusals::NO_RECORD;
 use model::sizes::Sizes;
 
 // 0: the page has no address; 1: one that is not live; 2: a live one.
@@ -64,47 +66,26 @@ pub fn ask_away(sizes: Sizes, frames: [Frame; 64], page: usize) -> u32
     15
 }
 
-// Used below limit, where the address is not live.
-fn quota(way: u8, used: u16, limit: u16) -> bool
-    ensures { λ r. ⌜ r ≡ if (eqb way 2) true (ltb used limit) ⌝ }
-{
-    if way == 2 {
-        return true;
-    }
-    used < limit
-}
-
 // A record free, where there is no address.
-fn supplied(way: u8, free: u32) -> bool
-    ensures { λ r. ⌜ r ≡ if (eqb way 0) (ltb 0 free) true ⌝ }
+fn supplied(address: u16, free: u32) -> bool
+    ensures { λ r. ⌜ r ≡ if (eqb address 0) (ltb 0 free) true ⌝ }
 {
-    if way == 0 {
+    if address == 0 {
         return 0 < free;
     }
     true
 }
 
-// Questions 18, 19 and 20.
-pub fn ask_supply(
-    page: usize,
-    free: u32,
-    used: u16,
-    limit: u16,
-    addresses: &[u16],
-    states: &[u8],
-    free_queue: &[u16],
-) -> u32
-    ensures { λ r. ⌜ r ≡ firstNo (supplyAsked page (now (addresses .entry)) (now (states .entry)) used limit free (now («free_queue» .entry))) ⌝ }
+// Questions 19 and 20.
+pub fn ask_supply(page: usize, free: u32, addresses: &[u16], free_queue: &[u16]) -> u32
+    ensures { λ r. ⌜ r ≡ firstNo (supplyAsked page (now (addresses .entry)) free (now («free_queue» .entry))) ⌝ }
 {
-    let way = way_of(page, addresses, states);
-    if quota(way, used, limit) {} else {
-        return 18;
-    }
-    if supplied(way, free) {} else {
-        return 19;
+    let address = at16(addresses, page);
+    if supplied(address, free) {} else {
+        return NO_RECORD;
     }
     if at16(free_queue, 0) == 0 {
-        return 20;
+        return NO_FRAME;
     }
     0
 }
@@ -171,15 +152,4 @@ pub fn serve(
     taken.initial = 1;
     taken.transfer = NONE;
     with_frame(frames, frame, taken)
-}
-
-// The payer's used count goes up by one, where the address is not live.
-pub fn charge(way: u8, payer: usize, used: &mut [u16])
-    requires { ⌜ ((way ≡ 2 → ⊥) → at (now used) payer < 65535) ⌝ }
-    ensures { λ _. ⌜ now (used .exit) ≡ if (eqb way 2) (now (used .entry)) (charged1 (now (used .entry)) payer) ⌝ }
-{
-    if way != 2 {
-        let count = at16(used, payer);
-        put16(used, payer, count + 1);
-    }
 }

@@ -1,20 +1,24 @@
-// Write: one word of a page in a frame takes a value; the frame's used and modified switches go on.
+// Write: one word of a page in a frame takes a value; the frame's used and modified switches go on. A page's first write is charged.
 ghost use mathlib.Core.Path.{_≡_};
 ghost use lib.ListN.{take};
-ghost use Rattle.model.specs.declared.event.Event.the-variants as Event;
-ghost use Rattle.model.specs.declared.event.Page.the-variants as Page;
 ghost use Rattle.model.specs.Own.{own};
-ghost use Rattle.pages.specs.Seen.{enteredWords};
+ghost use Rattle.pages.specs.Seen.{enteredWrite};
 ghost use Rattle.pages.specs.Needs.{Seats};
+ghost use Rattle.pages.specs.Writes.{writing, usedLeft};
 use crate::asks::ask_served;
 use crate::asks::its_frame;
+use crate::asks::page_of;
 use crate::asks::word_of;
+use crate::charges::is_charged;
+use crate::charges::pay;
+use leaves::cells::at16;
 use leaves::cells::put32;
 use leaves::frames::frame_at;
 use leaves::frames::with_frame;
 use model::applied::Framed;
 use model::applied::answered;
 use model::frame::Frame;
+use model::refusals::AT_LIMIT;
 use model::sizes::Sizes;
 
 pub fn write(
@@ -25,13 +29,19 @@ pub fn write(
     value: u32,
     frames: [Frame; 64],
     numbers: &[u32],
-    active: &[u8],
+    accounts: &[u16],
+    limits: &[u16],
     words: &mut [u32],
+    addresses: &[u16],
+    states: &[u8],
+    active: &[u8],
+    used: &mut [u16],
 ) -> Framed
     requires { ⌜ Seats sizes (take (sizes .frames) frames) ⌝ }
-    ensures answer { λ r. ⌜ r .answer ≡ own sizes (enteredWords (take (sizes .frames) frames) numbers words active) (Event.Page (Page.Write slot page word value)) .answer ⌝ }
-    ensures frames { λ r. ⌜ take (sizes .frames) (r .frames) ≡ own sizes (enteredWords (take (sizes .frames) frames) numbers words active) (Event.Page (Page.Write slot page word value)) .left .memory .core .frames ⌝ }
-    ensures words { λ r. ⌜ now (words .exit) ≡ own sizes (enteredWords (take (sizes .frames) frames) numbers words active) (Event.Page (Page.Write slot page word value)) .left .memory .core .words ⌝ }
+    ensures answer { λ r. ⌜ r .answer ≡ own sizes (enteredWrite (take (sizes .frames) frames) numbers accounts limits words addresses states active used) (writing slot page word value) .answer ⌝ }
+    ensures frames { λ r. ⌜ take (sizes .frames) (r .frames) ≡ own sizes (enteredWrite (take (sizes .frames) frames) numbers accounts limits words addresses states active used) (writing slot page word value) .left .memory .core .frames ⌝ }
+    ensures words { λ r. ⌜ now (words .exit) ≡ own sizes (enteredWrite (take (sizes .frames) frames) numbers accounts limits words addresses states active used) (writing slot page word value) .left .memory .core .words ⌝ }
+    ensures used { λ r. ⌜ now (used .exit) ≡ usedLeft sizes (enteredWrite (take (sizes .frames) frames) numbers accounts limits words addresses states active used) slot page word value ⌝ }
 {
     let in_range = (slot < sizes.slots) & ((page < sizes.pages) & (word < sizes.words));
     let refusal = ask_served(false, sizes, in_range, slot, page, frames, numbers, active);
@@ -40,6 +50,12 @@ pub fn write(
     }
     let f = its_frame(sizes, slot, page, frames);
     let mut frame = frame_at(frames, f);
+    let i = page_of(sizes, slot, page);
+    let charged = is_charged(i, frame.modified, addresses, states);
+    let payer = at16(accounts, slot) as usize;
+    if pay(charged, payer, limits, used) {} else {
+        return answered(frames, AT_LIMIT, 0);
+    }
     frame.used = 1;
     frame.modified = 1;
     let frames = with_frame(frames, f, frame);

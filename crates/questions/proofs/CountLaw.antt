@@ -1,4 +1,4 @@
--- The passes that count are the rules of the hand, the free map and the counts. A page counts as used by its address or map, or by its frame, and by one of these alone.
+-- The passes that count are the rules of the hand, the free map and the counts. A page counts as used by its address or map, or by its modified frame, and by one of these alone.
 use mathlib.Core.Path.{_≡_, refl, ap, sym, _∙_}
 use mathlib.Core.Bool.{Bool, _&&_}
 use mathlib.Core.Logic.{inl, inr}
@@ -13,8 +13,9 @@ use Rattle.tables.specs.Base.{at, if, count}
 use Rattle.tables.specs.Laws.{count-same, count-more}
 use Rattle.tables.specs.Rule.{Rule, same, _or_, some, Holds, test, told, untold, decided, alike}
 use Rattle.model.specs.declared.sizes.Sizes.{Sizes}
-use Rattle.model.specs.State.{State, Files, files, frames, allPages, slotOf, live, charged, payer, usedOf, freeCount, freeWord}
+use Rattle.model.specs.State.{State, Files, files, frames, allPages, slotOf, live, woven, charged, payer, usedOf, freeCount, freeWord}
 use Rattle.model.specs.Ruled.{OfFrames, OfCounts}
+use Rattle.model.specs.Woven.{wovenPage, woven-is, is-woven}
 use Rattle.rules.specs.Passes.{usedPages, usedTable, framedPage, framedPages, framedTable}
 use Rattle.questions.specs.Groups.{countPasses}
 
@@ -22,10 +23,11 @@ module _ (z : Sizes) (st : State) (o : OfFrames z (files st) (frames st) (at (st
   abbrev v : Files
   v = files st
 
+  -- the page that a frame charges
   abbrev page : ℕ → ℕ
-  page f = frames st .frame f .page
+  page f = wovenPage (frames st .frame f)
 
-  -- the page is in one of the first k frames
+  -- it is that of one of the first k frames
   abbrev among : ℕ → ℕ → Rule
   among k i = some k λ f. same (page f) (suc i)
 
@@ -39,6 +41,9 @@ module _ (z : Sizes) (st : State) (o : OfFrames z (files st) (frames st) (at (st
   -- the page of frame f counts by its frame alone
   abbrev by-frame : ℕ → Rule
   by-frame f = framedPage (z .pages) q (page f) (v .account) (v .address) (v .state)
+
+  held : (f i : ℕ) → page f ≡ suc i → frames st .frame f .page ≡ suc i
+  held f i e = woven-is (frames st .frame f) i e .0
 
   -- ── one frame more ──
   module _ (k : ℕ) (l : k < z .frames) where
@@ -56,13 +61,13 @@ module _ (z : Sizes) (st : State) (o : OfFrames z (files st) (frames st) (at (st
     -- its page is j: in no frame before, and of an active design
     module _ (j : ℕ) (e : page k ≡ suc j) where
       inside : j < allPages z
-      inside = o .fit k l .0 j e
+      inside = o .fit k l .0 j (held k j e)
 
       apart : (i : ℕ) → ¬ (i ≡ j) → ¬ (page k ≡ suc i)
       apart i d f = d (omega (arith, e, f))
 
       new : ¬ (Holds (among k j))
-      new x = omega (arith, x .1, o .once k l (x .0) (omega (arith, x .1)) j e (x .2))
+      new x = omega (arith, x .1, o .once k l (x .0) (omega (arith, x .1)) j (held k j e) (held (x .0) j (x .2)))
 
       unless-here : counts k j ≡ counts (k + 1) j → (i : ℕ) → i < allPages z → counts k i ≡ counts (k + 1) i
       unless-here here i h = elim (ℕ-discrete i j) [ yes f ↦ rw f here | no f ↦ same-at i (apart i f) ]
@@ -72,7 +77,7 @@ module _ (z : Sizes) (st : State) (o : OfFrames z (files st) (frames st) (at (st
 
       module _ (mine : v .account (slotOf z j) ≡ q) where
         here : (m : ℕ) → counts m j ≡ test (charges m j)
-        here m = rw (eq-eqb (v .account (slotOf z j)) q mine, eq-eqb (v .active (slotOf z j)) 1 (o .active k l j e)) refl
+        here m = rw (eq-eqb (v .account (slotOf z j)) q mine, eq-eqb (v .active (slotOf z j)) 1 (o .active k l j (held k j e))) refl
 
         alive : Holds (live v j) → Step
         alive a = unchanged (unless-here (here k ∙ told (charges k j) (inl a) ∙ sym (told (charges (k + 1) j) (inl a)) ∙ sym (here (k + 1)))) (λ x. let f : x .0 ≡ j = omega (arith, e, x .1) in x .2 .1 (rw f a))
@@ -107,14 +112,20 @@ module _ (z : Sizes) (st : State) (o : OfFrames z (files st) (frames st) (at (st
       (alike (live v i) (charges 0 i) (λ a. inl a) (λ x. elim x [ inl a ↦ a | inr a ↦ absurd (omega (arith, a .1)) ])))
 
   pub used-sum : usedPages (z .pages) (z .slots * z .pages) q (st .disk .accounts) (st .memory .slots .active) (st .disk .maps) (st .memory .held .addresses) (st .memory .held .states)
-      + framedPages (z .frames) (z .pages) q (λ f. frames st .frame f .page) (st .disk .accounts) (st .memory .held .addresses) (st .memory .held .states) ≡ usedOf z (files st) (frames st) q
+      + framedPages (z .frames) (z .pages) q (λ f. wovenPage (frames st .frame f)) (st .disk .accounts) (st .memory .held .addresses) (st .memory .held .states) ≡ usedOf z (files st) (frames st) q
   unfolding usedOf payer charged
-  used-sum = let s = framed-sum (z .frames) (omega arith) in omega (arith, s, none-framed)
+  used-sum = let s = framed-sum (z .frames) (omega arith) in omega (arith, s, none-framed, all-framed)
+    where
+      all-framed : count (allPages z) (counts (z .frames)) ≡ usedOf z (files st) (frames st) q
+      all-framed = count-same (allPages z) (counts (z .frames)) _ (λ i h. ap (λ (b : Bool). eqb (v .account (slotOf z i)) q && if (eqb (v .active (slotOf z i)) 1) b (ltb 0 (v .map i)))
+          (alike (charges (z .frames) i) (live v i or woven z (frames st) i)
+          (λ x. elim x [ inl a ↦ inl a | inr a ↦ inr (a .0, a .1, woven-is (frames st .frame (a .0)) i (a .2)) ])
+          (λ x. elim x [ inl a ↦ inl a | inr a ↦ inr (a .0, a .1, is-woven (frames st .frame (a .0)) i (a .2 .0) (a .2 .1)) ])))
 
 -- sums: the pages that count by address or map; totals: those that count by their frames too
 module _ (z : Sizes) (st : State) (o : OfFrames z (files st) (frames st) (at (st .disk .records))) (sums totals : List ℕ) (few : z .accounts ≤ 16)
     (sum : Holds (usedTable (z .slots) (z .pages) (st .disk .accounts) (st .memory .slots .active) (st .disk .maps) (st .memory .held .addresses) (st .memory .held .states) sums))
-    (more : Holds (framedTable (z .frames) (z .pages) (λ f. frames st .frame f .page) (st .disk .accounts) (st .memory .held .addresses) (st .memory .held .states) sums totals)) where
+    (more : Holds (framedTable (z .frames) (z .pages) (λ f. wovenPage (frames st .frame f)) (st .disk .accounts) (st .memory .held .addresses) (st .memory .held .states) sums totals)) where
   total : (q : ℕ) → q < z .accounts → at totals q ≡ usedOf z (files st) (frames st) q
   total q h = let a = more q (omega arith) in let b = sum q (omega arith) in let c = used-sum z st o q in omega (arith, a, b, c)
 

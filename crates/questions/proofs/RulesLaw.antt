@@ -17,6 +17,7 @@ use Rattle.model.specs.State.{State, files, frames, frameAt, noFrame}
 use Rattle.model.specs.Fit.{Fit}
 use Rattle.model.specs.Rules.{allRules}
 use Rattle.model.specs.Ruled.{OfFrames, OfQueues, ruled, rules}
+use Rattle.model.specs.Woven.{wovenPage}
 use Rattle.rules.specs.Passes.{usedPage, usedTable, framedPage, framedTable}
 use Rattle.questions.specs.Groups.{diskPasses, filePasses, framePasses, countPasses, DiskLong, FilesLong, FramesLong, CountsLong}
 use Rattle.questions.proofs.DiskLaw.{on-disk, disk-on}
@@ -92,7 +93,7 @@ module _ (z : Sizes) (st : State) (fit : Fit z st) where
         → Holds (framePasses (z .frames) (z .words) (z .pages) (z .slots * z .pages) frame (st .disk .records) (st .memory .core .words) (st .memory .core .free-queue) (st .memory .core .removal-list)
         (st .memory .held .addresses) (st .memory .held .states) (st .memory .slots .active))
         → Holds (usedTable (z .slots) (z .pages) (st .disk .accounts) (st .memory .slots .active) (st .disk .maps) (st .memory .held .addresses) (st .memory .held .states) sums)
-        → Holds (framedTable (z .frames) (z .pages) (λ f. frame f .page) (st .disk .accounts) (st .memory .held .addresses) (st .memory .held .states) sums totals)
+        → Holds (framedTable (z .frames) (z .pages) (λ f. wovenPage (frame f)) (st .disk .accounts) (st .memory .held .addresses) (st .memory .held .states) sums totals)
         → b ≡ test (countPasses (z .records) (z .accounts) (st .memory .held .pool .hand) (st .memory .held .pool .free) (st .memory .held .states) (st .memory .held .free-map) (st .memory .used) totals)
         → b ≡ test (allRules z st)
     counts-decide sums totals b d f c sum more e = e ∙ alike count-passes (allRules z st)
@@ -105,8 +106,8 @@ module _ (z : Sizes) (st : State) (fit : Fit z st) where
         fq : OfFrames z (files st) (frames st) (at (st .disk .records)) × OfQueues z st
         fq = of-frames z st (passes-same (z .frames) (z .words) (z .pages) (z .slots * z .pages) frame (frames st .frame) same (st .disk .records) (st .memory .core .words) (st .memory .core .free-queue) (st .memory .core .removal-list) (st .memory .held .addresses) (st .memory .held .states) (st .memory .slots .active) c)
 
-        own : Holds (framedTable (z .frames) (z .pages) (λ f. frames st .frame f .page) (st .disk .accounts) (st .memory .held .addresses) (st .memory .held .states) sums totals)
-        own q h = more q h ∙ ap (λ (n : ℕ). at sums q + n) (count-same (z .frames) _ _ (λ f l. ap (λ (x : Frame). test (framedPage (z .pages) q (x .page) (at (st .disk .accounts)) (at (st .memory .held .addresses)) (at (st .memory .held .states)))) (same f l)))
+        own : Holds (framedTable (z .frames) (z .pages) (λ f. wovenPage (frames st .frame f)) (st .disk .accounts) (st .memory .held .addresses) (st .memory .held .states) sums totals)
+        own q h = more q h ∙ ap (λ (n : ℕ). at sums q + n) (count-same (z .frames) _ _ (λ f l. ap (λ (x : Frame). test (framedPage (z .pages) q (wovenPage x) (at (st .disk .accounts)) (at (st .memory .held .addresses)) (at (st .memory .held .states)))) (same f l)))
 
         count-passes : Rule
         count-passes = countPasses (z .records) (z .accounts) (st .memory .held .pool .hand) (st .memory .held .pool .free) (st .memory .held .states) (st .memory .held .free-map) (st .memory .used) totals

@@ -12,6 +12,7 @@ use Rattle.model.specs.Sizes.{mostAccounts}
 use Rattle.model.specs.State.{Disk, Memory, frameAt}
 use Rattle.model.specs.Lent.{Ref, Table, diskOf, memoryOf}
 use Rattle.model.specs.Rules.{fit}
+use Rattle.model.specs.Woven.{wovenPage}
 use Rattle.rules.specs.Passes.{marked, usedTable, framedTable, countRoom}
 use Rattle.questions.specs.Groups.{filePasses, framePasses, FilesLong, FramesLong}
 
@@ -56,4 +57,4 @@ framesEntered z frames records words free-queue removal-list addresses states ac
 
 abbrev pub framesCounted : Sizes → List Frame → (totals accounts addresses states : Table) → Rule
 framesCounted z frames totals accounts addresses states =
-    framedTable (z .frames) (z .pages) (λ f. frameAt frames f .page) (accounts .entry .now) (addresses .entry .now) (states .entry .now) (totals .entry .now) (totals .exit .now)
+    framedTable (z .frames) (z .pages) (λ f. wovenPage (frameAt frames f)) (accounts .entry .now) (addresses .entry .now) (states .entry .now) (totals .entry .now) (totals .exit .now)

@@ -10,6 +10,7 @@ use Rattle.model.specs.declared.frame.Frame.{Frame}
 use Rattle.model.specs.Sizes.{mostAccounts}
 use Rattle.model.specs.State.{frameAt}
 use Rattle.model.specs.Lent.{Ref, Table}
+use Rattle.model.specs.Woven.{wovenPage}
 use Rattle.rules.specs.Passes.{Prefix, distinct, marked, heldRow, imagedRow, allEntries, frameRows, usedTable, framedTable, HeldFit, ImagedFit, FramesFit, countRoom}
 
 -- ── the row of one slot ──
@@ -72,4 +73,4 @@ framesEntered z frames queued removing active addresses states words records =
 abbrev pub FramesLeft : Sizes → (frames : List Frame) (marks totals accounts addresses states : Table) → Type 0
 FramesLeft z frames marks totals accounts addresses states =
     Holds (marked (length (addresses .entry .now)) (z .frames) (λ f. frameAt frames f .page) (marks .exit .now))
-    × Holds (framedTable (z .frames) (z .pages) (λ f. frameAt frames f .page) (accounts .entry .now) (addresses .entry .now) (states .entry .now) (totals .entry .now) (totals .exit .now))
+    × Holds (framedTable (z .frames) (z .pages) (λ f. wovenPage (frameAt frames f)) (accounts .entry .now) (addresses .entry .now) (states .entry .now) (totals .entry .now) (totals .exit .now))

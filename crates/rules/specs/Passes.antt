@@ -195,7 +195,7 @@ usedPages pages n q account active maps addresses states = count n λ i. eqb (at
 abbrev pub usedTable : (slots pages : ℕ) (account active maps addresses states t : List ℕ) → Rule
 usedTable slots pages account active maps addresses states t = each mostAccounts λ q. same (at t q) (usedPages pages (slots * pages) q account active maps addresses states)
 
--- .. or by its frame alone: its address is not live
+-- .. or by its frame alone, which is modified (page is the entry of such a frame's page): its address is not live
 abbrev pub framedPage : (pages q page : ℕ) (account address state : ℕ → ℕ) → Rule
 framedPage pages q page account address state = names page λ i. same (account (i / pages)) q and non (livePage (address i) state)
 

@@ -9,6 +9,7 @@ ghost use lib.Dec.{eqb};
 ghost use Rattle.model.specs.Sizes.{mostAccounts};
 ghost use Rattle.model.specs.State.{NONE, WRITING};
 ghost use Rattle.model.specs.Rules.{fit};
+ghost use Rattle.model.specs.Woven.{wovenPage};
 ghost use Rattle.rules.specs.Passes.{switches, onePlace, bare, activePage, heldPage, frameRow, framedPage};
 ghost use Rattle.rules.specs.Contracts.{FramesGiven, framesEntered, FramesLeft};
 use crate::clean::clean;
@@ -119,7 +120,17 @@ fn frame_ok(
         & framed_held(x.page, x.transfer, addresses, states)
 }
 
-// The page of a frame counts as used by that where its address is not live: one more for its account.
+// The entry of the page of a modified frame, or 0.
+fn woven_page(x: Frame) -> u16
+    ensures { λ r. ⌜ r ≡ wovenPage x ⌝ }
+{
+    if x.modified == 1 {
+        return x.page;
+    }
+    0
+}
+
+// The page of a modified frame counts as used by that where its address is not live: one more for its account.
 fn charge(
     page: u16,
     pages: usize,
@@ -180,7 +191,7 @@ pub fn frames_ok(
         {} else {
             return false;
         }
-        charge(x.page, z.pages, totals, accounts, addresses, states);
+        charge(woven_page(x), z.pages, totals, accounts, addresses, states);
         f += 1;
     }
     true

@@ -1,5 +1,6 @@
 -- The table of the frames of one slot's pages: one pass over the frames, and what its entries say.
 use mathlib.Core.Path.{_≡_, sym, _∙_}
+use mathlib.Core.Bool.{Bool, true}
 use mathlib.Core.Logic.{inl, inr}
 use mathlib.Core.List.{List}
 use Prim.Native.Nat.{ℕ, suc, _+_, _-_, _*_, _<_, _≤_}
@@ -11,38 +12,42 @@ use Rattle.tables.specs.Base.{at}
 use Rattle.tables.specs.Rule.{Holds, same, each, test, alike}
 use Rattle.model.specs.declared.frame.Frame.{Frame}
 use Rattle.model.specs.State.{frameAt}
-use Rattle.writeback.specs.ByPage.{ByPage, chargedEntry}
+use Rattle.model.specs.Woven.{woven-is, is-woven}
+use Rattle.writeback.specs.ByPage.{pageIn, ByPage, chargedEntry}
 use Rattle.writeback.specs.Pages.{charged}
 
-module _ (pages s : ℕ) (fs : List Frame) where
-  pub begun : (table : List ℕ) → length table ≡ 256 → Holds (each 256 λ p. same (at table p) 0) → pages < 257 → ByPage 0 pages s fs table
+module _ (only : Bool) (pages s : ℕ) (fs : List Frame) where
+  abbrev pageAt : ℕ → ℕ
+  pageAt f = pageIn only (frameAt fs f)
+
+  pub begun : (table : List ℕ) → length table ≡ 256 → Holds (each 256 λ p. same (at table p) 0) → pages < 257 → ByPage only 0 pages s fs table
   begun table l z most = record {
     long = l;
     in-one = λ p f b e. absurd (omega (arith, e, z p (omega arith)));
     in-none = λ p b e h. omega (arith, h .1);
   }
 
-  module _ {table : List ℕ} (f : ℕ) (t : ByPage f pages s fs table) where
+  module _ {table : List ℕ} (f : ℕ) (t : ByPage only f pages s fs table) where
     -- frame f has another page, or none
-    pub passed : ((s * pages < frameAt fs f .page) → (frameAt fs f .page ≤ s * pages + pages) → ⊥) → {table' : List ℕ} → table' ≡ table → ByPage (f + 1) pages s fs table'
+    pub passed : ((s * pages < pageAt f) → (pageAt f ≤ s * pages + pages) → ⊥) → {table' : List ℕ} → table' ≡ table → ByPage only (f + 1) pages s fs table'
     passed d e = rw e (record {
       long = t .long;
       in-one = λ p g b q. let x = t .in-one p g b q in (omega (arith, x .0), x .1);
       in-none = λ p b q h. elim (ℕ-discrete (h .0) f) [
-        | yes w ↦ let y : frameAt fs f .page ≡ suc (s * pages + p) = rw w at (h .2) in d (omega arith) (omega arith)
+        | yes w ↦ let y : pageAt f ≡ suc (s * pages + p) = rw w at (h .2) in d (omega arith) (omega arith)
         | no w ↦ t .in-none p b q (h .0, omega (arith, h .1), h .2)
       ];
     })
 
-    module _ (most : pages < 257) (low : s * pages < frameAt fs f .page) (high : frameAt fs f .page ≤ s * pages + pages) where
+    module _ (most : pages < 257) (low : s * pages < pageAt f) (high : pageAt f ≤ s * pages + pages) where
       abbrev j : ℕ
-      j = frameAt fs f .page - s * pages - 1
+      j = pageAt f - s * pages - 1
 
       here : at (set table j (f + 1)) j ≡ f + 1
       here = getD-set-same table j (f + 1) 0 (omega (arith, t .long))
 
       -- frame f has one of the pages
-      pub stored : {table' : List ℕ} → table' ≡ set table j (f + 1) → ByPage (f + 1) pages s fs table'
+      pub stored : {table' : List ℕ} → table' ≡ set table j (f + 1) → ByPage only (f + 1) pages s fs table'
       stored e = rw e (record {
         long = length-set table j (f + 1) ∙ t .long;
         in-one = λ p g b q. elim (ℕ-discrete p j) [
@@ -52,15 +57,15 @@ module _ (pages s : ℕ) (fs : List Frame) where
         in-none = λ p b q h. elim (ℕ-discrete p j) [
           | yes w ↦ omega (arith, rw w at q, here)
           | no w ↦ elim (ℕ-discrete (h .0) f) [
-            | yes v ↦ let y : frameAt fs f .page ≡ suc (s * pages + p) = rw v at (h .2) in w (omega arith)
+            | yes v ↦ let y : pageAt f ≡ suc (s * pages + p) = rw v at (h .2) in w (omega arith)
             | no v ↦ t .in-none p b (sym (getD-set-other table j p (f + 1) 0 w) ∙ q) (h .0, omega (arith, h .1), h .2)
           ]
         ];
       })
 
-  -- an entry says whether its page is charged
-  pub charged-entry : {n : ℕ} {table : List ℕ} → ByPage n pages s fs table → (addresses states : List ℕ) (p : ℕ) → p < pages
-      → test (chargedEntry (at table p) addresses states (s * pages + p)) ≡ test (charged n fs addresses states (s * pages + p))
-  charged-entry {n = n} {table = table} t addresses states p b = alike (chargedEntry (at table p) addresses states (s * pages + p)) (charged n fs addresses states (s * pages + p))
-      (λ h. elim h [ inl l ↦ inl l | inr d ↦ let x = t .in-one p (at table p - 1) b (omega (arith, d)) in inr (at table p - 1, x .0, x .1) ])
-      (λ h. elim h [ inl l ↦ inl l | inr x ↦ inr (λ e. t .in-none p b e x) ])
+-- an entry says whether its page is charged
+pub charged-entry : (pages s : ℕ) (fs : List Frame) {n : ℕ} {table : List ℕ} → ByPage true n pages s fs table → (addresses states : List ℕ) (p : ℕ) → p < pages
+    → test (chargedEntry (at table p) addresses states (s * pages + p)) ≡ test (charged n fs addresses states (s * pages + p))
+charged-entry pages s fs {n = n} {table = table} t addresses states p b = alike (chargedEntry (at table p) addresses states (s * pages + p)) (charged n fs addresses states (s * pages + p))
+    (λ h. elim h [ inl l ↦ inl l | inr d ↦ let x = t .in-one p (at table p - 1) b (omega (arith, d)) in inr (at table p - 1, x .0, woven-is (frameAt fs (at table p - 1)) (s * pages + p) (x .1)) ])
+    (λ h. elim h [ inl l ↦ inl l | inr x ↦ inr (λ e. t .in-none p b e (x .0, x .1, is-woven (frameAt fs (x .0)) (s * pages + p) (x .2 .0) (x .2 .1))) ])

@@ -19,7 +19,7 @@ use Rattle.tables.specs.Rule.{Holds, sound, complete}
 use Rattle.model.specs.declared.sizes.Sizes.{Sizes}
 use Rattle.model.specs.declared.frame.Frame.{Frame}
 use Rattle.model.specs.Lines.{FREE, NULLED, LIVE}
-use Rattle.model.specs.State.{State, Files, Frames, files, frames, frameAt, noFrame, WRITING, slotOf, allPages, payer, charged, usedOf, live, framed}
+use Rattle.model.specs.State.{State, Files, Frames, files, frames, frameAt, noFrame, WRITING, slotOf, allPages, payer, charged, usedOf, live, woven}
 use Rattle.model.specs.Setters.{onCore, onHeld, setStates, setTransfer, counted}
 use Rattle.model.specs.Pages.{onFrame}
 use Rattle.model.specs.Index.{split-entry, split-set, slot-below}
@@ -32,7 +32,7 @@ use Rattle.model.specs.Lent.{stateOf, same-state}
 use Rattle.leaves.specs.Counts.{counts, countsFor, usedCounts, counts-less}
 use Rattle.writeback.specs.Claim.{claim, payerOf, usedThen, Claimable, ClaimReady}
 use Rattle.writeback.proofs.Kept.{counts-alike, charged-alike, used-is, used-kept, map-kept, pool-kept}
-use Rattle.writeback.proofs.Looks.{look-page, look-long, taken-in}
+use Rattle.writeback.proofs.Looks.{Like, look-like, look-long, taken-in}
 use Rattle.writeback.proofs.Ready.{Paged, paged, queue-room}
 
 module _ (z : Sizes) (st : State) (fit : Fit z st) (ruled : Ruled z st) where
@@ -50,10 +50,10 @@ module _ (z : Sizes) (st : State) (fit : Fit z st) (ruled : Ruled z st) where
     is-active : v .active (slotOf z (p .index)) ≡ 1
     is-active = ruled .frames .active f h (p .index) (p .named)
 
-    -- a page in a frame counts
-    counted-page : T (counts z v c (p .index))
+    -- a page in a modified frame counts
+    counted-page : c .frame f .modified ≡ 1 → T (counts z v c (p .index))
     unfolding charged
-    counted-page = rw (eq-eqb _ _ is-active) (complete (charged z v c (p .index)) (inr (f, h, p .named)))
+    counted-page m = rw (eq-eqb _ _ is-active) (complete (charged z v c (p .index)) (inr (f, h, (p .named, m))))
 
     slot-inside : slotOf z (p .index) < z .slots
     slot-inside = slot-below z (fit .sizes .pages) (p .index) (p .page-inside)
@@ -63,12 +63,12 @@ module _ (z : Sizes) (st : State) (fit : Fit z st) (ruled : Ruled z st) where
     payer-below = ruled .disk .account-fit (slotOf z (p .index)) slot-inside
 
     -- its payer's count is above 0
-    payer-pays : 0 < at (st .memory .used) (payer v (slotOf z (p .index)))
+    payer-pays : c .frame f .modified ≡ 1 → 0 < at (st .memory .used) (payer v (slotOf z (p .index)))
     unfolding usedOf
-    payer-pays = let q = payer v (slotOf z (p .index)) in rw (ruled .counts .used q payer-below)
-        (count-pos (allPages z) (countsFor z v c q) (p .index) (p .page-inside) (and-intro (eqb q q) (counts z v c (p .index)) (eq→T {a = q} refl) counted-page))
+    payer-pays m = let q = payer v (slotOf z (p .index)) in rw (ruled .counts .used q payer-below)
+        (count-pos (allPages z) (countsFor z v c q) (p .index) (p .page-inside) (and-intro (eqb q q) (counts z v c (p .index)) (eq→T {a = q} refl) (counted-page m)))
 
-  listed : (f : ℕ) → f < z .frames → 0 < times (members (st .memory .core .removal-list)) f → Claimable z (c .frame f .page) (st .disk .accounts) (st .memory .core .free-queue) (st .memory .held .addresses) (st .memory .held .states) (st .memory .used)
+  listed : (f : ℕ) → f < z .frames → 0 < times (members (st .memory .core .removal-list)) f → Claimable z (c .frame f .page) (c .frame f .modified) (st .disk .accounts) (st .memory .core .free-queue) (st .memory .held .addresses) (st .memory .held .states) (st .memory .used)
   unfolding payer
   listed f h t =
       let q = unqueued f h t in
@@ -80,7 +80,7 @@ module _ (z : Sizes) (st : State) (fit : Fit z st) (ruled : Ruled z st) where
         inside = rw (fit .memory .states) (p .inside);
         moves = p .moves;
         room = queue-room z st fit ruled f h q;
-        pays = rw e (payer-pays f h p);
+        pays = λ m. rw e (payer-pays f h p m);
       }
 
   pub claim-ready : ClaimReady z (st .memory .core .frames) (st .disk .accounts) (st .memory .core .words) (st .memory .core .free-queue) (st .memory .core .removal-list) (st .memory .held .addresses) (st .memory .held .states) (st .memory .used)
@@ -113,9 +113,9 @@ module _ (z : Sizes) (st : State) (fit : Fit z st) (ruled : Ruled z st) where
     abbrev p : Paged z st fit ruled f
     p = paged z st fit ruled f below (unqueued f below in-list)
 
-    page-same : (k : ℕ) → frameAt (looking z st .frames) k .page ≡ c .frame k .page
+    alike : (k : ℕ) → Like (frameAt (looking z st .frames) k) (c .frame k)
     unfolding looking
-    page-same k = look-page (suc (length (members rl))) 0 (st .memory .core .frames) (members rl) k
+    alike k = look-like (suc (length (members rl))) 0 (st .memory .core .frames) (members rl) k
 
     frames-long : length (looking z st .frames) ≡ z .frames
     unfolding looking
@@ -124,40 +124,44 @@ module _ (z : Sizes) (st : State) (fit : Fit z st) (ruled : Ruled z st) where
     one : (g : Frame) (k : ℕ) → ((k ≡ f) × (frameAt (set (looking z st .frames) f g) k ≡ g)) ⊎ ((¬ (k ≡ f)) × (frameAt (set (looking z st .frames) f g) k ≡ frameAt (looking z st .frames) k))
     one g k = split-entry noFrame (looking z st .frames) f g k (rw frames-long below)
 
-    -- ── a write begins: every frame keeps its page ──
+    -- ── a write begins: every frame keeps its page and its modified switch ──
     abbrev writes : State
     writes = onCore (λ x. onFrame f (setTransfer WRITING) x) (looked z st)
 
-    writing-page : (k : ℕ) → frames writes .frame k .page ≡ c .frame k .page
-    writing-page k = elim (one (setTransfer WRITING (frameAt (looking z st .frames) f)) k) [
-      | inl y ↦ ap (λ (g : Frame). g .page) (y .1) ∙ page-same f ∙ ap (λ (n : ℕ). c .frame n .page) (sym (y .0))
-      | inr y ↦ ap (λ (g : Frame). g .page) (y .1) ∙ page-same k
+    writing-like : (k : ℕ) → Like (frames writes .frame k) (c .frame k)
+    writing-like k = elim (one (setTransfer WRITING (frameAt (looking z st .frames) f)) k) [
+      | inl y ↦ (
+        ap (λ (g : Frame). g .page) (y .1) ∙ alike f .0 ∙ ap (λ (n : ℕ). c .frame n .page) (sym (y .0)),
+        ap (λ (g : Frame). g .modified) (y .1) ∙ alike f .1 ∙ ap (λ (n : ℕ). c .frame n .modified) (sym (y .0)),
+      )
+      | inr y ↦ (ap (λ (g : Frame). g .page) (y .1) ∙ alike k .0, ap (λ (g : Frame). g .modified) (y .1) ∙ alike k .1)
     ]
 
     writes-stay : (i : ℕ) → i < allPages z → counts z v c i ≡ counts z (files writes) (frames writes) i
     unfolding charged
     writes-stay i b = counts-alike z v v c (frames writes) i refl
         (λ e. charged-alike z v v c (frames writes) i
-        (λ k. elim k [ inl l ↦ inl l | inr q ↦ inr (q .0, q .1, writing-page (q .0) ∙ q .2) ])
-        (λ k. elim k [ inl l ↦ inl l | inr q ↦ inr (q .0, q .1, sym (writing-page (q .0)) ∙ q .2) ]))
+        (λ k. elim k [ inl l ↦ inl l | inr q ↦ let w = writing-like (q .0) in inr (q .0, q .1, (w .0 ∙ q .2 .0, w .1 ∙ q .2 .1)) ])
+        (λ k. elim k [ inl l ↦ inl l | inr q ↦ let w = writing-like (q .0) in inr (q .0, q .1, (sym (w .0) ∙ q .2 .0, sym (w .1) ∙ q .2 .1)) ]))
         (λ n. refl)
 
     -- ── the frame is freed ──
     module _ (v' : Files) (act : (t : ℕ) → v .active t ≡ v' .active t) (maps : (i : ℕ) → v .map i ≡ v' .map i)
         (up : (i : ℕ) → i < allPages z → ¬ (i ≡ p .index) → Holds (live v i) → Holds (live v' i)) (down : (i : ℕ) → i < allPages z → ¬ (i ≡ p .index) → Holds (live v' i) → Holds (live v i))
         (c' : Frames) (is : (k : ℕ) → c' .frame k ≡ frameAt (set (looking z st .frames) f noFrame) k) where
-      was : (i : ℕ) → Holds (framed z c' i) → Holds (framed z c i) × ¬ (i ≡ p .index)
+      was : (i : ℕ) → Holds (woven z c' i) → Holds (woven z c i) × ¬ (i ≡ p .index)
       was i q = elim (one noFrame (q .0)) [
-        | inl y ↦ absurd (omega (arith, ap (λ (g : Frame). g .page) (is (q .0) ∙ y .1), q .2))
+        | inl y ↦ absurd (omega (arith, ap (λ (g : Frame). g .page) (is (q .0) ∙ y .1), q .2 .0))
         | inr y ↦
-            let e : c .frame (q .0) .page ≡ suc i = sym (page-same (q .0)) ∙ ap (λ (g : Frame). g .page) (sym (is (q .0) ∙ y .1)) ∙ q .2 in
-            ((q .0, q .1, e), λ d. y .0 (ruled .frames .once (q .0) (q .1) f below i e (p .named ∙ ap suc (sym d))))
+            let e : c .frame (q .0) .page ≡ suc i = sym (alike (q .0) .0) ∙ ap (λ (g : Frame). g .page) (sym (is (q .0) ∙ y .1)) ∙ q .2 .0 in
+            let m : c .frame (q .0) .modified ≡ 1 = sym (alike (q .0) .1) ∙ ap (λ (g : Frame). g .modified) (sym (is (q .0) ∙ y .1)) ∙ q .2 .1 in
+            ((q .0, q .1, (e, m)), λ d. y .0 (ruled .frames .once (q .0) (q .1) f below i e (p .named ∙ ap suc (sym d))))
       ]
 
-      stays : (i : ℕ) → ¬ (i ≡ p .index) → Holds (framed z c i) → Holds (framed z c' i)
+      stays : (i : ℕ) → ¬ (i ≡ p .index) → Holds (woven z c i) → Holds (woven z c' i)
       stays i d q = elim (one noFrame (q .0)) [
-        | inl y ↦ absurd (d (suc-inj (sym (q .2) ∙ ap (λ (n : ℕ). c .frame n .page) (y .0) ∙ p .named)))
-        | inr y ↦ (q .0, q .1, ap (λ (g : Frame). g .page) (is (q .0) ∙ y .1) ∙ page-same (q .0) ∙ q .2)
+        | inl y ↦ absurd (d (suc-inj (sym (q .2 .0) ∙ ap (λ (n : ℕ). c .frame n .page) (y .0) ∙ p .named)))
+        | inr y ↦ (q .0, q .1, (ap (λ (g : Frame). g .page) (is (q .0) ∙ y .1) ∙ alike (q .0) .0 ∙ q .2 .0, ap (λ (g : Frame). g .modified) (is (q .0) ∙ y .1) ∙ alike (q .0) .1 ∙ q .2 .1))
       ]
 
       other : (i : ℕ) → i < allPages z → ¬ (i ≡ p .index) → counts z v c i ≡ counts z v' c' i
@@ -171,20 +175,24 @@ module _ (z : Sizes) (st : State) (fit : Fit z st) (ruled : Ruled z st) where
       unfolding charged
       no-more d = rw (eq-eqb _ _ (sym (act (slotOf z (p .index))) ∙ is-active f below p)) (λ t. elim (sound (charged z v' c' (p .index)) t) [ inl l ↦ d l | inr q ↦ was (p .index) q .1 refl ])
 
-      -- .. or still live: the same counts
-      still : Holds (live v' (p .index)) → (i : ℕ) → i < allPages z → counts z v c i ≡ counts z v' c' i
+      -- .. or it was not modified, and its address stays: the same counts
+      still : ¬ (c .frame f .modified ≡ 1) → (Holds (live v (p .index)) → Holds (live v' (p .index))) → (Holds (live v' (p .index)) → Holds (live v (p .index))) → (i : ℕ) → i < allPages z → counts z v c i ≡ counts z v' c' i
       unfolding charged
-      still l i b = elim (ℕ-discrete i (p .index)) [
-        | yes e ↦ counts-alike z v v' c c' i (act (slotOf z i)) (λ a. charged-alike z v v' c c' i (λ k. inl (rw e l)) (λ k. inr (f, below, p .named ∙ ap suc (sym e)))) (λ n. maps i)
+      still m to from i b = elim (ℕ-discrete i (p .index)) [
+        | yes e ↦ counts-alike z v v' c c' i (act (slotOf z i))
+            (λ a. charged-alike z v v' c c' i
+            (λ k. elim k [ inl l ↦ inl (rw e (to (rw e at l))) | inr q ↦ absurd (m (ap (λ (n : ℕ). c .frame n .modified) (sym (ruled .frames .once (q .0) (q .1) f below i (q .2 .0) (p .named ∙ ap suc (sym e)))) ∙ q .2 .1)) ])
+            (λ k. elim k [ inl l ↦ inl (rw e (from (rw e at l))) | inr q ↦ absurd (was i q .1 e) ]))
+            (λ n. maps i)
         | no e ↦ other i b e
       ]
 
       abbrev paying : ℕ
       paying = payer v (slotOf z (p .index))
 
-      less : ((s : ℕ) → payer v s ≡ payer v' s) → ¬ Holds (live v' (p .index)) → set (st .memory .used) paying (at (st .memory .used) paying - 1) ≡ usedCounts z v' c'
-      less pays d = ap (λ (u : List ℕ). set u paying (at u paying - 1)) (used-is z st fit (ruled .counts))
-          ∙ counts-less z v v' c c' pays (p .index) (p .page-inside) other (payer-below f below p) (counted-page f below p) (no-more d)
+      less : c .frame f .modified ≡ 1 → ((s : ℕ) → payer v s ≡ payer v' s) → ¬ Holds (live v' (p .index)) → set (st .memory .used) paying (at (st .memory .used) paying - 1) ≡ usedCounts z v' c'
+      less m pays d = ap (λ (u : List ℕ). set u paying (at u paying - 1)) (used-is z st fit (ruled .counts))
+          ∙ counts-less z v v' c c' pays (p .index) (p .page-inside) other (payer-below f below p) (counted-page f below p m) (no-more d)
 
     record-is : recordIn z st f ≡ p .item
     record-is = ap (λ (n : ℕ). pred (v .address (pred n))) (p .named) ∙ ap pred (p .holds)
@@ -211,23 +219,18 @@ module _ (z : Sizes) (st : State) (fit : Fit z st) (ruled : Ruled z st) where
       | inr y ↦ rw (y .1)
     ]
 
-    nulled-less : set (st .memory .used) (payerOf z st f) (at (st .memory .used) (payerOf z st f) - 1) ≡ counted z nulls .memory .used
+    nulled-less : c .frame f .modified ≡ 1 → set (st .memory .used) (payerOf z st f) (at (st .memory .used) (payerOf z st f) - 1) ≡ counted z nulls .memory .used
     unfolding freeFrame payer counted
-    nulled-less = rw payer-is (less (files nulls) (λ t. refl) (λ i. refl) (λ i b d l. (l .0, l .1, others i b d (l .0) (l .1) ∙ l .2)) (λ i b d l. (l .0, l .1, sym (others i b d (l .0) (l .1)) ∙ l .2)) (frames nulls) (λ k. refl) (λ s. refl)
+    nulled-less m = rw payer-is (less (files nulls) (λ t. refl) (λ i. refl) (λ i b d l. (l .0, l .1, others i b d (l .0) (l .1) ∙ l .2)) (λ i b d l. (l .0, l .1, sym (others i b d (l .0) (l .1)) ∙ l .2)) (frames nulls) (λ k. refl) m (λ s. refl)
         (λ l. elim (now-nulled (l .0)) [ inl y ↦ omega (arith, l .2, y .1) | inr y ↦ y .0 (suc-inj (sym (l .1) ∙ p .holds)) ]))
 
     -- ── unmodified: the record stays ──
     abbrev frees : State
     frees = freeFrame f (looked z st)
 
-    frees-less : v .state (p .item) ≡ NULLED → set (st .memory .used) (payerOf z st f) (at (st .memory .used) (payerOf z st f) - 1) ≡ counted z frees .memory .used
-    unfolding freeFrame payer counted
-    frees-less e = rw payer-is (less (files frees) (λ t. refl) (λ i. refl) (λ i b d l. l) (λ i b d l. l) (frames frees) (λ k. refl) (λ s. refl)
-        (λ l. omega (arith, l .2, ap (v .state) (suc-inj (sym (l .1) ∙ p .holds)) ∙ e)))
-
-    frees-same : v .state (p .item) ≡ LIVE → counted z frees .memory .used ≡ st .memory .used
+    frees-same : ¬ (c .frame f .modified ≡ 1) → counted z frees .memory .used ≡ st .memory .used
     unfolding freeFrame payer
-    frees-same e = used-kept z st fit (ruled .counts) frees (λ s. refl) (still (files frees) (λ t. refl) (λ i. refl) (λ i b d l. l) (λ i b d l. l) (frames frees) (λ k. refl) (p .item, p .holds, e))
+    frees-same m = used-kept z st fit (ruled .counts) frees (λ s. refl) (still (files frees) (λ t. refl) (λ i. refl) (λ i b d l. l) (λ i b d l. l) (frames frees) (λ k. refl) m (λ l. l) (λ l. l))
 
     -- ── what claim leaves ──
     abbrev claimed : State
@@ -246,16 +249,13 @@ module _ (z : Sizes) (st : State) (fit : Fit z st) (ruled : Ruled z st) where
     left-nulls : beginsWrite z st ≡ false → c .frame f .modified ≡ 1 → Left (counted z nulls)
     unfolding counted freeFrame usedThen
     left-nulls e m = same-state refl (pool-kept z st fit (ruled .counts) nulls nulled-free refl) refl refl refl refl refl refl refl refl refl refl refl
-        (map-kept z st fit (ruled .counts) nulls nulled-free) refl refl refl (sym nulled-less ∙ rw (e, eq-eqb _ _ m))
+        (map-kept z st fit (ruled .counts) nulls nulled-free) refl refl refl (sym (nulled-less m) ∙ rw (e, eq-eqb _ _ m))
 
     left-frees : beginsWrite z st ≡ false → ¬ (c .frame f .modified ≡ 1) → Left (counted z frees)
     unfolding counted freeFrame usedThen
     left-frees e m = same-state refl (pool-kept z st fit (ruled .counts) frees (λ r b. refl) refl) refl refl refl refl refl refl refl refl refl refl refl
         (map-kept z st fit (ruled .counts) frees (λ r b. refl)) refl refl refl
-        (elim (p .moves) [
-          | inl q ↦ sym (frees-less q) ∙ rw (e, ne-eqb _ _ m, record-is, eq-eqb _ _ q)
-          | inr q ↦ frees-same q ∙ rw (e, ne-eqb _ _ m, record-is, ne-eqb (v .state (p .item)) NULLED (λ k. omega (arith, q, k)))
-        ])
+        (frees-same m ∙ rw (e, ne-eqb _ _ m))
 
     pub claim-left : Left claimed
     unfolding carried Writeback.claim

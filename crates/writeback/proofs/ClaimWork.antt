@@ -8,7 +8,6 @@ use native.Mathlib.Omega.{arith}
 use native.Mathlib.Decide.{ℕ-discrete}
 use lib.Dec.{eqb}
 use lib.ListN.{length, take, set}
-use lib.Seq.{getD-set-same}
 use borrow.Author.Tests.{eq-eqb, ne-eqb}
 use Rattle.tables.specs.Base.{at, if, all}
 use Rattle.tables.specs.Queue.{queue, size, members, packed, times, first, pop, push-back}
@@ -39,7 +38,7 @@ use Rattle.tables.specs.StoreLoops.{part-fits}
 pub record Taken (z : Sizes) (fs : List Frame) (ac ws fq ads ss us : List ℕ) (f : ℕ) : Type 0 where
   pub words-fit : f * z .words + z .words ≤ length ws
   pub room : (f < 65535) × Holds (queue (length fq) fq) × (size fq < length fq)
-  pub pays : 0 < at us (at ac (pred (frameAt fs f .page) / z .pages))
+  pub pays : frameAt fs f .modified ≡ 1 → 0 < at us (at ac (pred (frameAt fs f .page) / z .pages))
   pub moves : (r : ℕ) → r ≡ pred (at ads (pred (frameAt fs f .page))) → (at ss r ≡ NULLED) ⊎ (at ss r ≡ LIVE)
 
 module _ (z : Sizes) (fs : List Frame) (ac ws fq rl ads ss us : List ℕ) where
@@ -101,8 +100,8 @@ module _ (z : Sizes) (fs : List Frame) (ac ws fq rl ads ss us : List ℕ) where
       same-frame : frameAt (take (z .frames) fs) f ≡ old
       same-frame = frame-take (z .frames) fs f below
 
-      held : Claimable z (old .page) ac fq ads ss us
-      held = subst (λ (g : Frame). Claimable z (g .page) ac fq ads ss us) same-frame (ready .held f below in-list)
+      held : Claimable z (old .page) (old .modified) ac fq ads ss us
+      held = subst (λ (g : Frame). Claimable z (g .page) (g .modified) ac fq ads ss us) same-frame (ready .held f below in-list)
 
       module _ {r : ℕ} (found : r ≡ pred (at ads (pred (old .page)))) where
         item-is : r ≡ held .item
@@ -154,9 +153,6 @@ module _ (z : Sizes) (fs : List Frame) (ac ws fq rl ads ss us : List ℕ) where
           mod-is : frameAt (take (z .frames) fs) (looking z st .taken) .modified ≡ old .modified
           mod-is = rw (taken-is, same-frame)
 
-          inside : r < length ss
-          inside = rw (item-is found) (held .inside)
-
           abbrev payer-at : ℕ
           payer-at = at ac (pred (old .page) / z .pages)
 
@@ -172,9 +168,9 @@ module _ (z : Sizes) (fs : List Frame) (ac ws fq rl ads ss us : List ℕ) where
           unfolding usedThen
           used-nulled m = rw (begins ∙ v, eq-eqb _ _ (mod-is ∙ m), payer-is)
 
-          used-kept : ¬ (old .modified ≡ 1) → if (eqb (at ss r) NULLED) less us ≡ usedThen z st
+          used-kept : ¬ (old .modified ≡ 1) → us ≡ usedThen z st
           unfolding usedThen
-          used-kept m = rw (begins ∙ v, ne-eqb _ _ (λ h. m (sym mod-is ∙ h)), payer-is, record-is found)
+          used-kept m = rw (begins ∙ v, ne-eqb _ _ (λ h. m (sym mod-is ∙ h)))
 
           freed-frames : {x : Framed} → x ≡ answered (set kept f noFrame) 0 looks → take (z .frames) (x .frames) ≡ set (looking z st .frames) (looking z st .taken) noFrame
           freed-frames y = ap (λ (k : Framed). take (z .frames) (k .frames)) y ∙ take-frame (z .frames) kept f noFrame ∙ rw (frames-are, taken-is)
@@ -191,7 +187,7 @@ module _ (z : Sizes) (fs : List Frame) (ac ws fq rl ads ss us : List ℕ) where
           way-kept m = by-way (freeFrame (looking z st .taken) (looked z st)) (rw (begins ∙ v, ne-eqb _ _ (λ h. m (sym mod-is ∙ h))))
 
           module _ {fq' rl' ss' us' : List ℕ} {x : Framed} (p : rl' ≡ pop list) (q : fq' ≡ push-back fq f)
-              (u : us' ≡ if (eqb (at ss' r) NULLED) less us) (y : x ≡ answered (set kept f noFrame) 0 looks) where
+              (u : us' ≡ if (eqb (old .modified) 1) less us) (y : x ≡ answered (set kept f noFrame) 0 looks) where
             free-nulled : old .modified ≡ 1 → ss' ≡ set ss r NULLED → Left x fq' rl' ss' us'
             unfolding counted freeFrame
             free-nulled m s = record {
@@ -200,7 +196,7 @@ module _ (z : Sizes) (fs : List Frame) (ac ws fq rl ads ss us : List ℕ) where
               free-queue = q ∙ ap (push-back fq) (sym taken-is) ∙ sym (ap (λ (o : Outcome State). o .left .memory .core .free-queue) (way-nulled m));
               removal-list = p ∙ list-is ∙ sym (ap (λ (o : Outcome State). o .left .memory .core .removal-list) (way-nulled m));
               states = s ∙ ap (λ (i : ℕ). set ss i NULLED) (sym (record-is found)) ∙ sym (ap (λ (o : Outcome State). o .left .memory .held .states) (way-nulled m));
-              used = used-by (u ∙ rw (eq-eqb (at ss' r) NULLED (ap (λ (l : List ℕ). at l r) s ∙ getD-set-same ss r NULLED 0 inside)) (used-nulled m));
+              used = used-by (u ∙ rw (eq-eqb _ _ m) (used-nulled m));
             }
 
             free-kept : ¬ (old .modified ≡ 1) → ss' ≡ ss → Left x fq' rl' ss' us'
@@ -211,7 +207,7 @@ module _ (z : Sizes) (fs : List Frame) (ac ws fq rl ads ss us : List ℕ) where
               free-queue = q ∙ ap (push-back fq) (sym taken-is) ∙ sym (ap (λ (o : Outcome State). o .left .memory .core .free-queue) (way-kept m));
               removal-list = p ∙ list-is ∙ sym (ap (λ (o : Outcome State). o .left .memory .core .removal-list) (way-kept m));
               states = s ∙ sym (ap (λ (o : Outcome State). o .left .memory .held .states) (way-kept m));
-              used = used-by (u ∙ rw s (used-kept m));
+              used = used-by (u ∙ rw (ne-eqb _ _ m) (used-kept m));
             }
 
             pub freed : ss' ≡ if (eqb (old .modified) 1) (set ss r NULLED) ss → Left x fq' rl' ss' us'

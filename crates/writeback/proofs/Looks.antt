@@ -63,20 +63,23 @@ look-taken (suc k) n fs (f ∷ xs) h g = go (warm (frameAt fs f)) refl (look-tak
     go true e r = rw (look-warm k n fs f xs e, ← times-rotate f xs) (r (omega (arith, fewer fs f xs, some-warm k n fs f xs e)) (omega (arith, length-append xs (f ∷ []))))
     go false e r = rw (look-cold k n fs f xs e) (omega (arith, times-here xs f))
 
--- the looks leave every frame its page
-pub look-page : (k n : ℕ) (fs : List Frame) (xs : List ℕ) (x : ℕ) → frameAt (look k n fs xs .frames) x .page ≡ frameAt fs x .page
-unfolding look
-look-page zero n fs xs x = refl
-look-page (suc k) n fs [] x = refl
-look-page (suc k) n fs (f ∷ xs) x = go (warm (frameAt fs f)) (look-page k (suc n) (cool fs f) (xs ++ f ∷ []) x)
-  where
-    cooler : frameAt (cool fs f) x .page ≡ frameAt fs x .page
-    cooler = elim (cool-at fs f x) [ inl e ↦ rw e | inr e ↦ rw (e .1) ]
+-- the looks leave every frame its page and its modified switch
+abbrev pub Like : Frame → Frame → Type 0
+Like g h = (g .page ≡ h .page) × (g .modified ≡ h .modified)
 
-    go : (b : Bool) → frameAt (look k (suc n) (cool fs f) (xs ++ f ∷ []) .frames) x .page ≡ frameAt (cool fs f) x .page
-        → frameAt (if b (look k (suc n) (cool fs f) (xs ++ f ∷ [])) (record { looks = suc n; taken = f; frames = fs; list = xs }) .frames) x .page ≡ frameAt fs x .page
-    go true r = r ∙ cooler
-    go false r = refl
+pub look-like : (k n : ℕ) (fs : List Frame) (xs : List ℕ) (x : ℕ) → Like (frameAt (look k n fs xs .frames) x) (frameAt fs x)
+unfolding look
+look-like zero n fs xs x = (refl, refl)
+look-like (suc k) n fs [] x = (refl, refl)
+look-like (suc k) n fs (f ∷ xs) x = go (warm (frameAt fs f)) (look-like k (suc n) (cool fs f) (xs ++ f ∷ []) x)
+  where
+    cooler : Like (frameAt (cool fs f) x) (frameAt fs x)
+    cooler = elim (cool-at fs f x) [ inl e ↦ rw e (refl, refl) | inr e ↦ rw (e .1) (refl, refl) ]
+
+    go : (b : Bool) → Like (frameAt (look k (suc n) (cool fs f) (xs ++ f ∷ []) .frames) x) (frameAt (cool fs f) x)
+        → Like (frameAt (if b (look k (suc n) (cool fs f) (xs ++ f ∷ [])) (record { looks = suc n; taken = f; frames = fs; list = xs }) .frames) x) (frameAt fs x)
+    go true r = (r .0 ∙ cooler .0, r .1 ∙ cooler .1)
+    go false r = (refl, refl)
 
 pub look-long : (k n : ℕ) (fs : List Frame) (xs : List ℕ) → length (look k n fs xs .frames) ≡ length fs
 unfolding look

@@ -55,7 +55,7 @@ module _ (z : Sizes) (st : State) (fit : Fit z st) (ruled : Ruled z st) where
   charged-active : (i : ℕ) → i < allPages z → Holds (charged z v c i) → v .active (slotOf z i) ≡ 1
   unfolding charged
   charged-active i b (inl l) = ruled .records .address-active i b (l .0) (l .1)
-  charged-active i b (inr q) = ruled .frames .active (q .0) (q .1) i (q .2)
+  charged-active i b (inr q) = ruled .frames .active (q .0) (q .1) i (q .2 .0)
 
   charged-counts : (i : ℕ) → i < allPages z → Holds (charged z v c i) → T (counts z v c i)
   charged-counts i b h = rw (eq-eqb _ _ (charged-active i b h)) (complete (charged z v c i) h)
@@ -150,8 +150,8 @@ module _ (z : Sizes) (st : State) (fit : Fit z st) (ruled : Ruled z st) where
     unfolding charged
     cut-uncharged i b h (inl l) = elim (address-then i b) [ inl y ↦ omega (arith, y .1, l .1) | inr y ↦ y .0 h ]
     cut-uncharged i b h (inr q) = elim (page-then (q .0) (q .1)) [
-      | inl y ↦ omega (arith, ap (λ (g : Frame). g .page) (y .1), q .2)
-      | inr y ↦ y .0 (i, ap (λ (g : Frame). g .page) (sym (y .1)) ∙ q .2, h)
+      | inl y ↦ omega (arith, ap (λ (g : Frame). g .page) (y .1), q .2 .0)
+      | inr y ↦ y .0 (i, ap (λ (g : Frame). g .page) (sym (y .1)) ∙ q .2 .0, h)
     ]
 
     -- any other page is charged as it was
@@ -173,8 +173,8 @@ module _ (z : Sizes) (st : State) (fit : Fit z st) (ruled : Ruled z st) where
             q .0,
             q .1,
             elim (page-then (q .0) (q .1)) [
-              | inl y ↦ absurd (d (rw (suc-inj (sym (y .0 .1) ∙ q .2)) at (y .0 .2)))
-              | inr y ↦ ap (λ (g : Frame). g .page) (y .1) ∙ q .2
+              | inl y ↦ absurd (d (rw (suc-inj (sym (y .0 .1) ∙ q .2 .0)) at (y .0 .2)))
+              | inr y ↦ (ap (λ (g : Frame). g .page) (y .1) ∙ q .2 .0, ap (λ (g : Frame). g .modified) (y .1) ∙ q .2 .1)
             ],
           )
         ])
@@ -184,8 +184,8 @@ module _ (z : Sizes) (st : State) (fit : Fit z st) (ruled : Ruled z st) where
             q .0,
             q .1,
             elim (page-then (q .0) (q .1)) [
-              | inl y ↦ absurd (omega (arith, ap (λ (g : Frame). g .page) (y .1), q .2))
-              | inr y ↦ ap (λ (g : Frame). g .page) (sym (y .1)) ∙ q .2
+              | inl y ↦ absurd (omega (arith, ap (λ (g : Frame). g .page) (y .1), q .2 .0))
+              | inr y ↦ (ap (λ (g : Frame). g .page) (sym (y .1)) ∙ q .2 .0, ap (λ (g : Frame). g .modified) (sym (y .1)) ∙ q .2 .1)
             ],
           )
         ])

@@ -57,8 +57,8 @@ module _ (n : ℕ) (fs : List Frame) where
 
   charged-alike : (ds ss : List ℕ) (i : ℕ) → test (charged n fs ds ss i) ≡ test (charged n (take n fs) ds ss i)
   charged-alike ds ss i = alike (charged n fs ds ss i) (charged n (take n fs) ds ss i)
-      (λ h. elim h [ inl l ↦ inl l | inr q ↦ inr (q .0, q .1, sym (same-page (q .0) (q .1)) ∙ q .2) ])
-      (λ h. elim h [ inl l ↦ inl l | inr q ↦ inr (q .0, q .1, same-page (q .0) (q .1) ∙ q .2) ])
+      (λ h. elim h [ inl l ↦ inl l | inr q ↦ inr (q .0, q .1, rw (frame-take n fs (q .0) (q .1)) (q .2)) ])
+      (λ h. elim h [ inl l ↦ inl l | inr q ↦ inr (q .0, q .1, rw (frame-take n fs (q .0) (q .1)) at (q .2)) ])
 
 -- what the answers tell, as the passes ask it
 pub record Passed (z : Sizes) (fs : List Frame) (ac fq rl ds ss us : List ℕ) (s k : ℕ) : Type 0 where

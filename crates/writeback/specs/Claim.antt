@@ -1,6 +1,5 @@
 -- Claim: the tables that it reads, what they keep when it is asked, and what it leaves.
 use mathlib.Core.Path.{_≡_}
-use mathlib.Core.Bool.{_||_}
 use mathlib.Core.List.{List}
 use mathlib.Core.Logic.{_⊎_}
 use Prim.Native.Nat.{ℕ, suc, _-_, _*_, _<_, pred}
@@ -20,7 +19,7 @@ use Rattle.model.specs.declared.event.Writeback.the-variants.{Claim}
 use Rattle.model.specs.Lines.{NULLED, LIVE}
 use Rattle.model.specs.State.{State, files, frames, frameAt, slotOf, payer}
 use Rattle.model.specs.Questions.{questions}
-use Rattle.model.specs.Writeback.{look, looking, beginsWrite, recordIn}
+use Rattle.model.specs.Writeback.{look, looking, beginsWrite}
 use Rattle.model.specs.Step.{outcome}
 use Rattle.model.specs.Own.{own}
 use Rattle.model.specs.Setters.{onDisk, onCore, onHeld, setAccounts, setFrames, setWords, setFreeQueue, setRemovalList, setAddresses, setStates, setUsed}
@@ -40,12 +39,12 @@ seen z fs accounts words free-queue removal-list addresses states used =
 abbrev pub payerOf : Sizes → State → ℕ → ℕ
 payerOf z st f = payer (files st) (slotOf z (pred (frames st .frame f .page)))
 
--- the used counts: one charge less where the page's address is nulled then
+-- the used counts: one charge less where the frame freed was modified
 unfoldable pub usedThen : Sizes → State → List ℕ
 usedThen z st =
     let f = looking z st .taken in let u = st .memory .used in
     if (beginsWrite z st) u
-    (if (eqb (frames st .frame f .modified) 1 || eqb (files st .state (recordIn z st f)) NULLED) (set u (payerOf z st f) (at u (payerOf z st f) - 1)) u)
+    (if (eqb (frames st .frame f .modified) 1) (set u (payerOf z st f) (at u (payerOf z st f) - 1)) u)
 
 -- the frames and the list as the looks leave them: the first entry is the one taken
 pub record LooksLeft (fs : List Frame) (list : List ℕ) (kept : List Frame) (looks : ℕ) (list' : List ℕ) : Type 0 where
@@ -56,15 +55,15 @@ pub record LooksLeft (fs : List Frame) (list : List ℕ) (kept : List Frame) (lo
   pub ruled : Holds (queue (length list') list')
   pub taken-some : 0 < size list'
 
--- a frame in the list: its page's record, who pays for it, and room for it in the free queue
-pub record Claimable (z : Sizes) (page : ℕ) (accounts free-queue addresses states used : List ℕ) : Type 0 where
+-- a frame in the list: its page's record, who pays for it if it is modified, and room for it in the free queue
+pub record Claimable (z : Sizes) (page modified : ℕ) (accounts free-queue addresses states used : List ℕ) : Type 0 where
   pub item : ℕ
   pub named : 0 < page
   pub holds : at addresses (pred page) ≡ suc item
   pub inside : item < length states
   pub moves : (at states item ≡ NULLED) ⊎ (at states item ≡ LIVE)
   pub room : size free-queue < z .frames
-  pub pays : 0 < at used (at accounts (slotOf z (pred page)))
+  pub pays : modified ≡ 1 → 0 < at used (at accounts (slotOf z (pred page)))
 
 pub record ClaimReady (z : Sizes) (fs : List Frame) (accounts words free-queue removal-list addresses states used : List ℕ) : Type 0 where
   pub most : z .frames < 65
@@ -74,7 +73,7 @@ pub record ClaimReady (z : Sizes) (fs : List Frame) (accounts words free-queue r
   pub list-long : length removal-list ≡ z .frames
   pub queued : Holds (queue (z .frames) free-queue)
   pub listed : Holds (queue (z .frames) removal-list)
-  pub held : (f : ℕ) → f < z .frames → 0 < times (members removal-list) f → Claimable z (frameAt fs f .page) accounts free-queue addresses states used
+  pub held : (f : ℕ) → f < z .frames → 0 < times (members removal-list) f → Claimable z (frameAt fs f .page) (frameAt fs f .modified) accounts free-queue addresses states used
 
 -- the answer and every table that claim changes, by the outcome
 pub record ClaimLeft (z : Sizes) (st : State) (fs : List Frame) (a : Answer) (fq rl ss us : List ℕ) : Type 0 where

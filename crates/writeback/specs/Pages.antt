@@ -2,7 +2,7 @@
 use mathlib.Core.List.{List}
 use Prim.Native.Nat.{ℕ, suc}
 use Rattle.tables.specs.Base.{at}
-use Rattle.tables.specs.Rule.{Rule, same, some, names, _or_}
+use Rattle.tables.specs.Rule.{Rule, same, some, names, _and_, _or_}
 use Rattle.model.specs.declared.frame.Frame.{Frame}
 use Rattle.model.specs.Lines.{LIVE}
 use Rattle.model.specs.State.{frameAt}
@@ -15,6 +15,6 @@ framed n fs i = some n λ f. same (frameAt fs f .page) (suc i)
 abbrev pub live : List ℕ → List ℕ → ℕ → Rule
 live addresses states i = names (at addresses i) λ r. same (at states r) LIVE
 
--- it is charged
+-- it is charged: its address is live, or it is in a frame and modified
 abbrev pub charged : ℕ → List Frame → List ℕ → List ℕ → ℕ → Rule
-charged n fs addresses states i = live addresses states i or framed n fs i
+charged n fs addresses states i = live addresses states i or some n λ f. same (frameAt fs f .page) (suc i) and same (frameAt fs f .modified) 1

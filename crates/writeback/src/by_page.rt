@@ -4,11 +4,24 @@ ghost use Prim.Native.Nat.{_<_};
 ghost use lib.ListN.{length};
 ghost use Rattle.tables.specs.Base.{at};
 ghost use Rattle.tables.specs.Rule.{Holds, same, each};
-ghost use Rattle.writeback.specs.ByPage.{ByPage};
+ghost use Rattle.writeback.specs.ByPage.{ByPage, pageIn};
 use model::frame::Frame;
 
-// From a table of zeros.
+// A frame's page; or, where only modified frames are looked at, that of such a frame.
+fn page_in(only: bool, frame: Frame) -> u16
+    ensures { λ r. ⌜ r ≡ pageIn only frame ⌝ }
+{
+    if only {
+        if frame.modified != 1 {
+            return 0;
+        }
+    }
+    frame.page
+}
+
+// From a table of zeros. Only: of the modified frames.
 pub fn by_page(
+    only: bool,
     count: usize,
     pages: usize,
     slot: usize,
@@ -16,14 +29,14 @@ pub fn by_page(
     none: [u8; 256],
 ) -> [u8; 256]
     requires { ⌜ (count < 65) × (pages < 257) × (slot < 65) × (length none ≡ 256) × Holds (each 256 λ p. same (at none p) 0) ⌝ }
-    ensures { λ r. ⌜ ByPage count pages slot frames r ⌝ }
+    ensures { λ r. ⌜ ByPage only count pages slot frames r ⌝ }
 {
     let start = slot * pages;
     let mut table = none;
     let mut f = 0;
     while f < count {
         let frame = frames[f];
-        let page = frame.page as usize;
+        let page = page_in(only, frame) as usize;
         if page > start {
             if page <= start + pages {
                 table[page - start - 1] = (f + 1) as u8;

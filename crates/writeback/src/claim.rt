@@ -96,12 +96,12 @@ fn make_nulled(states: &mut [u8], r: usize, modified: u8)
     }
 }
 
-// One charge less for the slot's account where the record is nulled.
-fn uncharge_nulled(used: &mut [u16], states: &[u8], r: usize, accounts: &[u16], slot: usize)
-    requires { ⌜ 0 < at (now used) (at (now accounts) slot) ⌝ }
-    ensures { λ _. ⌜ now (used .exit) ≡ if (eqb (at (now (states .entry)) r) NULLED) (set (now (used .entry)) (at (now (accounts .entry)) slot) (at (now (used .entry)) (at (now (accounts .entry)) slot) - 1)) (now (used .entry)) ⌝ }
+// One charge less for the slot's account where the frame was modified.
+fn uncharge_modified(used: &mut [u16], modified: u8, accounts: &[u16], slot: usize)
+    requires { ⌜ (modified ≡ 1 → 0 < at (now used) (at (now accounts) slot)) ⌝ }
+    ensures { λ _. ⌜ now (used .exit) ≡ if (eqb modified 1) (set (now (used .entry)) (at (now (accounts .entry)) slot) (at (now (used .entry)) (at (now (accounts .entry)) slot) - 1)) (now (used .entry)) ⌝ }
 {
-    if at8(states, r) == NULLED {
+    if modified == 1 {
         uncharge(used, accounts, slot, 1);
     }
 }
@@ -137,7 +137,7 @@ pub fn claim(
     }
     let r = record_of(addresses, old.page);
     make_nulled(states, r, old.modified);
-    uncharge_nulled(used, states, r, accounts, named(old.page) / sizes.pages);
+    uncharge_modified(used, old.modified, accounts, named(old.page) / sizes.pages);
     push_back(free_queue, f);
     answered(with_frame(kept, f, no_frame()), 0, looked.looks)
 }

@@ -68,7 +68,7 @@ fn all_quiet(
     true
 }
 
-// Whether the page is charged, by the entry of its frame.
+// Whether the page is charged, by the entry of its modified frame.
 fn is_charged(entry: u8, addresses: &[u16], states: &[u8], i: usize) -> bool
     ensures { λ r. ⌜ r ≡ test (chargedEntry entry (now (addresses .entry)) (now (states .entry)) i) ⌝ }
 {
@@ -96,7 +96,7 @@ fn charges(
     ensures { λ r. ⌜ r ≡ chargesFrom count pages slot k frames (now (addresses .entry)) (now (states .entry)) ⌝ }
 {
     let start = slot * pages;
-    let entries = by_page(count, pages, slot, frames, [0; 256]);
+    let entries = by_page(true, count, pages, slot, frames, [0; 256]);
     let mut n = 0;
     let mut p = k;
     while p < pages {
@@ -148,7 +148,7 @@ fn free_frames(
     requires { ⌜ FramesReady count pages slot k frames (now «free_queue») (now «removal_list») ⌝ }
     ensures { λ _. ⌜ FramesLeft count pages slot k frames «free_queue» «removal_list» ⌝ }
 {
-    let entries = by_page(count, pages, slot, frames, [0; 256]);
+    let entries = by_page(false, count, pages, slot, frames, [0; 256]);
     let mut p = k;
     while p < pages {
         let entry = wide(entries[p]);

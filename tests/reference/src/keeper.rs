@@ -1,7 +1,7 @@
 //! The public calls over the lent tables: format, restart, apply, a list of requests, page look.
 
 use crate::event::{Answer, Event, Part, Request};
-use crate::tables::{Disk, Memory, Sizes};
+use crate::tables::{Disk, Memory, Sizes, LIVE};
 use crate::{events, fit, questions, restart, rules};
 use std::ops::Range;
 
@@ -113,6 +113,12 @@ impl Keeper {
     /// Whether a page holds a record in this state.
     pub fn holds(&self, page: usize, state: u8) -> bool {
         self.record_of(page).is_some_and(|record| self.memory.states[record] == state)
+    }
+
+    /// Whether a page is charged: its address is live, or it is in a frame and modified.
+    pub fn charged(&self, page: usize) -> bool {
+        let woven = self.frame_of(page).is_some_and(|frame| self.memory.frames[frame].modified == 1);
+        woven || self.holds(page, LIVE)
     }
 
     pub fn words_of_frame(&self, frame: usize) -> Range<usize> {

@@ -189,7 +189,7 @@ fn wired(keeper: &Keeper, event: Event) -> bool {
 
 fn below_limit(keeper: &Keeper, event: Event) -> bool {
     match event {
-        Event::Fault { slot, page } if !keeper.holds(keeper.flat(slot, page), LIVE) => {
+        Event::Write { slot, page, .. } if !keeper.charged(keeper.flat(slot, page)) => {
             let account = keeper.disk.accounts[slot] as usize;
             keeper.memory.used[account] < keeper.disk.limits[account]
         }

@@ -113,18 +113,16 @@ fn edge_4_truncate_to_all() {
 }
 
 #[test]
-fn edge_5_limit_then_record_then_frame() {
-    let mut keeper = with_design_of(Sizes { records: 2, ..SIZES }, 2);
-    does(&mut keeper, 0x05, &[0, 0]);
-    does(&mut keeper, 0x05, &[0, 1]);
-    assert_eq!((keeper.memory.pool.free, keeper.memory.free_queue[0]), (0, 0));
-    refuses(&mut keeper, 0x05, &[0, 2], 18);
-    does(&mut keeper, 0x0F, &[0, 3]);
-    refuses(&mut keeper, 0x05, &[0, 2], 19);
-    let mut keeper = with_design(3);
-    does(&mut keeper, 0x05, &[0, 0]);
-    does(&mut keeper, 0x05, &[0, 1]);
-    refuses(&mut keeper, 0x05, &[0, 2], 20);
+fn edge_5_record_then_frame() {
+    for (records, number) in [(2, 19), (3, 20)] {
+        let mut keeper = with_design_of(Sizes { records, ..SIZES }, 2);
+        for page in 0..2 {
+            does(&mut keeper, 0x05, &[0, page]);
+            does(&mut keeper, 0x07, &[0, page, 0, 9]);
+        }
+        assert_eq!((keeper.memory.used[0], keeper.disk.limits[0], keeper.memory.free_queue[0]), (2, 2, 0));
+        refuses(&mut keeper, 0x05, &[0, 2], number);
+    }
 }
 
 #[test]
@@ -147,7 +145,7 @@ fn edge_6_looks() {
 fn edge_7_fresh_page_claimed() {
     let mut keeper = with_design(3);
     does(&mut keeper, 0x05, &[0, 0]);
-    assert_eq!(keeper.memory.used[0], 1);
+    assert_eq!(keeper.memory.used[0], 0);
     does(&mut keeper, 0x08, &[]);
     assert_eq!((state_of(&keeper, 0), keeper.memory.used[0]), (NULLED, 0));
 }
@@ -217,7 +215,28 @@ fn edge_12_used_over_the_limit() {
     assert_eq!(keeper.restart(), Answer::done(0));
     assert_eq!((keeper.memory.used[0], keeper.disk.limits[0]), (2, 1));
     does(&mut keeper, 0x03, &[0]);
-    refuses(&mut keeper, 0x05, &[0, 1], 18);
+    does(&mut keeper, 0x05, &[0, 1]);
+    refuses(&mut keeper, 0x07, &[0, 1, 0, 4], 18);
+}
+
+/// Looking is free, also at limit 0; a page's first write is charged, also of an equal value, and no later one.
+#[test]
+fn looking_is_free() {
+    let mut keeper = with_design(0);
+    does(&mut keeper, 0x05, &[0, 0]);
+    does(&mut keeper, 0x06, &[0, 0, 1]);
+    assert_eq!(keeper.page_look(0, 0).refusal, 0);
+    refuses(&mut keeper, 0x07, &[0, 0, 1, 0], 18);
+    refuses(&mut keeper, 0x07, &[0, 0, 1, 9], 18);
+    assert_eq!(keeper.memory.used[0], 0);
+    does(&mut keeper, 0x0F, &[0, 1]);
+    does(&mut keeper, 0x07, &[0, 0, 1, 0]);
+    does(&mut keeper, 0x0F, &[0, 0]);
+    does(&mut keeper, 0x07, &[0, 0, 1, 9]);
+    assert_eq!(keeper.memory.used[0], 1);
+    does(&mut keeper, 0x07, &[0, 0, 1, 0]);
+    does(&mut keeper, 0x08, &[]);
+    assert_eq!((state_of(&keeper, 0), keeper.memory.used[0]), (NULLED, 0));
 }
 
 /// While page 0's write is under way: read and look are accepted, the others get 14, and used is as the reads leave it.

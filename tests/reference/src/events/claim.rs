@@ -46,8 +46,6 @@ fn take(keeper: &mut Keeper, frame: usize) {
     }
     if entry.modified == 1 {
         set_state(keeper, record, NULLED);
-    }
-    if keeper.holds(page, NULLED) {
         let account = account_of(keeper, page);
         keeper.memory.used[account] -= 1;
     }

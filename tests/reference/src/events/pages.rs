@@ -21,8 +21,6 @@ pub fn fault(keeper: &mut Keeper, slot: usize, page: usize) -> u32 {
         }
         entry.initial = 1;
         queue::push_front(&mut keeper.memory.removal_list, frame);
-        let account = account_of(keeper, page);
-        keeper.memory.used[account] += 1;
     }
     keeper.memory.frames[frame] = entry;
     frame as u32
@@ -74,8 +72,14 @@ pub fn read(keeper: &mut Keeper, slot: usize, page: usize, word: usize) -> u32 {
     keeper.memory.frame_words[frame * keeper.sizes.words + word]
 }
 
+/// A page's first write is charged to its account.
 pub fn write(keeper: &mut Keeper, slot: usize, page: usize, word: usize, value: u32) -> u32 {
     let frame = frame_at(keeper, slot, page);
+    let page = keeper.flat(slot, page);
+    if !keeper.charged(page) {
+        let account = account_of(keeper, page);
+        keeper.memory.used[account] += 1;
+    }
     keeper.memory.frames[frame].used = 1;
     keeper.memory.frames[frame].modified = 1;
     keeper.memory.frame_words[frame * keeper.sizes.words + word] = value;
@@ -102,7 +106,7 @@ pub fn truncate(keeper: &mut Keeper, slot: usize, count: usize) -> u32 {
     let account = keeper.disk.accounts[slot] as usize;
     for page in keeper.pages_of(slot).skip(count) {
         let frame = keeper.frame_of(page);
-        if frame.is_some() || keeper.holds(page, LIVE) {
+        if keeper.charged(page) {
             keeper.memory.used[account] -= 1;
         }
         if let Some(frame) = frame {

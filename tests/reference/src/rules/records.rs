@@ -90,11 +90,15 @@ pub fn free_agrees(view: &View) -> bool {
 /// Charged pages of active designs, and map entries above 0 of inactive ones.
 pub fn used_counts(view: &View) -> bool {
     let mut counts = vec![0; view.sizes.accounts];
+    let mut woven = vec![false; view.sizes.all_pages()];
+    for frame in view.memory.frames.iter().filter(|frame| frame.page != 0 && frame.modified == 1) {
+        woven[frame.page as usize - 1] = true;
+    }
     for page in 0..view.sizes.all_pages() {
         let slot = view.slot_of(page);
         let charged = if view.memory.active[slot] == 1 {
             let address = view.memory.addresses[page] as usize;
-            view.frame[page] != 0 || address != 0 && view.memory.states[address - 1] == LIVE
+            woven[page] || address != 0 && view.memory.states[address - 1] == LIVE
         } else {
             view.disk.maps[page] != 0
         };

@@ -1,15 +1,19 @@
 -- `page_event` meets its contract: each arm hands on what questions 1 and 2 give, and its event's outcome over all tables.
 use borrow.Author.Needs.{needs}
 use mathlib.Core.Path.{refl}
-use Rattle.dispatch.proofs.PageLaws.{served-ready, listed-ready, read-own, write-own, wire-own, unwire-own}
+use Rattle.dispatch.proofs.PageLaws.{served-ready, listed-ready, read-own, wire-own, unwire-own}
 use Rattle.dispatch.proofs.FaultLaws.{fault-ready, fault-own}
 use Rattle.model.specs.Pool.{taken, deposited}
+use Rattle.dispatch.proofs.WriteLaws.{write-own}
 use Rattle.dispatch.proofs.page_event.page_event.Statement.{statement}
 use Rattle.dispatch.proofs.page_event.page_event.Tie as tie
 
 -- from the match back to the start
 abbrev start : tie.After-event → tie.Start
 start m = search
+
+abbrev start3 : tie.After-event3 → tie.Start
+start3 m = search
 
 fault-requires : tie.Need-fault-requires
 fault-requires c κs =
@@ -52,7 +56,8 @@ returns-3 : tie.Need-returns-3
 unfolding taken deposited
 returns-3 c =
     let m : tie.After-event3 = search in
-    let d = c .before .before .before .write .ensures in rw (m .event3 .given .1, c .framed2 .ensures) (write-own _ _ _ _ _ _ (d .0) (d .1 .0) (d .1 .1))
+    let k : tie.After-write = search in
+    let d = k .write .ensures in rw (m .event3 .given .1, c .framed2 .ensures) (write-own _ _ (start3 m .pre) _ _ _ _ (d .0) (d .1 .0) (d .1 .1 .0) (d .1 .1 .1))
 
 returns-4 : tie.Need-returns-4
 unfolding taken deposited
@@ -91,10 +96,12 @@ page-event-spec =
     (λ c. search needs)
     (λ c. search needs)
     (λ c. search needs)
-    (λ c. search needs)
     returns
     (λ c. refl)
     returns-2
+    (λ c. search needs)
+    (λ c. refl)
+    (λ c. refl)
     (λ c. search needs)
     returns-3
     (λ c. search needs)

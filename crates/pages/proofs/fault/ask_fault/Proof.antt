@@ -3,7 +3,6 @@ use borrow.Author.Needs.{needs}
 use mathlib.Core.Path.{ap, sym, _∙_}
 use Prim.Native.Nat.{ℕ}
 use lib.ListN.{take}
-use Rattle.tables.specs.Base.{at}
 use Rattle.tables.specs.Laws.{T→true}
 use Rattle.tables.specs.Questions.{firstNo, all-yes}
 use Rattle.tables.specs.Also.{also-yes, also-no}
@@ -49,21 +48,17 @@ returns-2 c =
 
 returns-3 : tie.Need-returns-3
 returns-3 c =
-    let l = c .before in
-    let u = l .before in
-    let q = u .before in
-    let w = q .before .before in
+    let q = c .before in
+    let w = q .before in
     let i = w .before in
     let k = i .before .before in
     let a = start k .args in
     let ej = i .page-of .ensures in
-    let eu = u .at162 .ensures ∙ ap (at (a .used .now)) (q .at16 .ensures) in
-    let el = l .at163 .ensures ∙ ap (at (a .limits .now)) (q .at16 .ensures) in
     let n = w .ask-away .ensures ∙ ap (λ (j : ℕ). firstNo (awayAsked (a .sizes) (take (a .sizes .frames) (a .frames)) j)) ej in
     c .ask-supply .ensures
-    ∙ (λ t. firstNo (supplyAsked (ej t) (a .addresses .now) (a .states .now) (eu t) (el t) (a .free) (a .free-queue .now)))
-    ∙ sym (also-yes 0 (awayAsked (a .sizes) (take (a .sizes .frames) (a .frames)) (pageOf (a .sizes) (a .slot) (a .page))) _ tt (sym n ∙ q .before .if2 .left))
+    ∙ (λ t. firstNo (supplyAsked (ej t) (a .addresses .now) (a .free) (a .free-queue .now)))
+    ∙ sym (also-yes 0 (awayAsked (a .sizes) (take (a .sizes .frames) (a .frames)) (pageOf (a .sizes) (a .slot) (a .page))) _ tt (sym n ∙ q .if2 .left))
     ∙ sym (also-yes 0 (slotAsked (a .in-range) (a .slot) (a .numbers .now) (a .active .now)) _ tt (sym (k .ask-slot .ensures) ∙ i .before .if1 .left))
 
 pub ask-fault-spec : {M : Type 1} → statement M
-ask-fault-spec = tie.close (tie.spec (λ c κs. search needs) returns page-of-requires ask-away-requires returns-2 (λ c κs. search needs) (λ c. search needs) (λ c κs. search needs) (λ c κs. search needs) (λ c κs. search needs) returns-3)
+ask-fault-spec = tie.close (tie.spec (λ c κs. search needs) returns page-of-requires ask-away-requires returns-2 (λ c κs. search needs) returns-3)

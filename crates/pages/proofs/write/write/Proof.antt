@@ -1,24 +1,30 @@
--- `write` meets its contract: the questions, then the page's frame, and the word stored.
+-- `write` meets its contract: the questions, the charge, then the page's frame, and the word stored.
 use borrow.Author.Needs.{needs}
 use mathlib.Core.Path.{_∙_}
-use mathlib.Core.Bool.{false}
-use mathlib.Core.List.{[]}
 use lib.ListN.{take}
-use Rattle.model.specs.declared.event.Event.{Event}
-use Rattle.model.specs.declared.event.Event.the-variants as Event
-use Rattle.model.specs.declared.event.Page.the-variants as Page
 use Rattle.model.specs.Step.{result}
-use Rattle.model.specs.OwnLaws.{own-no, own-yes}
-use Rattle.pages.proofs.Served.{Call, state, word-range}
-use Rattle.pages.proofs.InFrame.{word-answer, write-frames, write-words}
+use Rattle.pages.proofs.Served.{word-range}
+use Rattle.pages.proofs.Writing.{WriteCall, write-no, used-no, write-denied, used-denied, write-yes, used-yes, write-frames, write-words}
 use Rattle.pages.proofs.write.write.Statement.{statement}
 use Rattle.pages.proofs.write.write.Tie as tie
 
-abbrev call : tie.Start → Call
-call s = let a = s .args in record { sizes = a .sizes; frames = a .frames; numbers = a .numbers .now; words = a .words .now; list = []; active = a .active .now; slot = a .slot; page = a .page }
-
-abbrev event : tie.Start → Event
-event s = let a = s .args in Event.Page (Page.Write (a .slot) (a .page) (a .word) (a .value))
+abbrev call : tie.Start → WriteCall
+call s = let a = s .args in record {
+  sizes = a .sizes;
+  frames = a .frames;
+  numbers = a .numbers .now;
+  accounts = a .accounts .now;
+  limits = a .limits .now;
+  words = a .words .now;
+  addresses = a .addresses .now;
+  states = a .states .now;
+  active = a .active .now;
+  used = a .used .now;
+  slot = a .slot;
+  page = a .page;
+  word = a .word;
+  value = a .value;
+}
 
 -- the start, from the place where the questions are answered
 abbrev start : tie.After-ask-served → tie.Start
@@ -30,13 +36,11 @@ ask-served-requires c κs = let s : tie.Start = search in
 
 returns : tie.Need-returns
 returns c =
-    let s : tie.Start = search in
+    let k : tie.After-ask-served = search in
+    let s = start k in
     let x = c .answered .ensures in
-    let k = c .before .before in
-    let a = s .args in
-    let q = word-answer (call s) (a .word) false (k .ask-served .result) (k .ask-served .ensures .0) in
-    let o = own-no (a .sizes) (state (call s)) (event s) (k .ask-served .result) q (c .before .if1 .taken) in
-    ((λ i. x i .answer) ∙ (λ i. o i .answer), ((λ i. take (a .sizes .frames) (x i .frames)) ∙ (λ i. o i .left .memory .core .frames), λ i. o i .left .memory .core .words))
+    let o = write-no (call s) (k .ask-served .result) (k .ask-served .ensures .0) (c .before .if1 .taken) in
+    ((λ i. x i .answer) ∙ (λ i. o i .answer), ((λ i. take (s .args .sizes .frames) (x i .frames)) ∙ (λ i. o i .left .memory .core .frames), (λ i. o i .left .memory .core .words, used-no (call s) (k .ask-served .result) (k .ask-served .ensures .0) (c .before .if1 .taken))))
 
 its-frame-requires : tie.Need-its-frame-requires
 its-frame-requires c κs =
@@ -44,35 +48,72 @@ its-frame-requires c κs =
     let r = word-range (s .args .sizes) (s .args .slot) (s .args .page) (s .args .word) (c .before .ask-served .ensures .1 (c .if1 .left) .0) in
     (s .pre .sizes, r .0, r .1)
 
-word-of-requires : tie.Need-word-of-requires
-word-of-requires c κs =
-    let f = c .before .before in
-    let k = f .before .before in
-    let s : tie.Start = search in
-    let g = k .ask-served .ensures .1 (f .before .if1 .left) in
-    (s .pre .sizes, rw (f .its-frame .ensures) (g .1), word-range (s .args .sizes) (s .args .slot) (s .args .page) (s .args .word) (g .0) .2)
+page-of-requires : tie.Need-page-of-requires
+page-of-requires c κs =
+    let e : tie.Else1 = search in
+    let k : tie.After-ask-served = search in
+    let s = start k in
+    let r = word-range (s .args .sizes) (s .args .slot) (s .args .page) (s .args .word) (k .ask-served .ensures .1 (e .if1 .left) .0) in
+    (s .pre .sizes, r .0, r .1)
 
 returns-2 : tie.Need-returns-2
-unfolding result
 returns-2 c =
-    let x = c .answered2 .ensures in
-    let u = c .before .before .before in
-    let w = u .before .before in
-    let l = w .before in
-    let g = l .before in
-    let f = g .before in
-    let k = f .before .before in
+    let n : tie.After-pay = search in
+    let q : tie.After-at16 = search in
+    let b : tie.After-is-charged = search in
+    let j : tie.After-page-of = search in
+    let g : tie.After-frame-at = search in
+    let f : tie.After-its-frame = search in
+    let e : tie.Else1 = search in
+    let k : tie.After-ask-served = search in
     let s = start k in
-    let a = s .args in
-    let q = word-answer (call s) (a .word) false (k .ask-served .result) (k .ask-served .ensures .0) in
-    let h = k .ask-served .ensures .1 (f .before .if1 .left) .1 in
-    let o = own-yes (a .sizes) (state (call s)) (event s) (k .ask-served .result) q (f .before .if1 .left) in (
-      (λ i. x i .answer) ∙ (λ i. o i .answer),
-      (
-        (λ i. take (a .sizes .frames) (x i .frames)) ∙ write-frames (call s) (a .word) h (f .its-frame .result) (g .frame-at .result) (l .with-frame .result) (f .its-frame .ensures) (g .frame-at .ensures) (a .value) (l .with-frame .ensures) ∙ (λ i. o i .left .memory .core .frames),
-        write-words (call s) (a .word) h (f .its-frame .result) (g .frame-at .result) (l .with-frame .result) (f .its-frame .ensures) (g .frame-at .ensures) (w .word-of .result) (a .value) _ (w .word-of .ensures) (u .put32 .ensures) ∙ (λ i. o i .left .memory .core .words),
-      ),
-    )
+    let x = c .answered2 .ensures in
+    let h = k .ask-served .ensures .1 (e .if1 .left) .1 in
+    let o = write-denied (call s) (k .ask-served .result) (k .ask-served .ensures .0) (e .if1 .left) h (s .pre) (f .its-frame .result) (g .frame-at .result) (f .its-frame .ensures) (g .frame-at .ensures)
+    (j .page-of .result) (b .is-charged .result) (n .pay .result) (q .at16 .result) _ (j .page-of .ensures) (b .is-charged .ensures) (q .at16 .ensures) (n .pay .ensures .0) (n .pay .ensures .1) (c .before .if2 .left) in
+    let u = used-denied (call s) (k .ask-served .result) (k .ask-served .ensures .0) (e .if1 .left) h (s .pre) (f .its-frame .result) (g .frame-at .result) (f .its-frame .ensures) (g .frame-at .ensures)
+    (j .page-of .result) (b .is-charged .result) (n .pay .result) (q .at16 .result) _ (j .page-of .ensures) (b .is-charged .ensures) (q .at16 .ensures) (n .pay .ensures .0) (n .pay .ensures .1) (c .before .if2 .left) in
+    ((λ i. x i .answer) ∙ (λ i. o i .answer), ((λ i. take (s .args .sizes .frames) (x i .frames)) ∙ (λ i. o i .left .memory .core .frames), (λ i. o i .left .memory .core .words, u)))
+
+word-of-requires : tie.Need-word-of-requires
+word-of-requires c κs =
+    let f : tie.After-its-frame = search in
+    let e : tie.Else1 = search in
+    let k : tie.After-ask-served = search in
+    let s = start k in
+    let g = k .ask-served .ensures .1 (e .if1 .left) in
+    (s .pre .sizes, rw (f .its-frame .ensures) (g .1), word-range (s .args .sizes) (s .args .slot) (s .args .page) (s .args .word) (g .0) .2)
+
+returns-3 : tie.Need-returns-3
+unfolding result
+returns-3 c =
+    let u : tie.After-put32 = search in
+    let w : tie.After-word-of = search in
+    let l : tie.After-with-frame = search in
+    let t : tie.Then2 = search in
+    let n : tie.After-pay = search in
+    let q : tie.After-at16 = search in
+    let b : tie.After-is-charged = search in
+    let j : tie.After-page-of = search in
+    let g : tie.After-frame-at = search in
+    let f : tie.After-its-frame = search in
+    let e : tie.Else1 = search in
+    let k : tie.After-ask-served = search in
+    let s = start k in
+    let x = c .answered3 .ensures in
+    let h = k .ask-served .ensures .1 (e .if1 .left) .1 in
+    let o = write-yes (call s) (k .ask-served .result) (k .ask-served .ensures .0) (e .if1 .left) h (s .pre) (f .its-frame .result) (g .frame-at .result) (f .its-frame .ensures) (g .frame-at .ensures)
+    (j .page-of .result) (b .is-charged .result) (n .pay .result) (q .at16 .result) _ (j .page-of .ensures) (b .is-charged .ensures) (q .at16 .ensures) (n .pay .ensures .0) (n .pay .ensures .1) (t .if2 .taken) in
+    let us = used-yes (call s) (k .ask-served .result) (k .ask-served .ensures .0) (e .if1 .left) h (s .pre) (f .its-frame .result) (g .frame-at .result) (f .its-frame .ensures) (g .frame-at .ensures)
+    (j .page-of .result) (b .is-charged .result) (n .pay .result) (q .at16 .result) _ (j .page-of .ensures) (b .is-charged .ensures) (q .at16 .ensures) (n .pay .ensures .0) (n .pay .ensures .1) (t .if2 .taken) in
+    let fs = write-frames (call s) (k .ask-served .result) (k .ask-served .ensures .0) (e .if1 .left) h (s .pre) (f .its-frame .result) (g .frame-at .result) (f .its-frame .ensures) (g .frame-at .ensures)
+    (j .page-of .result) (b .is-charged .result) (n .pay .result) (q .at16 .result) _ (j .page-of .ensures) (b .is-charged .ensures) (q .at16 .ensures) (n .pay .ensures .0) (n .pay .ensures .1) (t .if2 .taken) (l .with-frame .result) (l .with-frame .ensures) in
+    let ws = write-words (call s) (k .ask-served .result) (k .ask-served .ensures .0) (e .if1 .left) h (s .pre) (f .its-frame .result) (g .frame-at .result) (f .its-frame .ensures) (g .frame-at .ensures)
+    (j .page-of .result) (b .is-charged .result) (n .pay .result) (q .at16 .result) _ (j .page-of .ensures) (b .is-charged .ensures) (q .at16 .ensures) (n .pay .ensures .0) (n .pay .ensures .1) (t .if2 .taken) (w .word-of .result) _ (w .word-of .ensures) (u .put32 .ensures) in
+    ((λ i. x i .answer) ∙ (λ i. o i .answer), ((λ i. take (s .args .sizes .frames) (x i .frames)) ∙ fs, (ws, us)))
 
 pub write-spec : {M : Type 1} → statement M
-write-spec = tie.close (tie.spec ask-served-requires (λ c κs. search needs) returns its-frame-requires (λ c κs. search needs) (λ c κs. search needs) word-of-requires (λ c κs. search needs) (λ c κs. search needs) (λ c. search needs) returns-2)
+write-spec =
+    tie.close
+    (tie.spec ask-served-requires (λ c κs. search needs) returns its-frame-requires (λ c κs. search needs) page-of-requires (λ c κs. search needs) (λ c κs. search needs) (λ c. search needs) (λ c κs. search needs) (λ c κs. search needs) (λ c. search needs) returns-2
+    (λ c κs. search needs) word-of-requires (λ c κs. search needs) (λ c κs. search needs) (λ c. search needs) (λ c. search needs) returns-3)

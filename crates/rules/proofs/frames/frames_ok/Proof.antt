@@ -1,4 +1,5 @@
 -- The invariant: each frame before f keeps its rules and is clean, their pages are marked, each once, and those that count as used by their frames are counted.
+use borrow.Author.Needs.{needs}
 use mathlib.Core.Path.{_≡_, refl, sym, _∙_}
 use Prim.Native.Nat.{_-_, _<_, _≤_}
 use native.Mathlib.Omega.{arith}
@@ -7,6 +8,7 @@ use Rattle.tables.specs.Base.{at}
 use Rattle.tables.specs.Rule.{_and_}
 use Rattle.tables.specs.Turn.{Passed, none, again, done, learn, unlearn, yes-so, not-so, both}
 use Rattle.model.specs.State.{frameAt}
+use Rattle.model.specs.Woven.{wovenPage, woven-least}
 use Rattle.rules.specs.Passes.{Prefix, frameRow, cleanFrame}
 use Rattle.rules.proofs.Entries.{part}
 use Rattle.rules.proofs.Marked.{start, step, stuck, ended, not-true}
@@ -19,7 +21,7 @@ abbrev Inv-loop : tie.InvT-loop
 Inv-loop z marks₀ totals₀ accounts active addresses states words records frames queued removing n f₀ marks totals f =
     Passed f (λ k. frameRow (z .pages) active addresses states (at queued k) (at removing k) (frameAt frames k) and cleanFrame (z .words) (frameAt frames k) k words records addresses states)
     × Prefix (length addresses) (z .frames) (λ k. frameAt frames k .page) (length marks₀) marks f
-    × Tallied (z .pages) (λ k. frameAt frames k .page) accounts addresses states totals₀ f totals
+    × Tallied (z .pages) (λ k. wovenPage (frameAt frames k)) accounts addresses states totals₀ f totals
 
 abbrev μ-loop : tie.MeasureT-loop
 μ-loop z marks₀ totals₀ accounts active addresses states words records frames queued removing n f₀ marks totals f = z .frames - f
@@ -65,6 +67,9 @@ module _ (c : tie.Then2 Inv-loop μ-loop) where
       let args = begun turn .args in let loop = turn .loop in
       passed-le (length (args .addresses .now)) (loop .marks) (frameAt (args .t2) (loop .f) .page) (c .if2 .taken) (marking .mark-entry .ensures .0)
 
+  woven-fits : wovenPage (frameAt (begun turn .args .t2) (turn .loop .f)) ≤ length (begun turn .args .addresses .now)
+  woven-fits = woven-least (frameAt (begun turn .args .t2) (turn .loop .f)) page-fits
+
 frame-ok-requires : tie.Need-frame-ok-requires Inv-loop μ-loop
 frame-ok-requires c κs =
     let at-loop : tie.At-loop Inv-loop μ-loop = search in
@@ -91,11 +96,14 @@ charge-requires c κs =
     let then1 : tie.Then1 Inv-loop μ-loop = search in
     let at-loop : tie.At-loop Inv-loop μ-loop = search in let loop = at-loop .loop in
     let s₀ = begun at-loop in let pre = s₀ .pre in
-    (pre .0 .pages, rw (pre .0 .accounts-long) (omega (arith, page-fits t, pre .0 .addresses-long)), page-fits t, pre .0 .addresses-fit, pre .0 .accounts-fit, loop .inv .2 .sized, tallied-few _ _ _ _ _ _ _ _ (loop .inv .2) (omega (arith, within then1)) (pre .4))
+    let w : tie.After-woven-page Inv-loop μ-loop = search in
+    let less = woven-fits t in
+    (pre .0 .pages, rw (pre .0 .accounts-long) (omega (arith, w .woven-page .ensures, less, pre .0 .addresses-long)), omega (arith, w .woven-page .ensures, less), pre .0 .addresses-fit, pre .0 .accounts-fit, loop .inv .2 .sized, tallied-few _ _ _ _ _ _ _ _ (loop .inv .2) (omega (arith, within then1)) (pre .4))
 
 loop-again : tie.Need-loop-again Inv-loop μ-loop
 loop-again c =
     let k : tie.After-charge Inv-loop μ-loop = search in
+    let w : tie.After-woven-page Inv-loop μ-loop = search in
     let e : tie.Then3 Inv-loop μ-loop = search in
     let after-frame-ok : tie.After-frame-ok Inv-loop μ-loop = search in
     let t : tie.Then2 Inv-loop μ-loop = search in
@@ -105,7 +113,7 @@ loop-again c =
     let mark-entry = after-mark-entry .mark-entry in (
       again _ _ (loop .inv .0) (sym (e .if3 .taken) ∙ both _ _ _ _ (after-frame-ok .frame-ok .ensures) (e .before .clean .ensures)),
       rw (mark-entry .ensures .1 (t .if2 .taken)) (step _ _ _ _ _ _ (loop .inv .1) (then1 .if1 .taken) (learn _ (sym (t .if2 .taken) ∙ mark-entry .ensures .0))),
-      tallied-next _ _ _ _ _ _ _ _ (loop .inv .2) _ (k .charge .kept .1 .1 .0) (k .charge .ensures),
+      tallied-next _ _ _ _ _ _ _ _ (loop .inv .2) _ (k .charge .kept .1 .1 .0) (rw (w .woven-page .ensures) at (k .charge .ensures)),
     )
 
 returns-3 : tie.Need-returns-3 Inv-loop μ-loop
@@ -137,4 +145,4 @@ pub frames-ok-spec : {M : Type 1} → statement M
 frames-ok-spec =
     tie.close
     (tie.spec Inv-loop μ-loop loop-holds (λ c. omega (arith, within c)) within mark-entry-requires (λ c. marked-long search) (λ c. totals-long search) returns (λ c. within search) (λ c. within search)
-    frame-ok-requires clean-requires (λ c. marked-long search) (λ c. totals-long search) returns-2 charge-requires add-f loop-less loop-again (λ c. marks-long search) (λ c. totals-long search) returns-3)
+    frame-ok-requires clean-requires (λ c. marked-long search) (λ c. totals-long search) returns-2 (λ c κs. search needs) charge-requires add-f loop-less loop-again (λ c. marks-long search) (λ c. totals-long search) returns-3)

@@ -1,11 +1,12 @@
 -- `claim` meets its contract: each way out by its law.
 use borrow.Author.Needs.{needs}
-use mathlib.Core.Path.{_≡_, ap, _∙_}
+use mathlib.Core.Path.{_≡_, ap, sym, _∙_}
 use mathlib.Core.List.{List}
-use Prim.Native.Nat.{ℕ, pred}
+use Prim.Native.Nat.{ℕ, _-_, _/_, pred}
 use native.Mathlib.Omega.{arith}
+use lib.Dec.{eqb}
 use lib.ListN.{set}
-use Rattle.tables.specs.Base.{at}
+use Rattle.tables.specs.Base.{at, if}
 use Rattle.tables.specs.QueueEntries.{size-more}
 use Rattle.model.specs.declared.frame.Frame.{Frame}
 use Rattle.model.specs.State.{frameAt}
@@ -89,17 +90,17 @@ make-nulled-requires c κs =
     let g : tie.After-frame-at = search in
     told (first g) .moves _ (c .before .record-of .ensures ∙ recorded g)
 
-div-uncharge-nulled : tie.Need-div-uncharge-nulled
-div-uncharge-nulled c =
+div-uncharge-modified : tie.Need-div-uncharge-modified
+div-uncharge-modified c =
     let r : tie.After-record-of = search in
     let g : tie.After-frame-at = search in
     start (first g) .pre .pages-some
 
-uncharge-nulled-requires : tie.Need-uncharge-nulled-requires
-uncharge-nulled-requires c κs =
+uncharge-modified-requires : tie.Need-uncharge-modified-requires
+uncharge-modified-requires c κs =
     let r : tie.After-record-of = search in
     let g : tie.After-frame-at = search in
-    rw (c .before .named .ensures ∙ paged g) (told (first g) .pays)
+    rw (c .before .named .ensures ∙ paged g) (λ e. told (first g) .pays (ap (λ (x : Frame). x .modified) (sym (g .frame-at .ensures)) ∙ e))
 
 push-back-requires : tie.Need-push-back-requires
 push-back-requires c κs =
@@ -110,7 +111,7 @@ push-back-requires c κs =
 returns-3 : tie.Need-returns-3
 returns-3 c =
     let k : tie.After-push-back = search in
-    let u : tie.After-uncharge-nulled = search in
+    let u : tie.After-uncharge-modified = search in
     let n : tie.After-named = search in
     let m : tie.After-make-nulled = search in
     let r : tie.After-record-of = search in
@@ -119,9 +120,12 @@ returns-3 c =
     let q : tie.After-pop = search in
     let p = shown q in
     let t = turned p in
+    let a = start p .args in
+    let e = n .named .ensures ∙ paged g in
     freed _ _ _ _ _ _ _ _ _ (some p .before .at16 .ensures) (some p .if1 .left) (start p .pre) (t .turn .ensures) (p .first .ensures)
     (b .begins .ensures ∙ rw (g .frame-at .ensures)) (r .before .if2 .left) (r .record-of .ensures ∙ recorded g) (q .pop .ensures) (k .push-back .ensures)
-    (u .uncharge-nulled .ensures ∙ rw (n .named .ensures ∙ paged g))
+    (u .uncharge-modified .ensures
+    ∙ (λ x. if (eqb (g .frame-at .ensures x .modified) 1) (set (a .used .now) (at (a .accounts .now) (e x / a .sizes .pages)) (at (a .used .now) (at (a .accounts .now) (e x / a .sizes .pages)) - 1)) (a .used .now)))
     (c .answered3 .ensures ∙ ap (λ (l : List Frame). answered l 0 (t .turn .result .looks)) (c .before .with-frame2 .ensures ∙ ap (set (t .turn .result .frames) (p .first .result)) (c .before .before .no-frame .ensures)))
     (m .make-nulled .ensures ∙ rw (g .frame-at .ensures))
 
@@ -144,5 +148,5 @@ claim-spec =
     (tie.spec (λ c κs. search needs) (λ c κs. search needs) (λ c. search needs) returns
     turn-requires (λ c κs. search needs) pop-requires (λ c κs. search needs) begins-requires
     (λ c κs. search needs) (λ c κs. search needs) (λ c κs. search needs) (λ c κs. search needs) same-length-2 returns-2
-    (λ c κs. search needs) make-nulled-requires (λ c κs. search needs) div-uncharge-nulled uncharge-nulled-requires push-back-requires
+    (λ c κs. search needs) make-nulled-requires (λ c κs. search needs) div-uncharge-modified uncharge-modified-requires push-back-requires
     (λ c κs. search needs) (λ c κs. search needs) (λ c κs. search needs) (λ c. search needs) same-length-4 (λ c. search needs) (λ c. search needs) returns-3)

@@ -1,5 +1,6 @@
 -- `free_frames` meets its contract: each turn frees the frame that a page's entry names, where it names one.
 use borrow.Author.Needs.{needs}
+use mathlib.Core.Bool.{false}
 use mathlib.Core.Path.{_≡_, ap, _∙_}
 use mathlib.Core.List.{List, _++_}
 use mathlib.Core.Logic.{⊎-elim}
@@ -19,7 +20,7 @@ use Rattle.writeback.proofs.truncate.free_frames.Tie as tie
 
 abbrev Inv-loop : tie.InvT-loop
 Inv-loop n pages slot k fq₀ rl₀ framed p₀ fq rl p =
-    (k ≤ p) × (p ≤ pages) × ((fs : List Frame) → ByPage n pages slot fs framed → (ready : FramesReady n pages slot k fs fq₀ rl₀) → CutTurn n pages slot k fs fq₀ rl₀ ready p fq rl)
+    (k ≤ p) × (p ≤ pages) × ((fs : List Frame) → ByPage false n pages slot fs framed → (ready : FramesReady n pages slot k fs fq₀ rl₀) → CutTurn n pages slot k fs fq₀ rl₀ ready p fq rl)
 
 abbrev μ-loop : tie.MeasureT-loop
 μ-loop n pages slot k fq₀ rl₀ framed p₀ fq rl p = pages - p

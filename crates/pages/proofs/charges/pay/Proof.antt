@@ -1,0 +1,48 @@
+-- `pay` meets its contract: a page that is charged costs nothing, any other one page where used is below limit.
+use borrow.Author.Needs.{needs}
+use mathlib.Core.Path.{refl, ap, sym, _∙_}
+use native.Mathlib.Omega.{arith}
+use Prim.Native.Nat.{ℕ, _+_}
+use lib.ListN.{set}
+use Rattle.tables.specs.Base.{at}
+use Rattle.pages.specs.Writes.{charged1}
+use Rattle.pages.proofs.Charging.{pay-yes, pay-no, pay-more, pay-none, pay-kept}
+use Rattle.pages.proofs.charges.pay.Statement.{statement}
+use Rattle.pages.proofs.charges.pay.Tie as tie
+
+returns : tie.Need-returns
+returns c = let s : tie.Start = search in let a = s .args in
+    (pay-kept (a .charged) _ (c .if1 .taken), pay-none (a .charged) (charged1 (a .used .now) (a .payer)) (a .used .now) (c .if1 .taken))
+
+add-put16 : tie.Need-add-put16
+add-put16 c =
+    let t : tie.Then2 = search in
+    let l : tie.After-at162 = search in
+    let k : tie.After-shared-slice-known = search in
+    let s : tie.Start = search in
+    omega (arith, t .if2 .taken, l .at162 .ensures, k .shared-slice-known .given (s .args .payer))
+
+returns-2 : tie.Need-returns-2
+returns-2 c =
+    let u : tie.After-put16 = search in
+    let t : tie.Then2 = search in
+    let l : tie.After-at162 = search in
+    let x : tie.After-at16 = search in
+    let e : tie.Else1 = search in
+    let s : tie.Start = search in
+    let a = s .args in (
+      pay-yes (a .charged) (e .if1 .left) (at (a .used .now) (a .payer)) (at (a .limits .now) (a .payer)) (omega (arith, t .if2 .taken, l .at162 .ensures, x .at16 .ensures)),
+      u .put16 .ensures ∙ ap (λ (n : ℕ). set (a .used .now) (a .payer) (n + 1)) (x .at16 .ensures) ∙ pay-more (a .charged) (charged1 (a .used .now) (a .payer)) (a .used .now) (e .if1 .left),
+    )
+
+returns-3 : tie.Need-returns-3
+returns-3 c =
+    let l : tie.After-at162 = search in
+    let x : tie.After-at16 = search in
+    let e : tie.Else1 = search in
+    let s : tie.Start = search in
+    let a = s .args in
+    (pay-no (a .charged) (e .if1 .left) (at (a .used .now) (a .payer)) (at (a .limits .now) (a .payer)) (λ h. omega (arith, c .if2 .left, l .at162 .ensures, x .at16 .ensures, h)), refl)
+
+pub pay-spec : {M : Type 1} → statement M
+pay-spec = tie.close (tie.spec returns (λ c κs. search needs) (λ c κs. search needs) add-put16 (λ c κs. search needs) (λ c. search needs) returns-2 (λ c. search needs) returns-3)
