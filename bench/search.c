@@ -12,6 +12,8 @@
 #define keeper_format c_port_format
 #define keeper_restart c_port_restart
 #define keeper_apply c_port_apply
+#define keeper_apply_all c_port_apply_all
+#define keeper_mend c_port_mend
 #define keeper_page_look c_port_page_look
 #include "keeper.h"
 #undef keeper_apply
