@@ -3,3 +3,4 @@ pub mod Front
 pub mod Carried
 pub mod Forward
 pub mod Printed
+pub mod Pieces

@@ -16,7 +16,9 @@ use Rattle.model.specs.State.{State}
 use Rattle.model.specs.Step.{Outcome}
 use Rattle.fields.specs.Fields.{fieldAt}
 use Rattle.fields.specs.declared.Field.{Field}
+use Rattle.fields.specs.declared.Field.the-variants.{End, Whole, Cut, Short, Wrong}
 use Rattle.fields.proofs.Cases.{ends}
+use Rattle.fields.proofs.Pieces.{settled, followed}
 use Rattle.lines.specs.Lines.{Wrote, lineOf}
 use Rattle.lines.proofs.Writing.{both}
 use Rattle.replay.specs.declared.input.Step.{Step}
@@ -80,8 +82,15 @@ pub roomy : (size n : ℕ) → room size n ≡ true → (size ≤ 4050) × (n < 
 roomy size n e = let p = and-both (leb size 4050) (ltb n 18446744073709551615) e in (leb-true size 4050 (p .0), ltb-true n 18446744073709551615 (p .1))
 
 -- ── lines gathered in a buffer ──
+whole-settled : (f : Field) → isWhole f ≡ true → settled f ≡ true
+whole-settled End e = e
+whole-settled (Whole request next) e = refl
+whole-settled (Cut next) e = refl
+whole-settled Short e = e
+whole-settled Wrong e = refl
+
 pub ran-none : (s out : List ℕ) (i n : ℕ) (st : State) → Ran s out out i n st i 0 n st
-ran-none s out i n st = record { forth = omega arith; within = λ h. h; bytes = []; wrote = record { buffer = refl; end = omega arith; fits = omega arith; size = refl }; is = λ offset. refl }
+ran-none s out i n st = record { forth = omega arith; within = λ h. h; bytes = []; wrote = record { buffer = refl; end = omega arith; fits = omega arith; size = refl }; is = λ offset t. refl }
 
 ran-more : {s before mid after : List ℕ} {from count place size n end : ℕ} {st now left : State} {a : Answer} {step : Step} (r : Bool)
     → Ran s before mid from count st place size n now → step ≡ stepOf (fieldAt s place) r → step .whole ≡ true
@@ -93,7 +102,8 @@ ran-more {s} {before} {mid} {after} {from} {count} {place} {size} {n} {end} {st}
   within = λ h. omega (arith, ends-at, ahead .1);
   bytes = ran .bytes ++ lineOf (n + 1) (step .asked .kind) (a .refusal) (a .result);
   wrote = both (ran .wrote) w;
-  is = λ offset. ran .is offset ∙ ap (λ (rest : List ℕ). ran .bytes ++ rest) (one offset) ∙ sym (append-assoc (ran .bytes) (lineOf (n + 1) (step .asked .kind) (a .refusal) (a .result)) (printedFrom offset s (step .next) (n + 1) left));
+  is = λ offset t. ran .is offset t ∙ ap (λ (rest : List ℕ). ran .bytes ++ rest) (one offset t)
+      ∙ sym (append-assoc (ran .bytes) (lineOf (n + 1) (step .asked .kind) (a .refusal) (a .result)) (printedFrom offset (s ++ t) (step .next) (n + 1) left));
 }
   where
     whole : isWhole (fieldAt s place) ≡ true
@@ -105,8 +115,11 @@ ran-more {s} {before} {mid} {after} {from} {count} {place} {size} {n} {end} {st}
     ahead : (place + 3 ≤ nextOf (fieldAt s place)) × (nextOf (fieldAt s place) ≤ length s)
     ahead = forward s place whole
 
-    one : (offset : ℕ) → printedFrom offset s place n now ≡ lineOf (n + 1) (step .asked .kind) (a .refusal) (a .result) ++ printedFrom offset s (step .next) (n + 1) left
-    one offset = printed-whole offset s place n now whole ∙ (rw (← ap (λ (x : Step). x .asked) e, ← ends-at, ← o, add-one n) refl)
+    one : (offset : ℕ) (t : List ℕ)
+        → printedFrom offset (s ++ t) place n now ≡ lineOf (n + 1) (step .asked .kind) (a .refusal) (a .result) ++ printedFrom offset (s ++ t) (step .next) (n + 1) left
+    one offset t =
+        let same : fieldAt (s ++ t) place ≡ fieldAt s place = followed s t place (whole-settled (fieldAt s place) whole) in
+        printed-whole offset (s ++ t) place n now (ap isWhole same ∙ whole) ∙ (rw (same, ← ap (λ (x : Step). x .asked) e, ← ends-at, ← o, add-one n) refl)
 
 -- ── where the loop stands: the step that is next, and what has been carried out ──
 pub record At (s before : List ℕ) (from count : ℕ) (st : State) (place size n : ℕ) (step : Step) (out : List ℕ) (now : State) : Type 0 where

@@ -52,13 +52,13 @@ printed (suc most) offset s i n st =
 abbrev pub printedFrom : ℕ → List ℕ → ℕ → ℕ → State → List ℕ
 printedFrom offset s i n st = printed (length s - i) offset s i n st
 
--- the lines of whole fields from one place to another, as they stand in a buffer
+-- the lines of whole fields of the bytes s from one place to another, as they stand in a buffer: what is printed whatever bytes t follow
 pub record Ran (s before after : List ℕ) (from count : ℕ) (st : State) (to size n : ℕ) (left : State) : Type 0 where
   pub forth : from ≤ to
   pub within : from ≤ length s → to ≤ length s
   pub bytes : List ℕ
   pub wrote : Wrote before after 0 bytes size
-  pub is : (offset : ℕ) → printedFrom offset s from count st ≡ bytes ++ printedFrom offset s to n left
+  pub is : (offset : ℕ) (t : List ℕ) → printedFrom offset (s ++ t) from count st ≡ bytes ++ printedFrom offset (s ++ t) to n left
 
 -- ── all of it ──
 -- the tables before anything is done: zeros
