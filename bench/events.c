@@ -147,6 +147,15 @@ static size_t pick(const struct keeper *k, size_t page)
     return pick_by_hand(k);
 }
 
+#ifdef PICK_ALONE
+/* for the times of the search alone */
+size_t PICK_ALONE(const struct keeper *keeper, size_t page);
+size_t PICK_ALONE(const struct keeper *keeper, size_t page)
+{
+    return pick(keeper, page);
+}
+#endif
+
 static void take_record(struct keeper *k, size_t page)
 {
     struct memory *m = &k->memory;

@@ -8,6 +8,7 @@ import datetime
 import os
 import pathlib
 import re
+import shutil
 import subprocess
 import sys
 
@@ -16,6 +17,8 @@ LIBRARY = ROOT / "target" / "staticlib" / "libkeeper.a"
 OUT = ROOT / "target" / "bench"
 BENCH = ROOT / "target" / "cargo" / "bench-run" / "bench"
 SEARCH = OUT / "search"
+ALONE = OUT / "alone"
+SEARCH_ALONE = OUT / "search_alone"
 PORT = ["keeper", "rules", "questions", "events"]
 # what the C port's files share; in the port with the old search each name is another
 CALLS = ["keeper_format", "keeper_restart", "keeper_apply", "keeper_apply_all", "keeper_mend", "keeper_page_look"]
@@ -70,49 +73,73 @@ def measured(size):
     return f"{size.capitalize()}: {sizes}", rounds, rows
 
 
+def built_alone():
+    """A library of the proved search alone: a crate of bench/alone.txt beside the crates that it needs, as they are proved."""
+    needs = ["tables", "model", "leaves"]
+    for folder in ["crates/alone/src", "target/rlib", "target/stamp", "target/log"]:
+        (ALONE / folder).mkdir(parents=True, exist_ok=True)
+    for name in needs:
+        link = ALONE / "crates" / name
+        link.exists() or link.symlink_to(ROOT / "crates" / name)
+        shutil.copytree(ROOT / f"target/rlib/{name}.rlib", ALONE / f"target/rlib/{name}.rlib", dirs_exist_ok=True)
+        for made in [*ROOT.glob(f"target/stamp/{name}"), *ROOT.glob(f"target/log/{name}.*")]:
+            shutil.copy(made, ALONE / made.relative_to(ROOT))
+    lines = [line for line in (ROOT / "crates.txt").read_text().splitlines() if line.split(":")[0] in needs]
+    (ALONE / "crates.txt").write_text("\n".join([*lines, f"alone: {' '.join(needs)}"]) + "\n")
+    shutil.copy(ROOT / "bench" / "alone.txt", ALONE / "crates/alone/src/lib.rt")
+    subprocess.run(["rt", "staticlib", "alone"], cwd=ALONE, check=True, capture_output=True)
+    return str(ALONE / "target/staticlib/libalone.a")
+
+
 def built_search():
-    """Builds bench/search.c with the proved keeper and two C ports: as it is, and with the old search."""
+    """Builds bench/search.c with the proved keeper and two C ports, as it is and with the old search; and bench/alone.c with the three searches."""
     gcc = ["gcc", "-O2", "-Wall", "-Wextra", "-Werror"]
-    sides = {"c": [f"-D{call}={call.replace('keeper', 'c_port')}" for call in CALLS],
-             "old": ["-DOLD_SEARCH", *(f"-D{call}={call.replace('keeper', 'old_port')}" for call in CALLS), *(f"-D{name}=old_{name}" for name in INSIDE)]}
+    sides = {"c": [f"-D{call}={call.replace('keeper', 'c_port')}" for call in CALLS] + ["-DPICK_ALONE=c_port_pick"],
+             "old": ["-DOLD_SEARCH", *(f"-D{call}={call.replace('keeper', 'old_port')}" for call in CALLS), *(f"-D{name}=old_{name}" for name in INSIDE),
+                     "-DPICK_ALONE=old_port_pick"]}
     objects = []
     for side, names in sides.items():
         for file in PORT:
             objects.append(str(OUT / f"{side}_{file}.o"))
             output(*gcc, "-std=c11", *names, "-c", "-o", objects[-1], f"bench/{file}.c")
     output(*gcc, "-std=gnu11", "-o", str(SEARCH), "bench/search.c", *objects, str(LIBRARY))
+    output(*gcc, "-std=gnu11", "-o", str(SEARCH_ALONE), "bench/alone.c", *objects, built_alone())
 
 
-def counted_search():
-    """Instructions of each fault of the search, by case and side: callgrind writes a file for each fault."""
-    file = OUT / "search.callgrind"
-    for old in OUT.glob("search.callgrind*"):
+def counted_calls(program, calls):
+    """Instructions of each call that a program makes, so many a case, by case: callgrind writes a file for each call."""
+    file = OUT / f"{program.name}.callgrind"
+    for old in OUT.glob(f"{file.name}*"):
         old.unlink()
     run = ["valgrind", "--quiet", "--tool=callgrind", "--instr-atstart=no", f"--callgrind-out-file={file}"]
-    cases = output(*run, str(SEARCH), more=NO_REPEATS).splitlines()
-    texts = [OUT.joinpath(f"search.callgrind.{n + 1}").read_text() for n in range(3 * len(cases))]
+    cases = output(*run, str(program), more=NO_REPEATS).splitlines()
+    texts = [OUT.joinpath(f"{file.name}.{n + 1}").read_text() for n in range(calls * len(cases))]
     counts = [int(re.search(r"^totals: (\d+)", text, re.MULTILINE)[1]) for text in texts]
-    return {case: counts[3 * n:3 * n + 3] for n, case in enumerate(cases)}
+    return {case: counts[calls * n:calls * (n + 1)] for n, case in enumerate(cases)}
+
+
+def times_of(lines):
+    """By case: the figures after it."""
+    return {line.rsplit("\t", 3)[0]: [float(cell) for cell in line.split("\t")[3:]] for line in lines}
 
 
 def search():
-    """The table of the search: its own part is what a fault takes more than one that finds the hand's record free."""
+    """The tables of the search: alone, less a call that does nothing with the same arguments, and of the whole fault."""
     print("search ..", file=sys.stderr)
     built_search()
+    alone, alone_counts = times_of(output(str(SEARCH_ALONE), SECONDS).splitlines()), counted_calls(SEARCH_ALONE, 6)
     first, *lines = output(str(SEARCH), SECONDS).splitlines()
-    times = {line.rsplit("\t", 3)[0]: [float(cell) for cell in line.split("\t")[3:]] for line in lines}
-    counts = counted_search()
-    nothing = next(iter(times))
-    yield f"### The search for a free record: R 4096, one record free\n\n{first.split()[1]} rounds. The old search is the C port's with that of `bench/old_search.h`.\n"
-    yield "| from | free record | search, instructions: old | new | C | fault, instructions: keeper | C | fault, nanoseconds: keeper | C | C, old search |"
-    yield "|---|---|" + "--:|" * 8
-    for case, (keeper, c_port, old) in times.items():
+    times, counts = times_of(lines), counted_calls(SEARCH, 3)
+    yield f"### The search for a free record: R 4096, one record free\n\n{first.split()[1]} rounds of faults. The old search is the C port's with that of `bench/old_search.h`.\n"
+    yield "| from | free record | search, nanoseconds: old | new | C | search, instructions: old | new | C | fault, nanoseconds: C, old search | keeper | C | fault, instructions: C, old search | keeper | C |"
+    yield "|---|---|" + "--:|" * 12
+    for case in times:
         by, distance, side = case.split("\t")
-        many = counts[case]
-        own = [f"{many[n] - counts[nothing][n]:,}" for n in (2, 0, 1)]
-        whole = [f"{many[0]:,}", f"{many[1]:,}", f"{keeper:,.0f}", f"{c_port:,.0f}", f"{old:,.0f}"]
-        place = "at the hand" if case == nothing else f"{int(distance):,} {side}"
-        yield f"| {'hand' if case == nothing else by} | {place} | {' | '.join(own + whole)} |"
+        ns = [f"{alone[case][n]:,.1f}" for n in (2, 0, 1)]
+        own = [f"{alone_counts[case][2 * n + 1] - alone_counts[case][2 * n]:,}" for n in (2, 0, 1)]
+        whole = [f"{times[case][n]:,.0f}" for n in (2, 0, 1)] + [f"{counts[case][n]:,}" for n in (2, 0, 1)]
+        place = "at the hand" if by == "none" else f"{int(distance):,} {side}"
+        yield f"| {'hand' if by == 'none' else by} | {place} | {' | '.join(ns + own + whole)} |"
     yield ""
 
 

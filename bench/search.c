@@ -5,8 +5,8 @@
 #include <stdio.h>
 #include <stdlib.h>
 #include <string.h>
-#include <time.h>
 #include <x86intrin.h>
+#include "cases.h"
 #include "../include/keeper.h"
 #undef KEEPER_H
 #define keeper_format c_port_format
@@ -20,7 +20,7 @@
 struct answer old_port_apply(struct keeper *keeper, struct request request);
 
 /* one word a record: the words of a page are not what is measured */
-enum { W = 1, R = MOST_RECORDS, F = MOST_FRAMES, S = MOST_SLOTS, N = MOST_PAGES, Q = MOST_ACCOUNTS, SIDES = 3, CASES = 25 };
+enum { W = 1, F = MOST_FRAMES, S = MOST_SLOTS, N = MOST_PAGES, Q = MOST_ACCOUNTS };
 
 static struct {
     uint32_t records[R * W], numbers[S];
@@ -45,9 +45,6 @@ static struct keeper keeper = {
      SLICE(memory.states), SLICE(memory.owners), SLICE(memory.free_map), SLICE(memory.active), SLICE(memory.updating), SLICE(memory.images),
      SLICE(memory.used), &memory.pool},
 };
-
-/* A fault on a page of slot 0, and the record that it must take; near: the record of page 0, or R for none. */
-struct one { const char *by, *side; size_t distance, near, hand, free, page; };
 
 /* All records but one are listed by designs that are not active; slot 0's is. */
 static void fill(const struct one *c)
@@ -95,33 +92,12 @@ static void check(const struct one *c, uint32_t refusal)
     exit(1);
 }
 
-/* Nothing to search for; then each distance, above and below. */
-static void list(struct one *cases)
-{
-    static const size_t distances[] = {1, 31, 32, 33, 1000, 4095};
-    *cases++ = (struct one){"none", "above", 0, R, 0, 0, 0};
-    for (size_t i = 0; i < 6; i++) {
-        size_t d = distances[i];
-        *cases++ = (struct one){"hand", "above", d, R, 0, d, 0};
-        *cases++ = (struct one){"hand", "below", d, R, R - 1, R - 1 - d, 0};
-        *cases++ = (struct one){"neighbour", "above", d, 0, 0, d, 1};
-        *cases++ = (struct one){"neighbour", "below", d, R - 1, 0, R - 1 - d, 1};
-    }
-}
-
 static uint64_t ticks(void)
 {
     _mm_lfence();
     uint64_t now = __rdtsc();
     _mm_lfence();
     return now;
-}
-
-static double seconds(void)
-{
-    struct timespec now;
-    clock_gettime(CLOCK_MONOTONIC, &now);
-    return (double)now.tv_sec + (double)now.tv_nsec * 1e-9;
 }
 
 /* Faults for so long, the sides in turn; prints each case's least time by each side. */
@@ -154,16 +130,6 @@ static void measure(const struct one *cases, double wanted)
             printf("\t%.0f", (double)(least[n][side] - own) * nanoseconds);
         printf("\n");
     }
-}
-
-/* CALLGRIND_DUMP_STATS, _START_INSTRUMENTATION and _STOP_ of valgrind/callgrind.h, by the instructions that valgrind knows them by */
-enum { DUMP = 0x43540000, START = 0x43540004, STOP = 0x43540005 };
-
-static void callgrind(uint64_t request)
-{
-    uint64_t values[6] = {request}, result = 0;
-    __asm__ volatile("rolq $3, %%rdi; rolq $13, %%rdi; rolq $61, %%rdi; rolq $51, %%rdi; xchgq %%rbx, %%rbx"
-                     : "+d"(result) : "a"(values) : "cc", "memory");
 }
 
 static void count(const struct one *cases)

@@ -9,6 +9,9 @@ use native.Mathlib.Decide.{decLt, decLe, ℕ-discrete}
 use lib.Count.{trailingZeros}
 use lib.Dec.{T, eqb, eqb→eq, ltb, ltb→lt, lt→ltb, leb, leb→le, le→leb}
 use Rattle.tables.specs.Base.{if, at, find}
+use Rattle.tables.specs.Rule.{each, test}
+use Rattle.tables.specs.Rule.{same as same-as}
+use Rattle.tables.specs.Turn.{said-yes}
 use Rattle.tables.specs.Laws.{and-left, and-right, and-intro, or-cases, or-left, or-right, eq→T, if-true, if-false}
 use Rattle.tables.specs.FindLaws.{find-at, find-none, find-cases}
 use Rattle.tables.specs.Bits.{bit}
@@ -44,6 +47,10 @@ module _ (map : List ℕ) where
   -- a word of 0 has no mark
   pub word-off : (i : ℕ) → at map (i / 32) ≡ 0 → ¬ (bitOf map i ≡ 1)
   word-off i e b = let n : bitOf map i ≡ 0 = rw e (bit-of-zero (i % 32)) in omega (arith, b, n)
+
+  -- a run of words that are 0
+  pub run-zero : (a n : ℕ) {b : Bool} → b ≡ test (each n (λ k. same-as (at map (a + k)) 0)) → b ≡ true → (w : ℕ) → a ≤ w → w < a + n → at map w ≡ 0
+  run-zero a n e t w h l = let s : a + (w - a) ≡ w = omega arith in rw s at (said-yes (each n (λ k. same-as (at map (a + k)) 0)) e t (w - a) (omega arith))
 
   -- ── the first mark ──
   module _ (a b : ℕ) where

@@ -1,11 +1,12 @@
--- The bits of a word and the counts of zeros at its ends: a word shifted down, a word shifted up.
+-- The bits of a word of n bits and the counts of zeros at its ends: a word shifted down, a word shifted up, two words as one.
 use mathlib.Core.Path.{_≡_, refl, ap, sym, _∙_}
 use Prim.Native.Nat.{ℕ, zero, suc, _+_, _-_, _*_, _/_, _%_, _^_, _<_, _≤_}
-use native.Mathlib.Nat.{not-suc-le-zero, le-of-suc-le-suc, pow-suc, zero-div, mul-assoc, mod-eq-of-lt, div-eq-of-lt}
+use native.Mathlib.Nat.{not-suc-le-zero, le-of-suc-le-suc, lt-of-le-of-lt, pow-suc, zero-div, mul-assoc, div-eq-of-lt, mod-lt}
 use native.Mathlib.Omega.{arith}
-use native.Mathlib.Decide.{decLt}
+use native.Mathlib.Decide.{decLe}
 use lib.Count.{trailingZeros, under, leadingZeros, leading-top}
-use lib.Pow.{pow-add, pow-pos, shr-shr, shl-shr, shr-lt, field, mod-mod-pow}
+use lib.Pow.{pow-add, pow-pos, shr-shr, shl-shr, shr-lt, shr-le, field, mod-mod-pow}
+use lib.Pow.{high as high-of, low as low-of}
 use Rattle.tables.specs.Bits.{bit}
 use Rattle.tables.specs.BitLaws.{bit-zero, bit-suc, bit-le}
 use Rattle.tables.specs.Marks.{rest-off}
@@ -43,11 +44,12 @@ pub top-on : (j v : ℕ) → 2 ^ j ≤ v → v < 2 ^ suc j → bit j v ≡ 1
 top-on zero v h l = bit-zero v ∙ omega arith
 top-on (suc j) v h l = let e : 2 ^ suc j ≡ 2 ^ j * 2 = pow-suc 2 j in let f : 2 ^ suc (suc j) ≡ 2 ^ suc j * 2 = pow-suc 2 (suc j) in bit-suc j v ∙ top-on j (v / 2) (omega arith) (omega arith)
 
-pub leading-on : (v j : ℕ) → 0 < v → v < 2 ^ 32 → leadingZeros 32 v + suc j ≡ 32 → bit j v ≡ 1
-leading-on v j p h e = let t = leading-top 32 v p h in let q : j ≡ t .0 = omega (arith, t .1) in rw q (top-on (t .0) v (t .2) (t .3))
+module _ (n v j : ℕ) (pos : 0 < v) (fits : v < 2 ^ n) where
+  pub leading-on : leadingZeros n v + suc j ≡ n → bit j v ≡ 1
+  leading-on e = let t = leading-top n v pos fits in let q : j ≡ t .0 = omega (arith, t .1) in rw q (top-on (t .0) v (t .2) (t .3))
 
-pub leading-off : (v j : ℕ) → 0 < v → v < 2 ^ 32 → 32 < leadingZeros 32 v + suc j → bit j v ≡ 0
-leading-off v j p h l = let t = leading-top 32 v p h in past-length (suc (t .0)) j v (t .3) (omega (arith, t .1))
+  pub leading-off : n < leadingZeros n v + suc j → bit j v ≡ 0
+  leading-off l = let t = leading-top n v pos fits in past-length (suc (t .0)) j v (t .3) (omega (arith, t .1))
 
 -- ── a word shifted down ──
 pub down-bit : (b k v : ℕ) → bit k (v / 2 ^ b) ≡ bit (b + k) v
@@ -63,19 +65,89 @@ low-bit j k v = let e : suc j ≡ j + 1 = omega arith in ap (λ (n : ℕ). n % 2
 up : (s k v : ℕ) → bit (s + k) (v * 2 ^ s) ≡ bit k v
 up s k v = sym (down-bit s k (v * 2 ^ s)) ∙ ap (bit k) (shl-shr v s)
 
-pub up-bit : (s k v : ℕ) → s + k < 32 → bit (s + k) (v * 2 ^ s % 2 ^ 32) ≡ bit k v
-up-bit s k v h = let e : suc (31 - (s + k)) + (s + k) ≡ 32 = omega arith in ap (λ (n : ℕ). bit (s + k) (v * 2 ^ s % 2 ^ n)) (sym e) ∙ low-bit (31 - (s + k)) (s + k) (v * 2 ^ s) ∙ up s k v
+pub up-bit : (n s k v : ℕ) → s + k < n → bit (s + k) (v * 2 ^ s % 2 ^ n) ≡ bit k v
+up-bit n s k v h = let e : suc (n - suc (s + k)) + (s + k) ≡ n = omega arith in ap (λ (m : ℕ). bit (s + k) (v * 2 ^ s % 2 ^ m)) (sym e) ∙ low-bit (n - suc (s + k)) (s + k) (v * 2 ^ s) ∙ up s k v
 
 -- below the shift there is nothing
-pub up-below : (s k v : ℕ) → k < s → s ≤ 31 → bit k (v * 2 ^ s % 2 ^ 32) ≡ 0
+pub up-below : (n s k v : ℕ) → k < s → s ≤ n → bit k (v * 2 ^ s % 2 ^ n) ≡ 0
 unfolding bit
-up-below s k v h l =
-    let e : suc (31 - k) + k ≡ 32 = omega arith in
+up-below n s k v h l =
+    let e : suc (n - suc k) + k ≡ n = omega arith in
     let d : s ≡ suc (s - suc k) + k = omega arith in
-    ap (λ (n : ℕ). bit k (v * 2 ^ s % 2 ^ n)) (sym e) ∙ low-bit (31 - k) k (v * 2 ^ s) ∙ ap (λ (n : ℕ). bit k (v * 2 ^ n)) d ∙ even (s - suc k)
+    ap (λ (m : ℕ). bit k (v * 2 ^ s % 2 ^ m)) (sym e) ∙ low-bit (n - suc k) k (v * 2 ^ s) ∙ ap (λ (m : ℕ). bit k (v * 2 ^ m)) d ∙ even (s - suc k)
   where
     even : (n : ℕ) → bit k (v * 2 ^ (suc n + k)) ≡ 0
     even n =
         let p : v * 2 ^ (suc n + k) ≡ v * 2 ^ suc n * 2 ^ k = ap (λ (x : ℕ). v * x) (pow-add 2 (suc n) k) ∙ sym (mul-assoc v (2 ^ suc n) (2 ^ k)) in
         let q : 2 ^ suc n ≡ 2 ^ n * 2 = pow-suc 2 n in
         ap (λ (x : ℕ). x / 2 ^ k % 2) p ∙ ap (λ (x : ℕ). x % 2) (shl-shr (v * 2 ^ suc n) k) ∙ ap (λ (x : ℕ). v * x % 2) q ∙ ap (λ (x : ℕ). x % 2) (sym (mul-assoc v (2 ^ n) 2)) ∙ omega arith
+
+-- ── the first bit on from bit b up: the zeros at the end of the word shifted down ──
+module _ (n v b : ℕ) (inside : b < n) (fits : v < 2 ^ n) (some : ¬ (v / 2 ^ b ≡ 0)) where
+  abbrev zeros-up : ℕ
+  zeros-up = trailingZeros n (v / 2 ^ b)
+
+  ends-on : bit zeros-up (v / 2 ^ b) ≡ 1
+  ends-on = trailing-on n (v / 2 ^ b) (omega (arith, some)) (lt-of-le-of-lt (shr-le v b) fits)
+
+  pub up-inside : b + zeros-up < n
+  up-inside =
+      let e : n - b + b ≡ n = omega arith in
+      elim (decLe (n - b) zeros-up) [ yes h ↦ absurd (omega (arith, ends-on, past-length (n - b) zeros-up (v / 2 ^ b) (shr-lt (n - b) b (rw e fits)) h)) | no h ↦ omega arith ]
+
+  pub up-found : bit (b + zeros-up) v ≡ 1
+  up-found = sym (down-bit b zeros-up v) ∙ ends-on
+
+  pub up-passed : (k : ℕ) → k < zeros-up → bit (b + k) v ≡ 0
+  up-passed k h = sym (down-bit b k v) ∙ trailing-off n (v / 2 ^ b) k h
+
+-- nothing is left from bit b up
+pub up-none : (b k v : ℕ) → v / 2 ^ b ≡ 0 → bit (b + k) v ≡ 0
+up-none b k v e = rest-off b (b + k) v e (omega arith)
+
+-- ── the first bit on from bit b down: the zeros at the top of the word shifted up, its bit b at the top ──
+module _ (n v b s : ℕ) (top : s + suc b ≡ n) where
+  abbrev shifted : ℕ
+  shifted = v * 2 ^ s % 2 ^ n
+
+  moved : (k : ℕ) → k ≤ b → bit (s + (b - k)) shifted ≡ bit (b - k) v
+  moved k h = up-bit n s (b - k) v (omega arith)
+
+  pub down-none : shifted ≡ 0 → (k : ℕ) → k ≤ b → bit (b - k) v ≡ 0
+  down-none e k h = sym (moved k h) ∙ ap (bit (s + (b - k))) e ∙ bit-of-zero (s + (b - k))
+
+  module _ (some : ¬ (shifted ≡ 0)) where
+    abbrev zeros-down : ℕ
+    zeros-down = leadingZeros n shifted
+
+    fits : shifted < 2 ^ n
+    fits = mod-lt (v * 2 ^ s) (pow-pos n)
+
+    pos : 0 < shifted
+    pos = omega (arith, some)
+
+    short : zeros-down < n
+    short = omega (arith, leading-top n shifted pos fits .1)
+
+    starts-on : bit (n - suc zeros-down) shifted ≡ 1
+    starts-on = leading-on n shifted (n - suc zeros-down) pos fits (omega (arith, short))
+
+    pub down-inside : zeros-down ≤ b
+    down-inside = elim (decLe zeros-down b) [ yes h ↦ h | no h ↦ absurd (omega (arith, starts-on, up-below n s (n - suc zeros-down) v (omega (arith, h, short, top)) (omega arith))) ]
+
+    pub down-found : bit (b - zeros-down) v ≡ 1
+    down-found = let e : s + (b - zeros-down) ≡ n - suc zeros-down = omega (arith, down-inside, top) in sym (moved zeros-down down-inside) ∙ ap (λ (j : ℕ). bit j shifted) e ∙ starts-on
+
+    pub down-passed : (k : ℕ) → k < zeros-down → bit (b - k) v ≡ 0
+    down-passed k h = sym (moved k (omega (arith, h, down-inside))) ∙ leading-off n shifted (s + (b - k)) pos fits (omega (arith, h, down-inside, top))
+
+-- ── two words as one ──
+module _ (high low : ℕ) (fits : low < 2 ^ 32) where
+  abbrev both : ℕ
+  both = high * 4294967296 + low
+
+  pub low-half : (j : ℕ) → j < 32 → bit j both ≡ bit j low
+  low-half j h = let e : suc (31 - j) + j ≡ 32 = omega arith in sym (low-bit (31 - j) j both) ∙ ap (λ (m : ℕ). bit j (both % 2 ^ m)) e ∙ ap (bit j) (low-of high 32 fits)
+
+  pub high-half : (j : ℕ) → bit (32 + j) both ≡ bit j high
+  high-half j = sym (down-bit 32 j both) ∙ ap (bit j) (high-of high 32 fits)

@@ -7,6 +7,8 @@ ghost use Rattle.model.specs.Parts.{nearest, neighbour, pick};
 ghost use Rattle.leaves.specs.FreeMap.{toldBy};
 ghost use Rattle.leaves.specs.Search.{markAround, Around};
 use crate::cells::at16;
+use crate::close::ahead;
+use crate::close::behind;
 use crate::pool::by_hand;
 use crate::search::first_mark;
 use crate::search::last_mark;
@@ -81,8 +83,8 @@ fn beyond(sizes: Sizes, map: &[u32], record: usize, below: usize, above: usize) 
     (record + record + records + 1) % records
 }
 
-// The free record nearest to another, the lower of two equally near: the search goes down and up from it, word by word.
-pub fn nearest(sizes: Sizes, map: &[u32], record: usize) -> usize
+// The free record nearest to another, where none may be close: the words on both sides are passed in step.
+fn far(sizes: Sizes, map: &[u32], record: usize) -> usize
     requires { ⌜ (sizes .records ≤ 32 * length (now map)) × (0 < sizes .records) × (sizes .records < 65536) × («record» < 65536) ⌝ }
     ensures { λ r. ⌜ r ≡ nearest sizes (toldBy (now (map .entry))) «record» ⌝ }
 {
@@ -97,6 +99,31 @@ pub fn nearest(sizes: Sizes, map: &[u32], record: usize) -> usize
         return beyond(sizes, map, record, record + 1, record);
     }
     beyond(sizes, map, record, less(w + 1, k) * 32, (w + k) * 32)
+}
+
+// The free record nearest to another, the lower of two equally near: first in its own word and those beside it, where each side shows 33 records or more.
+pub fn nearest(sizes: Sizes, map: &[u32], record: usize) -> usize
+    requires { ⌜ (sizes .records ≤ 32 * length (now map)) × (0 < sizes .records) × (sizes .records < 65536) × («record» < 65536) ⌝ }
+    ensures { λ r. ⌜ r ≡ nearest sizes (toldBy (now (map .entry))) «record» ⌝ }
+{
+    let records = sizes.records;
+    if record < records {
+        let down = behind(map, record);
+        let up = ahead(map, record);
+        if down <= up {
+            if down <= 33 {
+                return record - down;
+            }
+        } else if record + up < records {
+            if up <= 32 + record % 32 {
+                return record + up;
+            }
+            if record < 32 {
+                return record + up;
+            }
+        }
+    }
+    far(sizes, map, record)
 }
 
 // The record that a page with no address takes: the free one nearest to its neighbour's, or by the hand where it has no neighbour.

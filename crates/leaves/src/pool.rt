@@ -5,6 +5,7 @@ ghost use lib.ListN.{length};
 ghost use Rattle.model.specs.Parts.{byHand};
 ghost use Rattle.model.specs.Pool.{taken, deposited};
 ghost use Rattle.leaves.specs.FreeMap.{toldBy};
+use crate::close::ahead;
 use crate::search::first_mark;
 use model::frame::Pool;
 use model::sizes::Sizes;
@@ -15,7 +16,15 @@ pub fn by_hand(sizes: Sizes, map: &[u32], hand: usize) -> usize
     ensures { λ r. ⌜ r ≡ byHand sizes (toldBy (now (map .entry))) hand ⌝ }
 {
     let records = sizes.records;
-    let high = first_mark(map, hand, records);
+    let near = hand + ahead(map, hand);
+    if near < records {
+        return near;
+    }
+    let next = hand / 32 * 32 + 64;
+    if next >= records {
+        return first_mark(map, 0, hand);
+    }
+    let high = first_mark(map, next, records);
     if high < records {
         return high;
     }

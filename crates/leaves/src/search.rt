@@ -1,11 +1,12 @@
-// The search of a map of marks, word by word: a word with no mark is passed over whole, and inside a word one count of zeros finds the mark.
+// The search of a map of marks, word by word: words with no mark are passed over whole, eight at once, and inside a word one count of zeros finds the mark.
 ghost use mathlib.Core.Path.{_≡_};
 ghost use Prim.Native.Nat.{suc, _+_, _-_, _*_, _<_, _≤_};
 ghost use lib.Dec.{eqb, ltb};
 ghost use lib.ListN.{length};
 ghost use Rattle.tables.specs.Base.{at, if, find};
 ghost use Rattle.tables.specs.Bits.{bit};
-ghost use Rattle.leaves.specs.Search.{firstMark, lastMark};
+ghost use Rattle.leaves.specs.Search.{firstMark, lastMark, Unmarked};
+use crate::words::zeros;
 
 // The lower of two numbers.
 pub fn least(a: usize, b: usize) -> usize
@@ -52,12 +53,42 @@ fn highest(word: u32, place: usize) -> usize
     u32::leading_zeros(rest) as usize
 }
 
+// Words from `from` up to `to` are passed, eight at once, as long as none of the eight has a mark; the result is where that ends.
+fn eights_up(map: &[u32], from: usize, to: usize) -> usize
+    requires { ⌜ (from ≤ to) × (to ≤ length (now map)) ⌝ }
+    ensures { λ r. ⌜ (from ≤ r) × (r ≤ to) × Unmarked (now (map .entry)) from r ⌝ }
+{
+    let mut w = from;
+    while to - w >= 8 {
+        if zeros(map, w, 8) {} else {
+            return w;
+        }
+        w += 8;
+    }
+    w
+}
+
+// The same from `to` down to `from`.
+fn eights_down(map: &[u32], from: usize, to: usize) -> usize
+    requires { ⌜ (from ≤ to) × (to ≤ length (now map)) ⌝ }
+    ensures { λ r. ⌜ (from ≤ r) × (r ≤ to) × Unmarked (now (map .entry)) r to ⌝ }
+{
+    let mut w = to;
+    while w - from >= 8 {
+        if zeros(map, w - 8, 8) {} else {
+            return w;
+        }
+        w -= 8;
+    }
+    w
+}
+
 // The first word from `from` up to `to` with a mark, or `to`.
 fn next_word(map: &[u32], from: usize, to: usize) -> usize
     requires { ⌜ (from ≤ to) × (to ≤ length (now map)) ⌝ }
     ensures { λ r. ⌜ r ≡ find (to - from) (λ w. ltb 0 (at (now (map .entry)) w)) from ⌝ }
 {
-    let mut w = from;
+    let mut w = eights_up(map, from, to);
     while w < to {
         if map[w] != 0 {
             return w;
@@ -72,7 +103,7 @@ fn last_word(map: &[u32], from: usize, to: usize) -> usize
     requires { ⌜ (from ≤ to) × (to ≤ length (now map)) ⌝ }
     ensures { λ r. ⌜ r ≡ to - find (to - from) (λ k. ltb 0 (at (now (map .entry)) (to - suc k))) 0 ⌝ }
 {
-    let mut w = to;
+    let mut w = eights_down(map, from, to);
     while w > from {
         if map[w - 1] != 0 {
             return w;

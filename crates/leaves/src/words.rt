@@ -34,12 +34,11 @@ pub fn copy_part(from: &[u32], from_part: usize, to: &mut [u32], to_part: usize,
     }
 }
 
-// Whether all words of the part are 0: all are looked at, so that many are compared at once.
-pub fn all_zero(words: &[u32], size: usize, part: usize) -> bool
-    requires { ⌜ part * size + size ≤ length (now words) ⌝ }
-    ensures { λ r. ⌜ r ≡ test (each size (λ w. same (at (now (words .entry)) (part * size + w)) 0)) ⌝ }
+// Whether so many words from `start` up are 0: all are looked at, so that many are compared at once.
+pub fn zeros(words: &[u32], start: usize, size: usize) -> bool
+    requires { ⌜ start + size ≤ length (now words) ⌝ }
+    ensures { λ r. ⌜ r ≡ test (each size (λ w. same (at (now (words .entry)) (start + w)) 0)) ⌝ }
 {
-    let start = part * size;
     let mut ok = true;
     let mut w = 0;
     while w < size {
@@ -47,4 +46,12 @@ pub fn all_zero(words: &[u32], size: usize, part: usize) -> bool
         w += 1;
     }
     ok
+}
+
+// Whether all words of the part are 0.
+pub fn all_zero(words: &[u32], size: usize, part: usize) -> bool
+    requires { ⌜ part * size + size ≤ length (now words) ⌝ }
+    ensures { λ r. ⌜ r ≡ test (each size (λ w. same (at (now (words .entry)) (part * size + w)) 0)) ⌝ }
+{
+    zeros(words, part * size, size)
 }

@@ -17,7 +17,7 @@ abbrev μ-loop : tie.MeasureT-loop
 μ-loop map from to w₀ w = w
 
 loop-holds : tie.Need-loop-holds Inv-loop μ-loop
-loop-holds c = (omega arith, omega arith, λ i h l. absurd (omega arith))
+loop-holds c = c .eights-down .ensures
 
 returns : tie.Need-returns Inv-loop μ-loop
 returns c =
@@ -53,4 +53,4 @@ returns-2 c =
     omega (arith, q, s .pre .0)
 
 pub last-word-spec : {M : Type 1} → statement M
-last-word-spec = tie.close (tie.spec Inv-loop μ-loop loop-holds (λ c. search needs) (λ c. search needs) (λ c. search needs) returns (λ c. search needs) (λ c. search needs) loop-again returns-2)
+last-word-spec = tie.close (tie.spec Inv-loop μ-loop (λ c κs. search needs) loop-holds (λ c. search needs) (λ c. search needs) (λ c. search needs) returns (λ c. search needs) (λ c. search needs) loop-again returns-2)

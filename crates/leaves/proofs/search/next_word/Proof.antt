@@ -17,7 +17,7 @@ abbrev μ-loop : tie.MeasureT-loop
 μ-loop map from to w₀ w = to - w
 
 loop-holds : tie.Need-loop-holds Inv-loop μ-loop
-loop-holds c = (omega arith, omega arith, λ i h l. absurd (omega arith))
+loop-holds c = c .eights-up .ensures
 
 returns : tie.Need-returns Inv-loop μ-loop
 returns c =
@@ -44,4 +44,4 @@ returns-2 c =
     sym (find-none (a .to - a .from) (λ k. ltb 0 (at m k)) (a .from) (λ k h b t. omega (arith, ltb→lt 0 (at m k) t, l .loop .inv .2 k h (omega (arith, b, c .loop-test .left, s .pre .0)))) ∙ omega (arith, s .pre .0))
 
 pub next-word-spec : {M : Type 1} → statement M
-next-word-spec = tie.close (tie.spec Inv-loop μ-loop loop-holds (λ c. search needs) (λ c. search needs) returns (λ c. search needs) (λ c. search needs) loop-again returns-2)
+next-word-spec = tie.close (tie.spec Inv-loop μ-loop (λ c κs. search needs) loop-holds (λ c. search needs) (λ c. search needs) returns (λ c. search needs) (λ c. search needs) loop-again returns-2)

@@ -1,19 +1,19 @@
--- `all_zero` meets its contract: ok tells whether the words passed are 0.
+-- `zeros` meets its contract: ok tells whether the words passed are 0.
 use borrow.Author.Needs.{needs}
 use mathlib.Core.Path.{_≡_}
-use Prim.Native.Nat.{_+_, _-_, _*_, _≤_}
+use Prim.Native.Nat.{_+_, _-_, _≤_}
 use native.Mathlib.Omega.{arith}
 use Rattle.tables.specs.Base.{at}
 use Rattle.tables.specs.Rule.{same, each, test}
 use Rattle.tables.specs.Turn.{each-none, each-next, each-end, test-same}
-use Rattle.leaves.proofs.words.all_zero.Statement.{statement}
-use Rattle.leaves.proofs.words.all_zero.Tie as tie
+use Rattle.leaves.proofs.words.zeros.Statement.{statement}
+use Rattle.leaves.proofs.words.zeros.Tie as tie
 
 abbrev Inv-loop : tie.InvT-loop
-Inv-loop words size part start ok₀ w₀ ok w = (ok ≡ test (each w (λ k. same (at words (part * size + k)) 0))) × (w ≤ size)
+Inv-loop words start size ok₀ w₀ ok w = (ok ≡ test (each w (λ k. same (at words (start + k)) 0))) × (w ≤ size)
 
 abbrev μ-loop : tie.MeasureT-loop
-μ-loop words size part start ok₀ w₀ ok w = size - w
+μ-loop words start size ok₀ w₀ ok w = size - w
 
 loop-holds : tie.Need-loop-holds Inv-loop μ-loop
 loop-holds c = (each-none _, omega arith)
@@ -24,5 +24,5 @@ loop-again c = (each-next _ _ _ _ (c .before .before .loop .inv .0) (test-same _
 returns : tie.Need-returns Inv-loop μ-loop
 returns c = each-end _ _ _ _ (c .before .loop .inv .0) (c .before .loop .inv .1) (c .loop-test .left)
 
-pub all-zero-spec : {M : Type 1} → statement M
-all-zero-spec = tie.close (tie.spec Inv-loop μ-loop (λ c. search needs) loop-holds (λ c. search needs) (λ c. search needs) (λ c. search needs) (λ c. search needs) (λ c. search needs) loop-again returns)
+pub zeros-spec : {M : Type 1} → statement M
+zeros-spec = tie.close (tie.spec Inv-loop μ-loop loop-holds (λ c. search needs) (λ c. search needs) (λ c. search needs) (λ c. search needs) (λ c. search needs) loop-again returns)
