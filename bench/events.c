@@ -322,6 +322,29 @@ static void create(struct keeper *k, size_t slot, uint16_t account, uint32_t num
     k->disk.accounts.at[slot] = account;
 }
 
+/* The first request leaves the line, or goes to its back. */
+static void leave(struct halves line, bool back)
+{
+    uint16_t entry = line.at[0];
+    memmove(line.at, line.at + 1, (line.len - 1) * sizeof *line.at);
+    line.at[line.len - 1] = 0;
+    if (back)
+        push_end(line, entry - 1u);
+}
+
+static uint32_t turn(struct keeper *k)
+{
+    uint32_t how = treatment(k);
+    switch (how) {
+    case NOBODY: return 0;
+    case SERVED: leave(k->memory.line, false); return 1;
+    case TO_BACK: leave(k->memory.line, true); return 0;
+    case FAULTS: fault(k, k->memory.line.at[0] - 1u); return 0;
+    case CLAIMS: claim(k); return 0;
+    default: leave(k->memory.line, false); return how - SENT_AWAY;
+    }
+}
+
 uint32_t carry_out(struct keeper *k, const struct request *r)
 {
     size_t pages = k->sizes.pages, page = r->first * pages + r->second;
@@ -336,6 +359,8 @@ uint32_t carry_out(struct keeper *k, const struct request *r)
     case UPDATE: update(k, r->first); break;
     case PAGE_DONE: page_done(k, r->first, r->second == 1); break;
     case MAP_DONE: map_done(k, r->first, r->second == 1); break;
+    case JOIN: push_end(k->memory.line, page); break;
+    case TURN: return turn(k);
     case LIMIT: k->disk.limits.at[r->first] = (uint16_t)r->second; break;
     default: return touch(k, r, page);
     }

@@ -8,11 +8,15 @@
 /* a page look asks as an event of this kind */
 enum { LOOK = 0x100 };
 
+/* how a turn treats the first request of the line; SENT_AWAY + n: question n sends it away */
+enum { NOBODY, SERVED, TO_BACK, FAULTS, CLAIMS, SENT_AWAY };
+
 bool fits_disk(const struct keeper *k);
 bool fits_memory(const struct keeper *k);
 bool keeps_disk_rules(const struct keeper *k);
 bool keeps_memory_rules(const struct keeper *k);
 uint32_t first_refusal(const struct keeper *k, const struct request *r);
+uint32_t treatment(const struct keeper *k);
 uint32_t carry_out(struct keeper *k, const struct request *r);
 
 /* The frame that a page is in, or -1. */

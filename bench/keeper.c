@@ -36,6 +36,7 @@ static void clear_memory(struct memory *m)
     memset(m->active.at, 0, m->active.len);
     memset(m->updating.at, 0, m->updating.len);
     memset(m->images.at, 0, m->images.len * sizeof *m->images.at);
+    memset(m->line.at, 0, m->line.len * sizeof *m->line.at);
     memset(m->used.at, 0, m->used.len * sizeof *m->used.at);
     *m->pool = (struct pool){0};
 }

@@ -9,11 +9,13 @@ enum {
     MOST_WORDS = 1024, MOST_RECORDS = 4096, MOST_FRAMES = 64,
     MOST_SLOTS = 64, MOST_PAGES = 256, MOST_ACCOUNTS = 16
 };
+enum { LINE = 32 }; /* requests that can wait */
 enum { FREE, FILED, NULLED, LIVE, RELEASED, LEAVING }; /* states of a record */
 enum { NO_TRANSFER, READING, WRITING };
-enum { /* kinds of request; CUT is the event program's own */
+enum { /* kinds of request; CUT is the event program's own, JOIN and TURN are the library's */
     CREATE = 1, DELETE, ACTIVATE, DEACTIVATE, FAULT, READ, WRITE, CLAIM,
-    WIRE, UNWIRE, TRUNCATE, UPDATE, PAGE_DONE, MAP_DONE, LIMIT, CUT
+    WIRE, UNWIRE, TRUNCATE, UPDATE, PAGE_DONE, MAP_DONE, LIMIT, CUT,
+    JOIN = 18, TURN
 };
 
 struct sizes { size_t words, records, frames, slots, pages, accounts; };
@@ -50,6 +52,7 @@ struct memory {
     struct bytes active;
     struct bytes updating;
     struct halves images;
+    struct halves line;
     struct halves used;
     struct pool *pool;
 };
@@ -61,7 +64,7 @@ struct keeper {
     struct memory memory;
 };
 
-/* kind: the event program's tag; then its values in that program's order */
+/* kind: the event program's tag, or the library's own; then its values in that program's order */
 struct request { uint32_t kind, first, second, third, fourth; };
 struct answer { uint32_t refusal, result; };
 struct change { uint32_t slot, page, old, reason; };

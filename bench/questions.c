@@ -1,4 +1,4 @@
-/* Questions 3 to 22, in number order for each event. */
+/* Questions 3 to 22 and 27, in number order for each event. */
 #include "inside.h"
 
 static bool in_range(const struct keeper *k, const struct request *r)
@@ -7,9 +7,9 @@ static bool in_range(const struct keeper *k, const struct request *r)
     switch (r->kind) {
     case CREATE: return r->first < z->slots && r->second < z->accounts && r->third > 0;
     case DELETE: case ACTIVATE: case DEACTIVATE: case UPDATE: return r->first < z->slots;
-    case FAULT: case WIRE: case UNWIRE: case LOOK: return r->first < z->slots && r->second < z->pages;
+    case FAULT: case WIRE: case UNWIRE: case JOIN: case LOOK: return r->first < z->slots && r->second < z->pages;
     case READ: case WRITE: return r->first < z->slots && r->second < z->pages && r->third < z->words;
-    case CLAIM: return true;
+    case CLAIM: case TURN: return true;
     case TRUNCATE: return r->first < z->slots && r->second <= z->pages;
     case PAGE_DONE: return r->first < z->frames && r->second <= 1;
     case MAP_DONE: return r->first < z->slots && r->second <= 1;
@@ -97,6 +97,32 @@ static uint32_t truncate(const struct keeper *k, size_t from, size_t end)
     return wired ? 16 : 0;
 }
 
+/* The questions of a fault from 4 on. */
+static uint32_t whole_fault(const struct keeper *k, size_t page)
+{
+    size_t slot = page / k->sizes.pages;
+    if (k->disk.numbers.at[slot] == 0)
+        return 4;
+    return k->memory.active.at[slot] ? fault(k, page) : 8;
+}
+
+uint32_t treatment(const struct keeper *k)
+{
+    if (k->memory.line.at[0] == 0)
+        return NOBODY;
+    size_t page = k->memory.line.at[0] - 1u;
+    int frame = frame_of(k, page);
+    if (frame >= 0)
+        return k->memory.frames.at[frame].transfer == NO_TRANSFER ? SERVED : TO_BACK;
+    uint32_t refusal = whole_fault(k, page);
+    return refusal == 0 ? FAULTS : refusal == 20 ? CLAIMS : SENT_AWAY + refusal;
+}
+
+static uint32_t nothing_to_claim(const struct keeper *k)
+{
+    return k->memory.removal_list.at[0] == 0 ? 21 : 0;
+}
+
 uint32_t first_refusal(const struct keeper *k, const struct request *r)
 {
     if (!in_range(k, r))
@@ -104,7 +130,9 @@ uint32_t first_refusal(const struct keeper *k, const struct request *r)
     switch (r->kind) { /* no slot events */
     case CREATE: return create(k, r);
     case LIMIT: return 0;
-    case CLAIM: return k->memory.removal_list.at[0] == 0 ? 21 : 0;
+    case CLAIM: return nothing_to_claim(k);
+    case JOIN: return k->memory.line.at[LINE - 1] != 0 ? 27 : 0;
+    case TURN: return treatment(k) == CLAIMS ? nothing_to_claim(k) : 0;
     case PAGE_DONE: return k->memory.frames.at[r->first].transfer == NO_TRANSFER ? 22 : 0;
     }
     size_t slot = r->first, pages = k->sizes.pages, page = slot * pages + r->second;

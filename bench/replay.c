@@ -24,6 +24,7 @@ static uint32_t free_map[(R + 31) / 32];
 static uint8_t active[S];
 static uint8_t updating[S];
 static uint16_t images[S * N];
+static uint16_t line[32];
 static uint16_t used[Q];
 static struct pool pool;
 
@@ -48,6 +49,7 @@ static struct keeper keeper = {
         SLICE(active),
         SLICE(updating),
         SLICE(images),
+        SLICE(line),
         SLICE(used),
         &pool,
     },
@@ -98,6 +100,7 @@ static struct answer cut_and_restart(void)
     memset(frame_words, 0xA5, sizeof frame_words);
     memset(addresses, 0xA5, sizeof addresses);
     memset(states, 0xA5, sizeof states);
+    memset(line, 0xA5, sizeof line);
     return keeper_restart(&keeper);
 }
 

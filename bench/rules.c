@@ -27,7 +27,7 @@ bool fits_memory(const struct keeper *k)
         && m->free_queue.len == z->frames && m->removal_list.len == z->frames && m->addresses.len == pages
         && m->states.len == z->records && m->owners.len == z->records
         && m->free_map.len == (z->records + 31) / 32 && m->active.len == z->slots
-        && m->updating.len == z->slots && m->images.len == pages && m->used.len == z->accounts;
+        && m->updating.len == z->slots && m->images.len == pages && m->line.len == LINE && m->used.len == z->accounts;
 }
 
 /* Marks of entries seen, one bit an entry. */
@@ -229,6 +229,19 @@ static bool records_ok(const struct keeper *k, const struct tally *t)
     return m->pool->free == free && m->pool->hand < k->sizes.records && held == t->held && filed == t->filed;
 }
 
+/* Pages that exist, packed at the front; the same page may wait twice. */
+static bool line_ok(const struct keeper *k)
+{
+    bool ended = false;
+    for (size_t i = 0; i < LINE; i++) {
+        uint16_t entry = k->memory.line.at[i];
+        if (entry > k->sizes.slots * k->sizes.pages || (entry != 0 && ended))
+            return false;
+        ended = entry == 0;
+    }
+    return true;
+}
+
 static bool counts_ok(const struct keeper *k, const struct tally *t)
 {
     for (size_t account = 0; account < k->sizes.accounts; account++)
@@ -247,5 +260,5 @@ bool keeps_memory_rules(const struct keeper *k)
     memset(t.used, 0, sizeof t.used);
     t.held = t.filed = 0;
     return queue_ok(k, k->memory.free_queue.at, &t, true) && queue_ok(k, k->memory.removal_list.at, &t, false)
-        && frames_ok(k, &t) && slots_ok(k, &t) && records_ok(k, &t) && counts_ok(k, &t);
+        && frames_ok(k, &t) && slots_ok(k, &t) && records_ok(k, &t) && counts_ok(k, &t) && line_ok(k);
 }

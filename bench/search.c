@@ -33,7 +33,7 @@ static struct tables {
     uint8_t states[R], owners[R];
     uint32_t free_map[R / 32];
     uint8_t active[S], updating[S];
-    uint16_t images[S * N], used[Q];
+    uint16_t images[S * N], line[LINE], used[Q];
     struct pool pool;
 } memory, start;
 
@@ -43,7 +43,7 @@ static struct keeper keeper = {
     {SLICE(disk.records), SLICE(disk.numbers), SLICE(disk.accounts), SLICE(disk.maps), SLICE(disk.limits)},
     {SLICE(memory.frames), SLICE(memory.frame_words), SLICE(memory.free_queue), SLICE(memory.removal_list), SLICE(memory.addresses),
      SLICE(memory.states), SLICE(memory.owners), SLICE(memory.free_map), SLICE(memory.active), SLICE(memory.updating), SLICE(memory.images),
-     SLICE(memory.used), &memory.pool},
+     SLICE(memory.line), SLICE(memory.used), &memory.pool},
 };
 
 /* All records but one are listed by designs that are not active; slot 0's is. */
@@ -80,7 +80,7 @@ __attribute__((noinline)) static uint32_t fault(int side, uint32_t page)
     return keeper_apply(sizes, asked, (KeeperFrame *)m->frames.at, m->frames.len, (KeeperPool *)m->pool, LENT(d->records), LENT(d->numbers),
                         LENT(d->accounts), LENT(d->maps), LENT(d->limits), LENT(m->frame_words), LENT(m->free_queue), LENT(m->removal_list),
                         LENT(m->addresses), LENT(m->states), LENT(m->owners), LENT(m->free_map), LENT(m->active), LENT(m->updating),
-                        LENT(m->images), LENT(m->used)).refusal;
+                        LENT(m->images), LENT(m->line), LENT(m->used)).refusal;
 }
 
 /* The fault was carried out, the page has that record, and the hand stands past it. */

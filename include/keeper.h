@@ -109,7 +109,10 @@ enum {
     KEEPER_UPDATE = 12,     /* slot */
     KEEPER_PAGE_DONE = 13,  /* frame, good: 1 the transfer ended well, 0 it failed */
     KEEPER_MAP_DONE = 14,   /* slot, good: 1 the map image was stored, 0 it was not */
-    KEEPER_LIMIT = 15       /* account, pages */
+    KEEPER_LIMIT = 15,      /* account, pages */
+    /* 16 is the event program's cut, 17 is reserved: both are answered 3 */
+    KEEPER_JOIN = 18,       /* slot, page: the page waits in line */
+    KEEPER_TURN = 19        /* result: 1 if the first page of the line is served, the number that sends it away, else 0 */
 };
 
 /* The refusals. */
@@ -135,10 +138,12 @@ enum {
     KEEPER_AT_LIMIT = 18,       /* write to a page that is not charged: the account is at its limit or above */
     KEEPER_NO_RECORD = 19,      /* fault: no record is free */
     KEEPER_NO_FRAME = 20,       /* fault: no frame is free */
-    KEEPER_NOTHING_TO_CLAIM = 21, /* claim: the removal list is empty */
+    KEEPER_NOTHING_TO_CLAIM = 21, /* claim, turn: the removal list is empty */
     KEEPER_NO_TRANSFER = 22,    /* done: no such transfer or update is under way */
     /* 23 is reserved: no call answers it */
-    KEEPER_LIST_SHORT = 24      /* mend: the list has fewer than S * (N + 2) places */
+    KEEPER_LIST_SHORT = 24,     /* mend: the list has fewer than S * (N + 2) places */
+    /* 25 and 26 are reserved: no call answers them */
+    KEEPER_LINE_FULL = 27       /* join: 32 pages are waiting */
 };
 
 /* tables and calls: made by tools/tables.py from tools/tables.txt */
@@ -161,6 +166,7 @@ enum {
     uint8_t active[S];                  /* the slot's active switch, 0 or 1 */                                                                                  \
     uint8_t updating[S];                /* the slot's update-under-way switch, 0 or 1 */                                                                        \
     uint16_t images[(S) * (N)];         /* map images: 0, or record + 1 */                                                                                      \
+    uint16_t line[32];                  /* the waiting line, a queue of pages: slot * N + page + 1, packed at the front, then 0 */                              \
     uint16_t used[Q];                   /* the account's used count */                                                                                          \
     KeeperPool pool;                    /* the hand, where the search for a free record starts for a page without a neighbour, and the count of free records */
 
@@ -183,6 +189,7 @@ enum {
     KEEPER_LEND((memory).active),       \
     KEEPER_LEND((memory).updating),     \
     KEEPER_LEND((memory).images),       \
+    KEEPER_LEND((memory).line),         \
     KEEPER_LEND((memory).used)
 #define KEEPER_LEND_CHANGES(changes) &(changes)->slot, sizeof(changes) / sizeof(uint32_t) /* an array of KeeperChange */
 
@@ -219,6 +226,7 @@ KeeperAnswer keeper_restart(
     uint8_t *active, size_t active_count,              /* S */
     uint8_t *updating, size_t updating_count,          /* S */
     uint16_t *images, size_t images_count,             /* S * N */
+    uint16_t *line, size_t line_count,                 /* 32 */
     uint16_t *used, size_t used_count                  /* Q */
 );
 
@@ -243,6 +251,7 @@ KeeperAnswer keeper_apply(
     uint8_t *active, size_t active_count,              /* S */
     uint8_t *updating, size_t updating_count,          /* S */
     uint16_t *images, size_t images_count,             /* S * N */
+    uint16_t *line, size_t line_count,                 /* 32 */
     uint16_t *used, size_t used_count                  /* Q */
 );
 
@@ -271,6 +280,7 @@ KeeperAnswer keeper_apply_all(
     uint8_t *active, size_t active_count,              /* S */
     uint8_t *updating, size_t updating_count,          /* S */
     uint16_t *images, size_t images_count,             /* S * N */
+    uint16_t *line, size_t line_count,                 /* 32 */
     uint16_t *used, size_t used_count                  /* Q */
 );
 
@@ -297,6 +307,7 @@ KeeperPart keeper_page_look(
     const uint8_t *active, size_t active_count,              /* S */
     const uint8_t *updating, size_t updating_count,          /* S */
     const uint16_t *images, size_t images_count,             /* S * N */
+    const uint16_t *line, size_t line_count,                 /* 32 */
     const uint16_t *used, size_t used_count                  /* Q */
 );
 

@@ -63,10 +63,11 @@ enum {
     KEEPER_TABLE_ACTIVE = 13,
     KEEPER_TABLE_UPDATING = 14,
     KEEPER_TABLE_IMAGES = 15,
-    KEEPER_TABLE_USED = 16,
-    KEEPER_TABLE_POOL = 17,
+    KEEPER_TABLE_LINE = 16,
+    KEEPER_TABLE_USED = 17,
+    KEEPER_TABLE_POOL = 18,
     KEEPER_DISK_COUNT = 5,
-    KEEPER_TABLE_COUNT = 18
+    KEEPER_TABLE_COUNT = 19
 };
 
 /* The sizes and all tables: a name for everything that is lent. */
@@ -88,6 +89,7 @@ typedef struct {
     uint8_t *active;        /* S: the slot's active switch, 0 or 1 */
     uint8_t *updating;      /* S: the slot's update-under-way switch, 0 or 1 */
     uint16_t *images;       /* S * N: map images: 0, or record + 1 */
+    uint16_t *line;         /* 32: the waiting line, a queue of pages: slot * N + page + 1, packed at the front, then 0 */
     uint16_t *used;         /* Q: the account's used count */
     KeeperPool *pool;       /* 1: the hand, where the search for a free record starts for a page without a neighbour, and the count of free records */
 } Keeper;
@@ -149,6 +151,7 @@ static inline size_t keeper_lay(Keeper *keeper, unsigned char *block)
     keeper->active = (uint8_t *)keeper_take(block, &at, sizeof *keeper->active, sizes.slots);
     keeper->updating = (uint8_t *)keeper_take(block, &at, sizeof *keeper->updating, sizes.slots);
     keeper->images = (uint16_t *)keeper_take(block, &at, sizeof *keeper->images, sizes.slots * sizes.pages);
+    keeper->line = (uint16_t *)keeper_take(block, &at, sizeof *keeper->line, 32);
     keeper->used = (uint16_t *)keeper_take(block, &at, sizeof *keeper->used, sizes.accounts);
     keeper->pool = (KeeperPool *)keeper_take(block, &at, sizeof *keeper->pool, 1);
     return at;
@@ -175,6 +178,7 @@ static inline KeeperTable keeper_table(const Keeper *keeper, size_t number)
     case KEEPER_TABLE_ACTIVE: return keeper_described("active", keeper->active, sizeof *keeper->active, sizes.slots);
     case KEEPER_TABLE_UPDATING: return keeper_described("updating", keeper->updating, sizeof *keeper->updating, sizes.slots);
     case KEEPER_TABLE_IMAGES: return keeper_described("images", keeper->images, sizeof *keeper->images, sizes.slots * sizes.pages);
+    case KEEPER_TABLE_LINE: return keeper_described("line", keeper->line, sizeof *keeper->line, 32);
     case KEEPER_TABLE_USED: return keeper_described("used", keeper->used, sizeof *keeper->used, sizes.accounts);
     case KEEPER_TABLE_POOL: return keeper_described("pool", keeper->pool, sizeof *keeper->pool, 1);
     default: return keeper_described("", NULL, 0, 0);
@@ -216,6 +220,7 @@ static inline KeeperAnswer keeper_easy_restart(Keeper *keeper)
         keeper->active, sizes.slots,
         keeper->updating, sizes.slots,
         keeper->images, sizes.slots * sizes.pages,
+        keeper->line, 32,
         keeper->used, sizes.accounts);
 }
 
@@ -242,6 +247,7 @@ static inline KeeperAnswer keeper_easy_apply(Keeper *keeper, KeeperRequest reque
         keeper->active, sizes.slots,
         keeper->updating, sizes.slots,
         keeper->images, sizes.slots * sizes.pages,
+        keeper->line, 32,
         keeper->used, sizes.accounts);
 }
 
@@ -269,6 +275,7 @@ static inline KeeperAnswer keeper_easy_apply_all(Keeper *keeper, const KeeperReq
         keeper->active, sizes.slots,
         keeper->updating, sizes.slots,
         keeper->images, sizes.slots * sizes.pages,
+        keeper->line, 32,
         keeper->used, sizes.accounts);
 }
 
@@ -296,6 +303,7 @@ static inline KeeperPart keeper_easy_page_look(const Keeper *keeper, size_t slot
         keeper->active, sizes.slots,
         keeper->updating, sizes.slots,
         keeper->images, sizes.slots * sizes.pages,
+        keeper->line, 32,
         keeper->used, sizes.accounts);
 }
 
@@ -400,6 +408,16 @@ static inline KeeperAnswer keeper_limit(Keeper *keeper, uint32_t account, uint32
     return keeper_asked(keeper, KEEPER_LIMIT, account, pages, 0, 0);
 }
 
+static inline KeeperAnswer keeper_join(Keeper *keeper, uint32_t slot, uint32_t page)
+{
+    return keeper_asked(keeper, KEEPER_JOIN, slot, page, 0, 0);
+}
+
+static inline KeeperAnswer keeper_turn(Keeper *keeper)
+{
+    return keeper_asked(keeper, KEEPER_TURN, 0, 0, 0, 0);
+}
+
 /* A refusal in words. */
 static inline const char *keeper_text(uint32_t refusal)
 {
@@ -425,9 +443,10 @@ static inline const char *keeper_text(uint32_t refusal)
     case KEEPER_AT_LIMIT: return "write to a page that is not charged: the account is at its limit or above";
     case KEEPER_NO_RECORD: return "fault: no record is free";
     case KEEPER_NO_FRAME: return "fault: no frame is free";
-    case KEEPER_NOTHING_TO_CLAIM: return "claim: the removal list is empty";
+    case KEEPER_NOTHING_TO_CLAIM: return "claim, turn: the removal list is empty";
     case KEEPER_NO_TRANSFER: return "done: no such transfer or update is under way";
     case KEEPER_LIST_SHORT: return "mend: the list has fewer than S * (N + 2) places";
+    case KEEPER_LINE_FULL: return "join: 32 pages are waiting";
     default: return "no refusal of this keeper";
     }
 }

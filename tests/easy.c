@@ -118,6 +118,8 @@ static KeeperAnswer by_function(KeeperRequest r)
     case KEEPER_PAGE_DONE: return keeper_page_done(&keeper, r.first, r.second);
     case KEEPER_MAP_DONE: return keeper_map_done(&keeper, r.first, r.second);
     case KEEPER_LIMIT: return keeper_limit(&keeper, r.first, r.second);
+    case KEEPER_JOIN: return keeper_join(&keeper, r.first, r.second);
+    case KEEPER_TURN: return keeper_turn(&keeper);
     default: return keeper_easy_apply(&keeper, r);
     }
 }
@@ -125,7 +127,7 @@ static KeeperAnswer by_function(KeeperRequest r)
 static KeeperRequest any_request(void)
 {
     KeeperRequest r;
-    r.kind = 1 + random_below(16);
+    r.kind = 1 + random_below(19);
     r.first = random_below(r.kind == KEEPER_PAGE_DONE ? F + 1 : r.kind == KEEPER_LIMIT ? Q + 1 : S);
     r.second = random_below(r.kind == KEEPER_PAGE_DONE || r.kind == KEEPER_MAP_DONE || r.kind == KEEPER_CREATE ? 2 : N + 1);
     r.third = r.kind == KEEPER_CREATE ? 1 + random_below(40) : random_below(W);
@@ -139,14 +141,14 @@ static int same_tables(void)
     return SAME(disk, records) && SAME(disk, numbers) && SAME(disk, accounts) && SAME(disk, maps) && SAME(disk, limits)
         && SAME(memory, frames) && SAME(memory, frame_words) && SAME(memory, free_queue) && SAME(memory, removal_list)
         && SAME(memory, addresses) && SAME(memory, states) && SAME(memory, owners) && SAME(memory, free_map)
-        && SAME(memory, active) && SAME(memory, updating) && SAME(memory, images) && SAME(memory, used)
+        && SAME(memory, active) && SAME(memory, updating) && SAME(memory, images) && SAME(memory, line) && SAME(memory, used)
         && memcmp(keeper.pool, &memory.pool, sizeof memory.pool) == 0;
 }
 
 static void test_events(void)
 {
     KeeperSizes sizes = sizes_of(W, R, F, S, N, Q);
-    unsigned done[17] = {0}, different = 0;
+    unsigned done[20] = {0}, different = 0;
     set_up(sizes);
     CHECK(keeper_format(sizes, KEEPER_LEND_DISK(disk)).refusal == KEEPER_DONE);
     CHECK(keeper_restart(sizes, EVERYTHING).refusal == KEEPER_DONE);
@@ -162,9 +164,8 @@ static void test_events(void)
         different += part.refusal == KEEPER_DONE ? words != keeper.frame_words + part.start : words != NULL;
     }
     CHECK(different == 0);
-    for (unsigned kind = 1; kind <= 15; kind++)
-        CHECK(done[kind] > 20);
-    CHECK(done[16] == 0);
+    for (unsigned kind = 1; kind <= 19; kind++)
+        CHECK(kind == 16 || kind == 17 ? done[kind] == 0 : done[kind] > 20);
 }
 
 /* ── many requests in one call ── */
@@ -223,8 +224,48 @@ static void test_transfers(void)
     CHECK(keeper_next_transfer(&keeper, F).way == KEEPER_NO_WAY && keeper_transfer(&keeper, F).way == KEEPER_NO_WAY);
 }
 
+/* ── the waiting line ── */
+static void report_all(void)
+{
+    for (KeeperTransfer t = keeper_next_transfer(&keeper, 0); t.way; t = keeper_next_transfer(&keeper, t.frame + 1))
+        CHECK(keeper_page_done(&keeper, (uint32_t)t.frame, 1).refusal == KEEPER_DONE);
+}
+
+/* 32 requests wait, of pages of an active design and of an empty slot. Turns, good dones, and a write to each page served: the request in place k
+   leaves within 3 k turns, in order. */
+static void test_line(void)
+{
+    enum { PLACES = sizeof memory.line / sizeof *memory.line };
+    unsigned gone = 0, turns = 0, served = 0, away = 0, woven = 0;
+    set_up(sizes_of(W, R, F, S, N, Q));
+    CHECK(keeper_limit(&keeper, 0, N).refusal == KEEPER_DONE && keeper_create(&keeper, 0, 0, 7).refusal == KEEPER_DONE);
+    CHECK(keeper_activate(&keeper, 0).refusal == KEEPER_DONE);
+    CHECK(keeper_turn(&keeper).refusal == KEEPER_DONE && keeper_turn(&keeper).result == 0);
+    for (uint32_t place = 0; place < PLACES; place++)
+        CHECK(keeper_join(&keeper, place % 8 == 5, place % N).refusal == KEEPER_DONE);
+    CHECK(keeper_join(&keeper, 0, 0).refusal == KEEPER_LINE_FULL && keeper_join(&keeper, S, 0).refusal == KEEPER_NO_RANGE);
+    while (gone < PLACES && turns < 3 * (gone + 1)) {
+        report_all();
+        const uint32_t page = keeper.line[0] - 1u;
+        const KeeperAnswer answer = keeper_turn(&keeper);
+        turns++;
+        CHECK(answer.refusal == KEEPER_DONE);
+        if (answer.result == 0)
+            continue;
+        CHECK(page == (gone % 8 == 5 ? N : 0) + gone % N);
+        gone++;
+        served += answer.result == 1;
+        away += answer.result == KEEPER_NO_DESIGN;
+        if (answer.result == 1) /* a served page is there; the next turns may write it out */
+            woven += keeper_write(&keeper, 0, page, 0, 5).refusal == KEEPER_DONE;
+    }
+    CHECK(gone == PLACES && served == PLACES - 4 && away == 4 && woven == served && keeper.line[0] == 0);
+    CHECK(keeper_join(&keeper, 0, 0).refusal == KEEPER_DONE && keeper_easy_restart(&keeper).refusal == KEEPER_DONE && keeper.line[0] == 0);
+}
+
 static void test_text(void)
 {
+    CHECK(strcmp(keeper_text(KEEPER_LINE_FULL), "join: 32 pages are waiting") == 0);
     for (uint32_t a = 0; a <= KEEPER_NO_TRANSFER; a++) {
         CHECK(keeper_text(a)[0] != 0 && strcmp(keeper_text(a), keeper_text(1000)) != 0);
         for (uint32_t b = 0; b < a; b++)
@@ -434,6 +475,7 @@ int main(void)
     test_events();
     test_lists();
     test_transfers();
+    test_line();
     test_text();
     test_bring();
     test_save();

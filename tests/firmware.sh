@@ -1,12 +1,13 @@
 #!/bin/sh
-# firmware.sh: builds the static library and the example firmware over it; what the example prints is examples/firmware.out.
+# firmware.sh: builds the static library and two examples over it, the firmware and the scheduler; what each prints is its .out file in examples/.
 set -eu
 cd "$(dirname "$0")/.."
 rt staticlib keeper
-cc -std=c11 -Wall -Wextra -Werror -pedantic -Iinclude examples/firmware.c target/staticlib/libkeeper.a -o target/firmware
-if target/firmware | diff - examples/firmware.out; then
-    echo "1 passed, 0 failed"
-else
-    echo "0 passed, 1 failed"
-    exit 1
-fi
+failed=0
+for example in firmware scheduler; do
+    cc -std=c11 -Wall -Wextra -Werror -pedantic -Iinclude "examples/$example.c" target/staticlib/libkeeper.a -o "target/$example"
+    "target/$example" >"target/$example.out" || failed=$((failed + 1))
+    diff "target/$example.out" "examples/$example.out" || failed=$((failed + 1))
+done
+echo "$((4 - failed)) passed, $failed failed"
+[ "$failed" -eq 0 ]

@@ -32,7 +32,13 @@ EVENTS = [
     ("limit", 0x0F, [("account", 2), ("pages", 2)]),
     ("cut", 0x10, []),
 ]
+# The library's own kinds: no fields of the event program, so only lists that go to the library have them.
+LIBRARY = [
+    ("join", 18, [("slot", 2), ("page", 2)]),
+    ("turn", 19, []),
+]
 BY_NAME = {name: (tag, values) for name, tag, values in EVENTS}
+ALL = {**BY_NAME, **{name: (kind, values) for name, kind, values in LIBRARY}}
 BY_TAG = {tag: (name, values) for name, tag, values in EVENTS}
 
 HEADER = "n tag answer result"
@@ -56,21 +62,21 @@ def value_of(word, name, width, line):
     return int(digits)
 
 
-def nearest(name):
+def nearest(name, known):
     """The event that a wrong name is most like."""
-    close = difflib.get_close_matches(name.lower(), BY_NAME, 1, 0.5)
+    close = difflib.get_close_matches(name.lower(), known, 1, 0.5)
     return f"; did you mean {close[0]}?" if close else "."
 
 
-def parse_line(text, line):
+def parse_line(text, line, known=BY_NAME):
     """A line's event as a name and values, or None for a blank one."""
     words = text.split("#", 1)[0].split()
     if not words:
         return None
     name = words[0]
-    if name not in BY_NAME:
-        raise Bad(f"line {line}: unknown event: {name}{nearest(name)} The events: {', '.join(BY_NAME)}")
-    values = BY_NAME[name][1]
+    if name not in known:
+        raise Bad(f"line {line}: unknown event: {name}{nearest(name, known)} The events: {', '.join(known)}")
+    values = known[name][1]
     if len(words) - 1 != len(values):
         wanted = " ".join([name] + [value for value, _ in values])
         raise Bad(f"line {line}: {len(words) - 1} values, the event is: {wanted}")
@@ -78,10 +84,10 @@ def parse_line(text, line):
     return name, [value_of(word, value, width, line) for word, (value, width) in pairs]
 
 
-def parse(text):
+def parse(text, known=BY_NAME):
     """The events of a text: names and values."""
     lines = enumerate(text.splitlines(), 1)
-    events = (parse_line(content, line) for line, content in lines)
+    events = (parse_line(content, line, known) for line, content in lines)
     return [event for event in events if event is not None]
 
 
@@ -143,8 +149,15 @@ def in_words(name, answer, result, words):
     """An answer as a reader wants it."""
     if answer != "0":
         return f"refused, {answer}: {words.get(int(answer), 'an unknown refusal')}"
+    if name == "turn":
+        return turned(int(result), words)
     said = ", " + RESULTS[name].format(result) if name in RESULTS else ""
     return "done" + (said[:-1] if said == ", 1 looks" else said)
+
+
+def turned(result, words):
+    """What a turn did for the first request of the line."""
+    return {0: "done", 1: "served"}.get(result) or f"sent away, {result}: {words.get(result, 'an unknown refusal')}"
 
 
 def answered(text, output):

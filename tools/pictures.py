@@ -90,13 +90,13 @@ PAGE_ARROWS = [
 ]
 PAGE_NOTES = [
     "Served, written or wired, a page can be read, written and looked at; writing, it can be read and looked at.",
-    "Live at the update: its address was live then, in a frame or not.",
+    "Live at the update: its address was live then, in a frame or not. A turn moves a page by the fault or the claim that it makes.",
     "A truncated page stays listed until an update begun later is finished; a cut before brings its old words back.",
     "A cut and restart lead from every box to the design at rest, with what the map on the disk lists then.",
 ]
 CUT_NOTE = "truncate leads from here to no address: the record is released, the frame freed"
-# Kinds that move no page from box to box.
-PAGE_OTHERS = {"CREATE", "DELETE", "LIMIT", "READ"}
+# Kinds that move no page from box to box, or move it by a fault or a claim.
+PAGE_OTHERS = {"CREATE", "DELETE", "LIMIT", "READ", "JOIN", "TURN"}
 
 
 class Bad(Exception):

@@ -25,8 +25,8 @@ def shown(length):
 
 def times(count, length):
     """So many times a length."""
-    if length == "1":
-        return str(count)
+    if length.isdigit():
+        return str(count * int(length))
     length = f"({length})" if " + " in length else length
     return length if count == 1 else f"{count}·{length}"
 
@@ -48,13 +48,15 @@ def row(cells):
 
 
 def total(tables):
-    """The formula of the bytes of several tables: equal lengths are added up."""
-    sums = {}
+    """The formula of the bytes of several tables: equal lengths are added up, and those that no size changes."""
+    sums, fixed = {}, 0
     for table in tables:
-        sums[table.length] = sums.get(table.length, 0) + WIDTHS[table.element]
-    single = sums.pop("1", 0)
+        if table.length.isdigit():
+            fixed += WIDTHS[table.element] * int(table.length)
+        else:
+            sums[table.length] = sums.get(table.length, 0) + WIDTHS[table.element]
     words = [times(count, shown(length)) for length, count in sums.items()]
-    return " + ".join(words + ([str(single)] if single else []))
+    return " + ".join(words + ([str(fixed)] if fixed else []))
 
 
 def bytes_table():

@@ -108,8 +108,9 @@ class Header(unittest.TestCase):
         text = (MODEL / "refusals.rt").read_text() + (ROOT / "crates" / "mending" / "src" / "lib.rt").read_text()
         source = re.findall(r"pub const (\w+): u32 = (\d+);", text)
         header = re.findall(r"KEEPER_(\w+) = (\d+)", HEADER.read_text().partition("/* The refusals. */")[2])
+        source = sorted(source, key=lambda refusal: int(refusal[1]))
         self.assertEqual([("DONE", "0")] + source, header)
-        self.assertEqual([int(number) for _, number in source], list(range(1, 23)) + [24])
+        self.assertEqual([int(number) for _, number in source], list(range(1, 23)) + [24, 27])
 
 
 if __name__ == "__main__":

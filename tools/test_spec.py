@@ -77,11 +77,11 @@ class Whole(unittest.TestCase):
         questions = {name for name in typed("Questions", "Questions") if re.fullmatch(r"q\d+", name)}
         self.all_said("Questions", questions)
         rows = [int(number) for number in re.findall(r"^\| (\d+) \| .* \| `(?:Questions\.q|Step\.allFit|Rules\.allRules)", SPEC, re.M)]
-        self.assertEqual(rows, list(range(1, len(questions) + 3)))
+        self.assertEqual(rows, [1, 2, *sorted(int(name[1:]) for name in questions)])
 
     def test_events(self):
         self.assertGreater(len(events()), 10)
-        for file in ("Designs", "Pages", "Writeback"):
+        for file in ("Designs", "Pages", "Writeback", "Line"):
             self.all_said(file, {name for where, name in events() if where == file})
 
     def test_kinds(self):
@@ -100,6 +100,11 @@ class Whole(unittest.TestCase):
     def test_limits(self):
         limits = {name: f"{int(most):,}" for name, most in re.findall(r"^(most\w+) = (\d+)$", source("", "Sizes"), re.M)}
         self.assertEqual({name: most for most, name in re.findall(r"\| ([\d,]+) \| `Sizes\.(most\w+)`", SPEC)}, limits)
+
+    def test_turns(self):
+        cases = re.search(r"pub data Turning .*?\n\n", source("", "Questions"), re.S).group()
+        self.all_said("Questions", set(re.findall(r"^  (\w+) :", cases, re.M)))
+        self.all_said("Turns", defined(source("", "Turns")) & {"Deed", "turns", "calm", "calmTurns", "gone", "Left", "NoneRefused"})
 
     def test_ledger(self):
         fed = re.search(r"pub data Fed .*?\n\n", source("", "Ledger"), re.S).group()

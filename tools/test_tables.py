@@ -50,10 +50,11 @@ def fields(record):
 def lengths():
     """The lengths that question 1 asks for: field, and the length by letters."""
     letters = {size.name: size.letter for size in lent.SIZES}
-    found = re.findall(r"same \(length \(\w ((?:\.[\w-]+ ?)+)\)\) (\([^)]*\))", STEP)
+    found = re.findall(r"same \(length \(\w ((?:\.[\w-]+ ?)+)\)\) (\([^)]*\)|[A-Z]+)", STEP)
+    fixed = dict(re.findall(r"^([A-Z]+) = (\d+)$", STATE, re.M))
     out = {}
     for path, length in found:
-        length = length[1:-1].replace("allPages z", "S * N").replace("mapWords z", "(R + 31) / 32")
+        length = fixed.get(length) or length[1:-1].replace("allPages z", "S * N").replace("mapWords z", "(R + 31) / 32")
         out[path.split(".")[-1].strip()] = re.sub(r"z \.(\w+)", lambda size: letters[size.group(1)], length)
     return out
 
@@ -74,7 +75,7 @@ class Code(unittest.TestCase):
         self.assertEqual(fields("Disk"), [table.field for table in lent.of_part("disk")])
 
     def test_state_of(self):
-        for name, tables_ in (("stateOf", lent.in_call("apply")), ("diskOf", lent.in_call("format"))):
+        for name, tables_ in (("allOf", lent.in_call("apply")), ("diskOf", lent.in_call("format"))):
             taken = re.search(rf"^{name} (.*?) = ", LENT, re.M).group(1).split()
             self.assertEqual(taken, [table.field for table in tables_])
 
@@ -105,6 +106,7 @@ class List(unittest.TestCase):
         for length, count, words in (("R * W", 66, "R·W"), ("(R + 31) / 32", 2, "⌈R/32⌉"), ("1", 1, "1"), ("B + 1", 5, "B + 1")):
             self.assertEqual((tables.entries(length, sizes), tables.shown(length)), (count, words))
         self.assertEqual([tables.times(4, "1"), tables.times(1, "R"), tables.times(2, "B + 1")], ["4", "R", "2·(B + 1)"])
+        self.assertEqual(tables.times(2, "32"), "64")
 
 
 class NewTable(unittest.TestCase):
@@ -113,7 +115,7 @@ class NewTable(unittest.TestCase):
     ROWS = """
         parents | disk | u16 | Q | parents | mut | ref | mut | ref | the account's parent
         highest | disk | u32 | 1 | highest | mut | mut | mut | ref | the highest number given
-        line | memory | u16 | 32 | line | - | mut | mut | ref | pages that wait
+        chip | memory | u16 | 32 | chip | - | mut | mut | ref | the records that are held in between
     """
 
     def setUp(self):
@@ -125,13 +127,13 @@ class NewTable(unittest.TestCase):
 
     def test_everywhere(self):
         for _, name, make in tables.MADE:
-            for table in ("parents", "highest", "line"):
+            for table in ("parents", "highest", "chip"):
                 self.assertIn(table, make(), name)
 
     def test_order(self):
         self.assertEqual([table.name for table in lent.in_call("restart")][:2], ["frames", "pool"])
         self.assertEqual([table.name for table in lent.in_call("format")][-2:], ["parents", "highest"])
-        self.assertEqual([table.name for table in lent.in_call("apply")][-2:], ["used", "line"])
+        self.assertEqual([table.name for table in lent.in_call("apply")][-2:], ["used", "chip"])
         self.assertEqual([(table.name, table.lent["mend"]) for table in lent.in_call("mend")][-2:], [("parents", "ref"), ("highest", "ref")])
 
     def test_the_header_compiles(self):
@@ -139,7 +141,7 @@ class NewTable(unittest.TestCase):
         before, _, after = tables.parts(text, *tables.marks("keeper.h", "tables and calls"), "keeper.h")
         use = (
             "static struct { KEEPER_DISK_TABLES(2, 33, 2, 2, 3, 1) } disk;\nstatic struct { KEEPER_MEMORY_TABLES(2, 33, 2, 2, 3, 1) } memory;\n"
-            "_Static_assert(sizeof disk.parents == 2 && sizeof disk.highest == 4 && sizeof memory.line == 64 && sizeof memory.free_map == 8, \"\");\n"
+            "_Static_assert(sizeof disk.parents == 2 && sizeof disk.highest == 4 && sizeof memory.chip == 64 && sizeof memory.free_map == 8, \"\");\n"
             "KeeperAnswer call(KeeperSizes sizes);\nKeeperAnswer call(KeeperSizes sizes)\n{\n    return keeper_restart(sizes, KEEPER_LEND(memory.frames),"
             " &memory.pool, KEEPER_LEND_DISK(disk), KEEPER_LEND_MEMORY(memory));\n}\n"
         )
@@ -154,7 +156,7 @@ class NewTable(unittest.TestCase):
         patch.start()
         self.addCleanup(patch.stop)
         plain, easy = ((lent.ROOT / "include" / name).read_text() for name in ("keeper.h", "keeper_easy.h"))
-        plain = plain.replace("KEEPER_LIMIT = 15 ", "KEEPER_MOVE = 17, /* giver, taker, amount */\n    KEEPER_LIMIT = 15 ")
+        plain = plain.replace("KEEPER_LIMIT = 15,", "KEEPER_MOVE = 17, /* giver, taker, amount */\n    KEEPER_LIMIT = 15,")
         plain = "".join(tables.parts(plain, *tables.marks("keeper.h", "tables and calls"), "keeper.h")[::2]).replace(
             tables.marks("keeper.h", "tables and calls")[0], tables.marks("keeper.h", "tables and calls")[0] + ctext.header()
         )
@@ -164,7 +166,7 @@ class NewTable(unittest.TestCase):
             made = ceasy.easy()
         text = plain + before.replace('#include "keeper.h"', "") + made + after
         use = (
-            "KeeperAnswer call(Keeper *keeper);\nKeeperAnswer call(Keeper *keeper)\n{\n    keeper->parents[0] = keeper->highest[0] > keeper->line[31];\n"
+            "KeeperAnswer call(Keeper *keeper);\nKeeperAnswer call(Keeper *keeper)\n{\n    keeper->parents[0] = keeper->highest[0] > keeper->chip[31];\n"
             "    keeper_move(keeper, 1, 0, 2);\n    keeper_easy_format(keeper, keeper->parents, 1);\n    return keeper_easy_restart(keeper);\n}\n"
         )
         for words in (["gcc", "-std=c99", "-x", "c"], ["g++", "-std=c++11", "-x", "c++"]):

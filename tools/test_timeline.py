@@ -41,6 +41,8 @@ write 1 0 0 10
 claim
 claim
 """
+# every way that a turn goes
+LINE = timeline.ROOT / "examples" / "line.txt"
 # a document that is enough for the page's script
 STAND_IN = """
 const all = [];
@@ -102,6 +104,34 @@ class Data(unittest.TestCase):
             self.assertEqual(shown, by_library(BUSY, row, choice))
         first = [states[row]["cuts"][choice][0]["words"] for choice in (0, 1, 4, 5)]
         self.assertEqual(first, [[0, 0], [0, 0], [4294967295, 0], [9, 0]])  # unlisted; its write alone; its map alone; both
+
+
+class Line(unittest.TestCase):
+    def setUp(self):
+        self.text = LINE.read_text()
+        self.states = json.loads(timeline.ran(self.text))
+        self.names = [name for name, _ in events.parse(self.text, events.ALL)]
+
+    def test_answers(self):
+        words = events.refusals()
+        pairs = zip(self.names, self.states, self.states[1:])
+        said = [timeline.said_of(name, before, after, words) for name, before, after in pairs if name == "turn"]
+        self.assertEqual(said, [
+            "done, nobody waits", "done, to the back of the line", "done, it gets a frame", "served", "sent away, 4: the slot is empty", "served", "served",
+            "refused, 21: the removal list is empty", "done, a frame is claimed for it", "done, it gets a frame", "served",
+        ])
+        self.assertEqual(self.states[-1]["line"], [0] * 32)
+
+    def test_shown(self):
+        shown = re.findall(r">line: (.*?)</text>", timeline.page("line", self.text, self.states))
+        self.assertEqual(shown[:4], ["7/0", "7/0 7/1", "7/0 7/1 empty/0", "7/1 empty/0 7/0"])
+        self.assertNotIn("line:", timeline.picture(self.states[-1]))
+        many = timeline.picture({**self.states[-1], "line": [1] * 32})
+        self.assertIn("and 24 more", many)
+
+    def test_not_in_the_event_program(self):
+        with self.assertRaises(events.Bad):
+            events.encode("turn\n")
 
 
 class Page(unittest.TestCase):

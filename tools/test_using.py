@@ -93,18 +93,20 @@ class Requests(unittest.TestCase):
     def test_kinds(self):
         section = enum_text("/* The kinds of request.")
         kinds = re.findall(r"KEEPER_[A-Z_]+(?= =)", section)
-        values = [re.split(r"[;:]", comment)[0].strip() for comment in re.findall(r"/\* (.*?) \*/", section)]
+        comments = re.findall(r"KEEPER_[A-Z_]+ = \d+,? */\* (.*?) \*/", section)
+        values = [re.split(r"[;:]", comment)[0].strip() for comment in comments]
         values = ["" if value == "result" else value for value in values]
         table = rows("kind")[1:]
         self.assertEqual([row[0].strip("`") for row in table], kinds)
         self.assertEqual([row[1] for row in table], values)
 
     def test_refusals(self):
-        asked = dict(re.findall(r"^  (?:design|page|writeback)Questions \(?([A-Za-z]+).*? = (.*)$", QUESTIONS, re.M))
+        asked = dict(re.findall(r"^  (?:design|page|writeback|waiting)Questions \(?([A-Za-z]+).*? = (.*)$", QUESTIONS, re.M))
+        turns = " ".join(re.findall(r"^  turnQuestions .*? = (.*)$", QUESTIONS, re.M))
         served = re.search(r"^  served range quiet s p = (.*)$", QUESTIONS, re.M).group(1)
         for name, _, _, refusals in rows("kind")[1:]:
             event = name.strip("`").replace("KEEPER_", "").title().replace("_", "")
-            numbers = re.findall(r"\bq(\d+)\b", asked[event].replace("served", served))
+            numbers = re.findall(r"\bq(\d+)\b", asked[event].replace("served", served).replace("turnQuestions turning", turns))
             with self.subTest(event):
                 self.assertEqual(refusals.split(), [n for n in numbers if n != "3"])
 
@@ -113,7 +115,7 @@ class Answers(unittest.TestCase):
     def test_numbers_and_names(self):
         table = [(row[1].strip("`").replace("KEEPER_", ""), row[0]) for row in rows("number")[1:]]
         self.assertEqual(table, enum("/* The refusals.")[1:])
-        self.assertEqual([number for _, number in table], [str(n) for n in [*range(1, 23), 24]])
+        self.assertEqual([number for _, number in table], [str(n) for n in [*range(1, 23), 24, 27]])
 
 
 class Example(unittest.TestCase):

@@ -46,7 +46,7 @@ class Walks(unittest.TestCase):
         self.assertIn("let m = ms .1 .1 .1 .1 .1 .1 .1 .1 .1 in\n", after)
         self.assertIn("(now x4) (m .0)", after)
         with with_one_more():
-            self.assertTrue(walks.Change("restart", 1, 1).marks()["AFTER"].endswith("(s .1 .1 .1 .0) (s .1 .1 .1 .1 .0)"))
+            self.assertTrue(walks.Change("restart", 1, 1).marks()["AFTER"].endswith("(s .1 .1 .1 .1 .0) (s .1 .1 .1 .1 .1 .0)"))
 
     def test_wrapped(self):
         line = "    " + " ".join(["word"] * 100)

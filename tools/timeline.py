@@ -37,8 +37,8 @@ def program():
 
 
 def requests(text):
-    """The list as the program reads it."""
-    lines = ([events.BY_NAME[name][0], *values, *[0] * (4 - len(values))] for name, values in events.parse(text))
+    """The list as the program reads it; it may have the library's own kinds too."""
+    lines = ([events.ALL[name][0], *values, *[0] * (4 - len(values))] for name, values in events.parse(text, events.ALL))
     return "".join(" ".join(map(str, line)) + "\n" for line in lines)
 
 
@@ -50,7 +50,7 @@ def ran(text, *words):
 # ── the pictures ──
 def page_name(state, page):
     """A page of a table of pages: design and page."""
-    return f"{state['numbers'][page // PAGES]}/{page % PAGES}"
+    return f"{state['numbers'][page // PAGES] or 'empty'}/{page % PAGES}"
 
 
 def box(x, y, width, height, fill, more=""):
@@ -80,6 +80,13 @@ def frames(state):
             switches = " ".join(name for name in ("used", "modified", "wired", "initial") if frame[name])
             out += [label(x + 6, 30, f"page {page_name(state, page)}"), words_at(x + 6, 44, words, 96), label(x + 6, 57, switches, 9)]
     return out
+
+
+def waiting(state):
+    """The waiting line, its front first, below the frames; nothing if nobody waits."""
+    pages = [page_name(state, entry - 1) for entry in state["line"] if entry]
+    shown = " ".join(pages[:8]) + (f" and {len(pages) - 8} more" if len(pages) > 8 else "")
+    return [label(4, 74, f"line: {shown}", 10)] if pages else []
 
 
 def records(state, left):
@@ -118,8 +125,8 @@ def picture(state):
     left = 12 + 112 * len(state["frames"])
     after = left + 72 * len(state["states"]) + 14
     width = after + 134 * len(state["numbers"])
-    drawn = frames(state) + records(state, left) + maps(state, after)
-    return f'<svg xmlns="http://www.w3.org/2000/svg" width="{width}" height="72" viewBox="0 0 {width} 72" font-family="sans-serif">' + "".join(drawn) + "</svg>"
+    drawn = frames(state) + waiting(state) + records(state, left) + maps(state, after)
+    return f'<svg xmlns="http://www.w3.org/2000/svg" width="{width}" height="78" viewBox="0 0 {width} 78" font-family="sans-serif">' + "".join(drawn) + "</svg>"
 
 
 # ── the file ──
@@ -190,16 +197,33 @@ def row(n, event, said, state):
     )
 
 
+def turned(before, after):
+    """What a turn did that let nobody leave, as the tables show it."""
+    first = before["line"][0]
+    if not first:
+        return "done, nobody waits"
+    if any(frame["page"] == first for frame in before["frames"]):
+        return "done, to the back of the line"
+    return "done, it gets a frame" if any(frame["page"] == first for frame in after["frames"]) else "done, a frame is claimed for it"
+
+
+def said_of(name, before, after, words):
+    """An event's answer in words."""
+    if (name, after["refusal"], after["result"]) == ("turn", 0, 0):
+        return turned(before, after)
+    return events.in_words(name, str(after["refusal"]), after["result"], words)
+
+
 def rows(text, states):
     """The rows of a list: its comments, its events."""
     words, out, n = events.refusals(), [row(0, "", "a new disk", states[0])], 0
     for number, line in enumerate(text.splitlines(), 1):
-        event, comment = events.parse_line(line, number), line.partition("#")[2].strip()
+        event, comment = events.parse_line(line, number, events.ALL), line.partition("#")[2].strip()
         if comment:
             out.append(f'<tr class="comment"><td></td><td colspan="4">{html.escape(comment)}</td></tr>\n')
         if event:
             n += 1
-            said = events.in_words(event[0], str(states[n]["refusal"]), states[n]["result"], words)
+            said = said_of(event[0], states[n - 1], states[n], words)
             out.append(row(n, events.line_of(*event), said, states[n]))
     return "".join(out)
 
@@ -210,7 +234,7 @@ def page(title, text, states):
     return (
         f'<!DOCTYPE html>\n<html lang="en"><head><meta charset="utf-8"><title>{html.escape(title)}</title><style>{STYLE}</style></head><body>\n'
         f"<h1>{html.escape(title)}</h1>\n<p>Each row is an event, with everything as it is after it. A page is named by its design and its number in it. "
-        "Records are coloured by the design that owns them, and pale while their words are void or given up. A dashed strip is the map that an update is about to "
+        "Pages that wait in line stand below the frames, the first one first. Records are coloured by the design that owns them, and pale while their words are void or given up. A dashed strip is the map that an update is about to "
         f"store. Press “cut here” to see what every page would read if the power failed behind that row.</p>\n<table>\n{rows(text, states)}</table>\n"
         f"<script>const DATA = {data};{SCRIPT}</script>\n</body></html>\n"
     )
@@ -226,7 +250,7 @@ def main(words):
     path = pathlib.Path(words[0])
     out = pathlib.Path(words[1]) if len(words) > 1 else ROOT / "target" / "timeline.html"
     text = path.read_text()
-    events.named(path, lambda: events.parse(text))
+    events.named(path, lambda: events.parse(text, events.ALL))
     states = json.loads(ran(text))
     out.write_text(page(path.name, text, states))
     print(f"{len(states) - 1} events, {sum(len(state['cuts']) for state in states)} cuts: {out}")

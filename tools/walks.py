@@ -178,7 +178,7 @@ class Change(Walk):
                 path = f"({base[0]}{ones(shift + j - start)} .0)"
                 words.append(path if self.own[j][2] else f"(now x{j + len(self.before)})")
             base = (base[0], base[1] + end - start)
-        return {"AFTER": "".join(lets) + "      stateOf zs pool " + " ".join(words)}
+        return {"AFTER": "".join(lets) + "      allOf zs pool " + " ".join(words)}
 
     def steps(self):
         """The places of the walk."""

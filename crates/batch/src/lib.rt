@@ -2,7 +2,7 @@
 ghost use mathlib.Core.Path.{_≡_};
 ghost use Prim.Native.Nat.{_*_, _≤_};
 ghost use lib.ListN.{length, take};
-ghost use Rattle.model.specs.Lent.{given, entered, left};
+ghost use Rattle.model.specs.Lent.{allGiven, allEntered, allLeft};
 ghost use Rattle.model.specs.Calls.{framesOf};
 ghost use Rattle.model.specs.ApplyAll.{after, applyAll};
 ghost use Rattle.dispatch.specs.Kept.{Kept};
@@ -43,20 +43,21 @@ pub fn in_turn(
     active: &mut [u8],
     updating: &mut [u8],
     images: &mut [u16],
+    line: &mut [u16],
     used: &mut [u16],
 ) -> Pooled
     requires { ⌜ (5 * n ≤ length (now requests)) × (2 * n ≤ length (now answers)) × Kept sizes
-        (given (take (sizes .frames) frames) pool records numbers accounts maps limits
-        «frame_words» «free_queue» «removal_list» addresses states owners «free_map» active updating images used) ⌝ }
+        (allGiven (take (sizes .frames) frames) pool records numbers accounts maps limits
+        «frame_words» «free_queue» «removal_list» addresses states owners «free_map» active updating images line used) ⌝ }
     ensures { λ r. ⌜ record {
       answer = r .answer;
       answers = now (answers .exit);
-      left = left (take (sizes .frames) (r .frames)) (r .pool) records numbers accounts maps limits
-          «frame_words» «free_queue» «removal_list» addresses states owners «free_map» active updating images used;
+      left = allLeft (take (sizes .frames) (r .frames)) (r .pool) records numbers accounts maps limits
+          «frame_words» «free_queue» «removal_list» addresses states owners «free_map» active updating images line used;
     }
         ≡ after sizes (now (requests .entry)) (now (answers .entry))
-        (entered (take (sizes .frames) frames) pool records numbers accounts maps limits
-        «frame_words» «free_queue» «removal_list» addresses states owners «free_map» active updating images used) n ⌝ }
+        (allEntered (take (sizes .frames) frames) pool records numbers accounts maps limits
+        «frame_words» «free_queue» «removal_list» addresses states owners «free_map» active updating images line used) n ⌝ }
 {
     let answer = Answer {
         refusal: 0,
@@ -90,6 +91,7 @@ pub fn in_turn(
             active,
             updating,
             images,
+            line,
             used,
         );
         k += 1;
@@ -121,17 +123,18 @@ pub fn apply_all(
     active: &mut [u8],
     updating: &mut [u8],
     images: &mut [u16],
+    line: &mut [u16],
     used: &mut [u16],
 ) -> Pooled
     ensures { λ r. ⌜ record {
       answer = r .answer;
       answers = now (answers .exit);
-      left = left (framesOf (r .frames) lent) (r .pool) records numbers accounts maps limits
-          «frame_words» «free_queue» «removal_list» addresses states owners «free_map» active updating images used;
+      left = allLeft (framesOf (r .frames) lent) (r .pool) records numbers accounts maps limits
+          «frame_words» «free_queue» «removal_list» addresses states owners «free_map» active updating images line used;
     }
         ≡ applyAll sizes (now (requests .entry)) (now (answers .entry))
-        (entered (framesOf frames lent) pool records numbers accounts maps limits
-        «frame_words» «free_queue» «removal_list» addresses states owners «free_map» active updating images used) ⌝ }
+        (allEntered (framesOf frames lent) pool records numbers accounts maps limits
+        «frame_words» «free_queue» «removal_list» addresses states owners «free_map» active updating images line used) ⌝ }
 {
     let n = request_count(requests.len(), answers.len());
     let refusal = common(
@@ -154,6 +157,7 @@ pub fn apply_all(
         active,
         updating,
         images,
+        line,
         used,
     );
     if refusal != 0 {
@@ -186,6 +190,7 @@ pub fn apply_all(
         active,
         updating,
         images,
+        line,
         used,
     )
 }

@@ -2,7 +2,7 @@
 ghost use mathlib.Core.Path.{_≡_};
 ghost use Prim.Native.Nat.{_+_, _*_, _<_};
 ghost use lib.ListN.{length, take};
-ghost use Rattle.model.specs.Lent.{given, entered, left};
+ghost use Rattle.model.specs.Lent.{allGiven, allEntered, allLeft};
 ghost use Rattle.model.specs.ApplyAll.{turned};
 ghost use Rattle.dispatch.specs.Kept.{Kept};
 use crate::numbers::put_answer;
@@ -37,22 +37,23 @@ pub fn turn(
     active: &mut [u8],
     updating: &mut [u8],
     images: &mut [u16],
+    line: &mut [u16],
     used: &mut [u16],
 ) -> Pooled
     requires { ⌜ (5 * k + 4 < length (now requests)) × (2 * k + 1 < length (now answers)) × Kept sizes
-        (given (take (sizes .frames) (held .frames)) (held .pool) records numbers accounts maps limits
-        «frame_words» «free_queue» «removal_list» addresses states owners «free_map» active updating images used) ⌝ }
+        (allGiven (take (sizes .frames) (held .frames)) (held .pool) records numbers accounts maps limits
+        «frame_words» «free_queue» «removal_list» addresses states owners «free_map» active updating images line used) ⌝ }
     ensures { λ r. ⌜ record {
       answer = r .answer;
       answers = now (answers .exit);
-      left = left (take (sizes .frames) (r .frames)) (r .pool) records numbers accounts maps limits
-          «frame_words» «free_queue» «removal_list» addresses states owners «free_map» active updating images used;
+      left = allLeft (take (sizes .frames) (r .frames)) (r .pool) records numbers accounts maps limits
+          «frame_words» «free_queue» «removal_list» addresses states owners «free_map» active updating images line used;
     }
         ≡ turned sizes (now (requests .entry)) k (record {
           answer = held .answer;
           answers = now (answers .entry);
-          left = entered (take (sizes .frames) (held .frames)) (held .pool) records numbers accounts maps limits
-              «frame_words» «free_queue» «removal_list» addresses states owners «free_map» active updating images used;
+          left = allEntered (take (sizes .frames) (held .frames)) (held .pool) records numbers accounts maps limits
+              «frame_words» «free_queue» «removal_list» addresses states owners «free_map» active updating images line used;
         }) ⌝ }
 {
     let frames = held.frames;
@@ -90,6 +91,7 @@ pub fn turn(
         active,
         updating,
         images,
+        line,
         used,
     );
     let frames = out.frames;

@@ -10,7 +10,9 @@ use Rattle.model.specs.declared.frame.Frame.{Frame}
 use Rattle.model.specs.declared.event.Answer.{Answer}
 use Rattle.model.specs.State.{Disk, State}
 use Rattle.model.specs.Rules.{diskRules}
-use Rattle.model.specs.Step.{Outcome, allFit, restart}
+use Rattle.model.specs.Setters.{setLine}
+use Rattle.model.specs.Own.{leaves}
+use Rattle.model.specs.Step.{allFit, restart}
 use Rattle.model.specs.Restart.{restarted}
 use Rattle.model.specs.Calls.{framesOf}
 use Rattle.restarts.specs.Restarts.{restarted-frames}
@@ -22,7 +24,7 @@ module _ (z : Sizes) where
   pub restarted-lent : (d : Disk) (fs : List Frame) (lent : ℕ) → lent ≡ z .frames → take (z .frames) fs ≡ restarted z d .memory .core .frames → framesOf fs lent ≡ restarted z d .memory .core .frames
   restarted-lent d fs lent e t = lent-back fs (restarted z d .memory .core .frames) lent (z .frames) e t (ap length (restarted-frames z d) ∙ length-replicate (z .frames) _)
 
-  -- answered 0, with the restarted state left
-  pub restart-left : (st left : State) (answer : Answer) → answer ≡ record { refusal = 0; result = 0 } → left ≡ restarted z (st .disk) → true ≡ test (allFit z st) → true ≡ test (diskRules z st)
-      → _≡_ {A = Outcome State} (record { answer = answer; left = left }) (restart z st)
-  restart-left st left answer a l f r = (λ x. record { answer = a x; left = l x }) ∙ restart-done z st f r
+  -- answered 0, with the restarted state left: its other tables, and nobody waiting
+  pub restart-left : (st left : State) (line : List ℕ) (answer : Answer) → answer ≡ record { refusal = 0; result = 0 } → left ≡ restarted z (st .disk) → line ≡ left .memory .line
+      → true ≡ test (allFit z st) → true ≡ test (diskRules z st) → leaves answer (setLine line left) ≡ restart z st
+  restart-left st left line answer a l n f r = ap (λ (x : List ℕ). leaves answer (setLine x left)) n ∙ (λ x. leaves (a x) (l x)) ∙ restart-done z st f r

@@ -1,7 +1,7 @@
 // An event handed on to its family.
 ghost use mathlib.Core.Path.{_≡_};
 ghost use lib.ListN.{take};
-ghost use Rattle.model.specs.Lent.{given, entered, left};
+ghost use Rattle.model.specs.Lent.{allGiven, allEntered, allLeft};
 ghost use Rattle.model.specs.Own.{own, leaves};
 ghost use Rattle.model.specs.Pool.{taken, deposited};
 ghost use Rattle.dispatch.specs.Kept.{Kept};
@@ -13,6 +13,7 @@ use model::event::Event;
 use model::frame::Frame;
 use model::frame::Pool;
 use model::sizes::Sizes;
+use waiting::waiting_event;
 
 // Once questions 1 and 2 are answered yes.
 pub fn carry(
@@ -35,17 +36,18 @@ pub fn carry(
     active: &mut [u8],
     updating: &mut [u8],
     images: &mut [u16],
+    line: &mut [u16],
     used: &mut [u16],
 ) -> Applied
     requires { ⌜ Kept sizes
-        (given (take (sizes .frames) frames) pool records numbers accounts maps limits
-        «frame_words» «free_queue» «removal_list» addresses states owners «free_map» active updating images used) ⌝ }
+        (allGiven (take (sizes .frames) frames) pool records numbers accounts maps limits
+        «frame_words» «free_queue» «removal_list» addresses states owners «free_map» active updating images line used) ⌝ }
     ensures { λ r. ⌜ leaves (r .answer)
-        (left (take (sizes .frames) (r .frames)) (deposited (r .deposited) (taken sizes (r .taken) pool)) records numbers accounts maps limits
-        «frame_words» «free_queue» «removal_list» addresses states owners «free_map» active updating images used)
+        (allLeft (take (sizes .frames) (r .frames)) (deposited (r .deposited) (taken sizes (r .taken) pool)) records numbers accounts maps limits
+        «frame_words» «free_queue» «removal_list» addresses states owners «free_map» active updating images line used)
         ≡ own sizes
-        (entered (take (sizes .frames) frames) pool records numbers accounts maps limits
-        «frame_words» «free_queue» «removal_list» addresses states owners «free_map» active updating images used) event ⌝ }
+        (allEntered (take (sizes .frames) frames) pool records numbers accounts maps limits
+        «frame_words» «free_queue» «removal_list» addresses states owners «free_map» active updating images line used) event ⌝ }
 {
     match event {
         Event::Design(e) => {
@@ -120,6 +122,29 @@ pub fn carry(
             active,
             updating,
             images,
+            used,
+        ),
+        Event::Waiting(e) => waiting_event(
+            sizes,
+            e,
+            frames,
+            pool,
+            records,
+            numbers,
+            accounts,
+            maps,
+            limits,
+            frame_words,
+            free_queue,
+            removal_list,
+            addresses,
+            states,
+            owners,
+            free_map,
+            active,
+            updating,
+            images,
+            line,
             used,
         ),
     }

@@ -1,13 +1,13 @@
 // Questions 1 and 2 of every event and of a page look.
 ghost use mathlib.Core.Path.{_≡_};
-ghost use Rattle.model.specs.Lent.{entered};
+ghost use Rattle.model.specs.Lent.{allEntered};
 ghost use Rattle.model.specs.Calls.{framesOf};
 ghost use Rattle.calls.specs.Common.{common};
+use crate::lent::lent_fit;
+use crate::lent::lent_rules;
 use model::frame::Frame;
 use model::frame::Pool;
 use model::sizes::Sizes;
-use questions::question1::all_fit;
-use questions::question2::all_rules;
 
 // 0, or 1 or 2 where that question says no.
 pub fn common(
@@ -30,13 +30,14 @@ pub fn common(
     active: &[u8],
     updating: &[u8],
     images: &[u16],
+    line: &[u16],
     used: &[u16],
 ) -> u32
     ensures { λ r. ⌜ r ≡ common sizes
-        (entered (framesOf frames lent) pool records numbers accounts maps limits
-        «frame_words» «free_queue» «removal_list» addresses states owners «free_map» active updating images used) ⌝ }
+        (allEntered (framesOf frames lent) pool records numbers accounts maps limits
+        «frame_words» «free_queue» «removal_list» addresses states owners «free_map» active updating images line used) ⌝ }
 {
-    if all_fit(
+    if lent_fit(
         sizes,
         lent,
         records,
@@ -54,11 +55,12 @@ pub fn common(
         active,
         updating,
         images,
+        line,
         used,
     ) {} else {
         return 1;
     }
-    if all_rules(
+    if lent_rules(
         sizes,
         frames,
         lent,
@@ -78,6 +80,7 @@ pub fn common(
         active,
         updating,
         images,
+        line,
         used,
     ) {} else {
         return 2;

@@ -1,12 +1,13 @@
 // The calls, over everything that is lent: questions 1 and 2 are asked once, then the work is done.
 ghost use mathlib.Core.Path.{_≡_};
-ghost use Rattle.model.specs.Lent.{diskOf, entered, left};
+ghost use Rattle.model.specs.Lent.{diskOf, allEntered, allLeft};
 ghost use Rattle.model.specs.Calls.{framesOf, apply};
 ghost use Rattle.model.specs.Step.{restart, format};
 ghost use Rattle.model.specs.Own.{leaves};
 ghost use Rattle.model.specs.Pool.{taken, deposited};
 use crate::carry::carry;
 use crate::common::common;
+use crate::lent::lent_fit;
 use model::applied::Applied;
 use model::applied::Pooled;
 use model::event::Answer;
@@ -16,13 +17,14 @@ use model::request::Decoded;
 use model::request::Request;
 use model::request::decode;
 use model::sizes::Sizes;
-use questions::question1::all_fit;
 use questions::question1::disk_fit;
 use questions::question2::disk_rules;
 use restarts::format::format_tables;
 use restarts::restart::restart_tables;
+use restarts::zero::zero16;
 
-pub mod common; // questions 1 and 2
+pub mod lent; // questions 1 and 2 with the line
+pub mod common; // questions 1 and 2, as a number
 pub mod carry; // an event handed on to its family
 pub mod looks; // a page look
 
@@ -48,14 +50,15 @@ pub fn apply_core(
     active: &mut [u8],
     updating: &mut [u8],
     images: &mut [u16],
+    line: &mut [u16],
     used: &mut [u16],
 ) -> Applied
     ensures { λ r. ⌜ leaves (r .answer)
-        (left (framesOf (r .frames) lent) (deposited (r .deposited) (taken sizes (r .taken) pool)) records numbers accounts maps limits
-        «frame_words» «free_queue» «removal_list» addresses states owners «free_map» active updating images used)
+        (allLeft (framesOf (r .frames) lent) (deposited (r .deposited) (taken sizes (r .taken) pool)) records numbers accounts maps limits
+        «frame_words» «free_queue» «removal_list» addresses states owners «free_map» active updating images line used)
         ≡ apply sizes
-        (entered (framesOf frames lent) pool records numbers accounts maps limits
-        «frame_words» «free_queue» «removal_list» addresses states owners «free_map» active updating images used) request ⌝ }
+        (allEntered (framesOf frames lent) pool records numbers accounts maps limits
+        «frame_words» «free_queue» «removal_list» addresses states owners «free_map» active updating images line used) request ⌝ }
 {
     let refusal = common(
         sizes,
@@ -77,6 +80,7 @@ pub fn apply_core(
         active,
         updating,
         images,
+        line,
         used,
     );
     if refusal != 0 {
@@ -121,6 +125,7 @@ pub fn apply_core(
         active,
         updating,
         images,
+        line,
         used,
     )
 }
@@ -146,16 +151,17 @@ pub fn restart_core(
     active: &mut [u8],
     updating: &mut [u8],
     images: &mut [u16],
+    line: &mut [u16],
     used: &mut [u16],
 ) -> Pooled
     ensures { λ r. ⌜ leaves (r .answer)
-        (left (framesOf (r .frames) lent) (r .pool) records numbers accounts maps limits
-        «frame_words» «free_queue» «removal_list» addresses states owners «free_map» active updating images used)
+        (allLeft (framesOf (r .frames) lent) (r .pool) records numbers accounts maps limits
+        «frame_words» «free_queue» «removal_list» addresses states owners «free_map» active updating images line used)
         ≡ restart sizes
-        (entered (framesOf frames lent) pool records numbers accounts maps limits
-        «frame_words» «free_queue» «removal_list» addresses states owners «free_map» active updating images used) ⌝ }
+        (allEntered (framesOf frames lent) pool records numbers accounts maps limits
+        «frame_words» «free_queue» «removal_list» addresses states owners «free_map» active updating images line used) ⌝ }
 {
-    if all_fit(
+    if lent_fit(
         sizes,
         lent,
         records,
@@ -173,6 +179,7 @@ pub fn restart_core(
         active,
         updating,
         images,
+        line,
         used,
     ) {} else {
         let answer = Answer {
@@ -196,6 +203,7 @@ pub fn restart_core(
             answer,
         };
     }
+    zero16(line);
     restart_tables(
         sizes,
         accounts,

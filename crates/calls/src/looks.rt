@@ -3,7 +3,7 @@ ghost use mathlib.Core.Path.{_≡_};
 ghost use Prim.Native.Nat.{_+_, _≤_};
 ghost use lib.ListN.{length};
 ghost use denote.Ref.{ptr};
-ghost use Rattle.model.specs.Lent.{entered};
+ghost use Rattle.model.specs.Lent.{allEntered};
 ghost use Rattle.model.specs.Calls.{framesOf};
 ghost use Rattle.model.specs.Step.{look};
 ghost use Rattle.model.specs.Part.{partOf, wordAt};
@@ -37,11 +37,12 @@ pub fn place_core(
     active: &[u8],
     updating: &[u8],
     images: &[u16],
+    line: &[u16],
     used: &[u16],
 ) -> Part
     ensures { λ r. ⌜ (r ≡ partOf sizes
-        (entered (framesOf frames lent) pool records numbers accounts maps limits
-        «frame_words» «free_queue» «removal_list» addresses states owners «free_map» active updating images used) slot page)
+        (allEntered (framesOf frames lent) pool records numbers accounts maps limits
+        «frame_words» «free_queue» «removal_list» addresses states owners «free_map» active updating images line used) slot page)
         × (r .start + r .count ≤ length (now («frame_words» .entry))) ⌝ }
 {
     let refusal = common(
@@ -64,6 +65,7 @@ pub fn place_core(
         active,
         updating,
         images,
+        line,
         used,
     );
     if refusal != 0 {
@@ -100,10 +102,11 @@ pub fn look_core<'a>(
     active: &[u8],
     updating: &[u8],
     images: &[u16],
+    line: &[u16],
     used: &[u16],
 ) -> &'a [u32]
-    ensures { λ r. ⌜ (let st = entered (framesOf frames lent) pool records numbers accounts maps limits
-        «frame_words» «free_queue» «removal_list» addresses states owners «free_map» active updating images used in
+    ensures { λ r. ⌜ (let st = allEntered (framesOf frames lent) pool records numbers accounts maps limits
+        «frame_words» «free_queue» «removal_list» addresses states owners «free_map» active updating images line used in
         (now r ≡ look sizes st slot page .left)
         × ((now (refusal .exit) ≡ look sizes st slot page .answer .refusal)
         × (ptr r ≡ wordAt (ptr («frame_words» .entry)) (partOf sizes st slot page .start)))) ⌝ }
@@ -130,6 +133,7 @@ pub fn look_core<'a>(
         active,
         updating,
         images,
+        line,
         used,
     );
     *refusal = part.refusal;

@@ -3,6 +3,7 @@ use Rattle.model.specs.declared.sizes.Sizes.{Sizes}
 use Rattle.model.specs.declared.event.Design.the-variants.{Limit, Create, Delete, Activate, Deactivate}
 use Rattle.model.specs.declared.event.Page.the-variants.{Fault, Read, Write, Wire, Unwire}
 use Rattle.model.specs.declared.event.Writeback.the-variants.{Claim, Truncate, Update, PageDone, MapDone}
+use Rattle.model.specs.declared.event.Waiting.the-variants.{Join, Turn}
 use Rattle.model.specs.declared.event.Event.{Event}
 use Rattle.model.specs.declared.event.Event.the-variants as Event
 use Rattle.crash.proofs.Steps.{Step}
@@ -17,6 +18,7 @@ use Rattle.crash.proofs.Truncated.{truncate}
 use Rattle.crash.proofs.Updated.{update}
 use Rattle.crash.proofs.PageEnd.{pageDone}
 use Rattle.crash.proofs.MapDone.{mapDone}
+use Rattle.crash.proofs.Waited.{join, turn}
 
 pub steps : (z : Sizes) (e : Event) → Step z e
 steps z (Event.Design (Limit q n)) = limit z q n
@@ -34,3 +36,5 @@ steps z (Event.Writeback (Truncate s k)) = truncate z s k
 steps z (Event.Writeback (Update s)) = update z s
 steps z (Event.Writeback (PageDone f good)) = pageDone z f good
 steps z (Event.Writeback (MapDone s good)) = mapDone z s good
+steps z (Event.Waiting (Join s p)) = join z s p
+steps z (Event.Waiting Turn) = turn z

@@ -1,4 +1,4 @@
--- Fault: a read begins, or the page is served as zeros, with its nulled record or the first free one.
+-- Fault: a read begins, or the page is served as zeros, with its nulled record or a free one.
 use mathlib.Core.Path.{_≡_, refl, ap, sym, _∙_}
 use mathlib.Core.Bool.{false}
 use mathlib.Core.Logic.{inl, inr}
@@ -131,7 +131,7 @@ module _ (z : Sizes) (s p : ℕ) (st : State) (l : Ledger) (b : Before z st l (E
   module _ (held′ : Held) (nulled : (r : ℕ) → address i₀ ≡ suc r → ¬ (state r ≡ LIVE)) (was : (i r : ℕ) → at (held′ .addresses) i ≡ suc r → at (held′ .states) r ≡ LIVE → (address i ≡ suc r) × (state r ≡ LIVE))
       (stays : (i r : ℕ) → address i ≡ suc r → state r ≡ LIVE → (at (held′ .addresses) i ≡ suc r) × (at (held′ .states) r ≡ LIVE)) (others : (i : ℕ) → ¬ (i ≡ i₀) → at (held′ .addresses) i ≡ address i) where
     abbrev st₁ : State
-    st₁ = record { disk = st .disk; memory = record { core = st .memory .core; held = held′; slots = st .memory .slots; used = st .memory .used } }
+    st₁ = record { disk = st .disk; memory = record { core = st .memory .core; held = held′; slots = st .memory .slots; line = st .memory .line; used = st .memory .used } }
 
     zeros-served : Tied z (counted z (Pages.serveZeros z st₁ i₀ f)) (note z l (faulted s p f))
     unfolding counted Pages.serveZeros note
@@ -167,7 +167,7 @@ module _ (z : Sizes) (s p : ℕ) (st : State) (l : Ledger) (b : Before z st l (E
       kept = λ i x. (x, λ n. refl);
     })
 
-  -- the first free record is taken
+  -- a free record is taken
   module _ (none : address i₀ ≡ 0) where
     abbrev r₀ : ℕ
     r₀ = pick z address state (st .memory .held .pool .hand) i₀

@@ -15,6 +15,7 @@ pub mod PageDone
 pub mod Finished
 pub mod PageEnd
 pub mod MapDone
+pub mod Waited
 pub mod Activated
 pub mod Deactivated
 pub mod Created

@@ -12,7 +12,7 @@ use Rattle.model.specs.declared.sizes.Sizes.{Sizes}
 use Rattle.model.specs.Lines.{FREE}
 use Rattle.model.specs.State.{State, Files, Frames, files, frames, allPages, slotOf, payer, usedOf, freeCount}
 use Rattle.model.specs.Setters.{onHeld, setFree, setFreeMap, setUsed, counted}
-use Rattle.model.specs.Lent.{stateOf}
+use Rattle.model.specs.Lent.{stateIn}
 use Rattle.model.specs.Ruled.{OfCounts}
 use Rattle.model.specs.Fit.{Fit}
 use Rattle.leaves.specs.Counts.{counts, countsFor, usedCounts, used-counts, free-same}
@@ -20,7 +20,7 @@ use Rattle.leaves.specs.FreeMap.{freeMap, free-map, free-map-same}
 
 -- the state after an event about a design: numbers, accounts, limits, addresses, states and active switches are new
 abbrev pub after : State → List ℕ → List ℕ → List ℕ → List ℕ → List ℕ → List ℕ → State
-after st numbers accounts limits addresses states active = stateOf
+after st numbers accounts limits addresses states active = stateIn (st .memory .line)
     (st .memory .core .frames)
     (st .memory .held .pool)
     (st .disk .records)

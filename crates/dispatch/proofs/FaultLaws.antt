@@ -29,7 +29,7 @@ use Rattle.model.specs.Setters.{counted}
 use Rattle.model.specs.Index.{slot-of-page, slot-below, page-below}
 use Rattle.model.specs.Questions.{questions}
 use Rattle.model.specs.Pages as Pages
-use Rattle.model.specs.Lent.{stateOf, same-state}
+use Rattle.model.specs.Lent.{stateIn, same-state}
 use Rattle.model.specs.Step.{Outcome, carried, result}
 use Rattle.model.specs.Own.{own, refusal, leaves}
 use Rattle.model.specs.OwnLaws.{done, own-no, own-yes}
@@ -209,7 +209,7 @@ module _ (z : Sizes) (st : State) (k : Kept z st) where
     -- all tables, with those new that a fault changes
     abbrev left : List Frame → Pool → List ℕ → List ℕ → List ℕ → List ℕ → List ℕ → List ℕ → List ℕ → State
     left fs pool ws fq rl ads ss os fm =
-        stateOf fs pool (st .disk .records) (st .disk .numbers) (st .disk .accounts) (st .disk .maps) (st .disk .limits) ws fq rl ads ss os fm (st .memory .slots .active) (st .memory .slots .updating) (st .memory .slots .images) (st .memory .used)
+        stateIn (st .memory .line) fs pool (st .disk .records) (st .disk .numbers) (st .disk .accounts) (st .disk .maps) (st .disk .limits) ws fq rl ads ss os fm (st .memory .slots .active) (st .memory .slots .updating) (st .memory .slots .images) (st .memory .used)
 
     module _ {fs : List Frame} (pool : Pool) {ws fq rl ads ss os fm : List ℕ} where
       -- carried out, by the way

@@ -25,7 +25,7 @@ use Rattle.model.specs.Parts.{frameOf}
 use Rattle.model.specs.Questions.{questions}
 use Rattle.model.specs.Pages as Pages
 use Rattle.model.specs.Pages.{onFrame}
-use Rattle.model.specs.Lent.{stateOf, same-state}
+use Rattle.model.specs.Lent.{stateIn, same-state}
 use Rattle.model.specs.Step.{Outcome, outcome, carried, result}
 use Rattle.model.specs.Own.{own, leaves}
 use Rattle.model.specs.OwnLaws.{outcome-no}
@@ -123,7 +123,7 @@ module _ (z : Sizes) (st : State) (k : Kept z st) (s p w x : ℕ) where
 
   pub write-own : {a : Answer} {fs : List Frame} {ws us : List ℕ} → a ≡ own z sees (writing s p w x) .answer → fs ≡ own z sees (writing s p w x) .left .memory .core .frames
       → ws ≡ own z sees (writing s p w x) .left .memory .core .words → us ≡ usedLeft z sees s p w x
-      → leaves a (stateOf fs (held .pool) (st .disk .records) (st .disk .numbers) (st .disk .accounts) (st .disk .maps) (st .disk .limits) ws (core .free-queue) (core .removal-list)
+      → leaves a (stateIn (st .memory .line) fs (held .pool) (st .disk .records) (st .disk .numbers) (st .disk .accounts) (st .disk .maps) (st .disk .limits) ws (core .free-queue) (core .removal-list)
       (held .addresses) (held .states) (held .owners) (held .free-map) (st .memory .slots .active) (st .memory .slots .updating) (st .memory .slots .images) us)
       ≡ own z st (writing s p w x)
   unfolding carried result counted Pages.write frameOf usedThen charged payer

@@ -16,7 +16,7 @@ use Rattle.model.specs.Setters.{counted}
 use Rattle.model.specs.Questions.{questions, wouldStore}
 use Rattle.model.specs.Parts.{frameOf}
 use Rattle.model.specs.Writeback
-use Rattle.model.specs.Lent.{stateOf, same-state, noPool}
+use Rattle.model.specs.Lent.{stateIn, stateOf, same-state, noPool}
 use Rattle.model.specs.Step.{Outcome, outcome, carried, result}
 use Rattle.model.specs.Own.{own, leaves}
 use Rattle.model.specs.OwnLaws.{outcome-no}
@@ -61,7 +61,7 @@ module _ (z : Sizes) (st : State) (k : Kept z st) where
     done-same P a b c d = by-two P (eqb (frames st .frame f .transfer) READING) (by-two P (eqb good 1) a b) (by-two P (eqb good 1) c d)
 
     pub page-done-own : {fs : List Frame} {a : Answer} {rs ws fq rl ss : List ℕ} → DoneLeft (own z done-sees (pageDone f good)) (z .frames) fs a rs ws fq rl ss
-        → leaves a (stateOf (take (z .frames) fs) (held .pool) rs (st .disk .numbers) (st .disk .accounts) (st .disk .maps) (st .disk .limits) ws fq rl (held .addresses) ss (held .owners) (held .free-map) (slots .active) (slots .updating) (slots .images) (st .memory .used))
+        → leaves a (stateIn (st .memory .line) (take (z .frames) fs) (held .pool) rs (st .disk .numbers) (st .disk .accounts) (st .disk .maps) (st .disk .limits) ws fq rl (held .addresses) ss (held .owners) (held .free-map) (slots .active) (slots .updating) (slots .images) (st .memory .used))
         ≡ own z st (pageDone f good)
     unfolding carried result counted Writeback.pageDone Writeback.readGood Writeback.readFailed Writeback.writeGood Writeback.writeFailed Writeback.storeFrame Writeback.freeFrame
     page-done-own d = own-by z st done-sees (pageDone f good) refl refl (d .answer)
@@ -95,7 +95,7 @@ module _ (z : Sizes) (st : State) (k : Kept z st) where
     map-sees = stateOf [] (held .pool) [] (st .disk .numbers) [] (st .disk .maps) [] [] [] [] [] (held .states) (held .owners) (held .free-map) (slots .active) (slots .updating) (slots .images) []
 
     pub map-done-own : {p : Pool} {a : Answer} {ms ss os fm us is : List ℕ} → MapLeft (own z map-sees (mapDone s good)) p a ms ss os fm us is
-        → leaves a (stateOf (core .frames) p (st .disk .records) (st .disk .numbers) (st .disk .accounts) ms (st .disk .limits) (core .words) (core .free-queue) (core .removal-list) (held .addresses) ss os fm (slots .active) us is (st .memory .used))
+        → leaves a (stateIn (st .memory .line) (core .frames) p (st .disk .records) (st .disk .numbers) (st .disk .accounts) ms (st .disk .limits) (core .words) (core .free-queue) (core .removal-list) (held .addresses) ss os fm (slots .active) us is (st .memory .used))
         ≡ own z st (mapDone s good)
     unfolding carried result counted Writeback.mapDone Writeback.storeImage Writeback.updateOver
     map-done-own d = own-by z st map-sees (mapDone s good) refl refl (d .answer)
@@ -133,7 +133,7 @@ module _ (z : Sizes) (st : State) (k : Kept z st) where
     update-sees = stateOf (core .frames) noPool [] (st .disk .numbers) [] [] [] [] [] [] (held .addresses) (held .states) (held .owners) [] (slots .active) (slots .updating) (slots .images) []
 
     pub update-own : {a : Answer} {ads ss us is : List ℕ} → UpdateLeft (own z update-sees (update s)) a ads ss us is
-        → leaves a (stateOf (core .frames) (held .pool) (st .disk .records) (st .disk .numbers) (st .disk .accounts) (st .disk .maps) (st .disk .limits) (core .words) (core .free-queue) (core .removal-list) ads ss (held .owners) (held .free-map) (slots .active) us is (st .memory .used))
+        → leaves a (stateIn (st .memory .line) (core .frames) (held .pool) (st .disk .records) (st .disk .numbers) (st .disk .accounts) (st .disk .maps) (st .disk .limits) (core .words) (core .free-queue) (core .removal-list) ads ss (held .owners) (held .free-map) (slots .active) us is (st .memory .used))
         ≡ own z st (update s)
     unfolding carried result counted Writeback.update wouldStore
     update-own d = own-by z st update-sees (update s) refl refl (d .answer)
@@ -158,7 +158,7 @@ module _ (z : Sizes) (st : State) (k : Kept z st) where
   claim-sees = stateOf (core .frames) noPool [] [] (st .disk .accounts) [] [] (core .words) (core .free-queue) (core .removal-list) (held .addresses) (held .states) [] [] [] [] [] (st .memory .used)
 
   pub claim-own : {fs : List Frame} {a : Answer} {fq rl ss us : List ℕ} → ClaimLeft z claim-sees fs a fq rl ss us
-      → leaves a (stateOf (take (z .frames) fs) (held .pool) (st .disk .records) (st .disk .numbers) (st .disk .accounts) (st .disk .maps) (st .disk .limits) (core .words) fq rl (held .addresses) ss (held .owners) (held .free-map) (slots .active) (slots .updating) (slots .images) us)
+      → leaves a (stateIn (st .memory .line) (take (z .frames) fs) (held .pool) (st .disk .records) (st .disk .numbers) (st .disk .accounts) (st .disk .maps) (st .disk .limits) (core .words) fq rl (held .addresses) ss (held .owners) (held .free-map) (slots .active) (slots .updating) (slots .images) us)
       ≡ own z st claim
   unfolding carried result counted Writeback.claim Writeback.looking Writeback.beginsWrite Writeback.zeros Writeback.freeFrame usedThen payer
   claim-own d = own-by z st claim-sees claim refl refl (d .answer)
@@ -188,7 +188,7 @@ module _ (z : Sizes) (st : State) (k : Kept z st) where
     truncate-sees = stateOf (core .frames) noPool [] (st .disk .numbers) (st .disk .accounts) [] [] [] (core .free-queue) (core .removal-list) (held .addresses) (held .states) [] [] (slots .active) [] [] (st .memory .used)
 
     pub truncate-own : {fs : List Frame} {a : Answer} {fq rl ds ss us : List ℕ} → TruncateLeft z truncate-sees s n fs a fq rl ds ss us
-        → leaves a (stateOf (take (z .frames) fs) (held .pool) (st .disk .records) (st .disk .numbers) (st .disk .accounts) (st .disk .maps) (st .disk .limits) (core .words) fq rl ds ss (held .owners) (held .free-map) (slots .active) (slots .updating) (slots .images) us)
+        → leaves a (stateIn (st .memory .line) (take (z .frames) fs) (held .pool) (st .disk .records) (st .disk .numbers) (st .disk .accounts) (st .disk .maps) (st .disk .limits) (core .words) fq rl ds ss (held .owners) (held .free-map) (slots .active) (slots .updating) (slots .images) us)
         ≡ own z st (truncate s n)
     unfolding carried result counted Writeback.truncate Writeback.cutFrames frameOf T.usedThen payer charged
     truncate-own d = own-by z st truncate-sees (truncate s n) refl refl (d .answer)

@@ -1,2 +1,3 @@
 -- What every event is handed and leaves.
 pub mod Kept
+pub mod Beside

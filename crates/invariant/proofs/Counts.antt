@@ -27,7 +27,7 @@ counted-counts z st h = record {
 
 pub counted-fit : (z : Sizes) (st : State) → Long z st → Fit z (counted z st)
 unfolding counted
-counted-fit z st l = long-fit z (counted z st) (record { sizes = l .sizes; disk = l .disk; core = l .core; held = record { addresses = l .held .addresses; states = l .held .states; owners = l .held .owners }; slots = l .slots })
+counted-fit z st l = long-fit z (counted z st) (record { sizes = l .sizes; disk = l .disk; core = l .core; held = record { addresses = l .held .addresses; states = l .held .states; owners = l .held .owners }; slots = l .slots; line = l .line })
     (length-tab (mapWords z) (freeWord z (files st .state)) 0) (length-tab (z .accounts) (usedOf z (files st) (frames st)) 0)
 
 -- an event that ends by setting the counts

@@ -27,8 +27,8 @@ use Rattle.model.specs.declared.event.Page.the-variants.{Read}
 use Rattle.model.specs.declared.event.Writeback.the-variants.{Claim, Truncate}
 use Rattle.model.specs.Lines.{RELEASED}
 use Rattle.model.specs.Sizes.{sizesFit}
-use Rattle.model.specs.State.{State, files, frames, frameAt, noFrame, READING, pageOf, framed, freeWord, usedOf, mapWords}
-use Rattle.model.specs.Setters.{counted}
+use Rattle.model.specs.State.{State, files, frames, frameAt, noFrame, READING, pageOf, framed, freeCount, freeWord, usedOf, mapWords}
+use Rattle.model.specs.Setters.{onCore, onHeld, setFrames, setFreeQueue, setRemovalList, setAddresses, setStates, setFreeMap, setFree, setUsed, counted}
 use Rattle.model.specs.Parts.{frameOf, fromPage, wordAt}
 use Rattle.model.specs.Index.{place-below}
 use Rattle.model.specs.Questions.{questions}
@@ -38,7 +38,6 @@ use Rattle.model.specs.Writeback.{look, looking, warm, cooled, cutFrame, cutFra
 use Rattle.model.specs.LookLaws.{cool, cool-at}
 use Rattle.model.specs.Ruled.{Ruled, ruled, once-list}
 use Rattle.model.specs.Fit.{Fit, fit}
-use Rattle.model.specs.Lent.{same-state}
 use Rattle.model.specs.Step.{Outcome, carried, result, step}
 use Rattle.model.specs.Own.{refusal, completed, first-yes, first-no, step-own}
 use Rattle.model.specs.OwnLaws.{own-no, own-yes}
@@ -132,11 +131,16 @@ read-inside z st g s p w i h = ap (λ (o : Outcome State). o .answer) (accepted 
 -- ── truncate to N ──
 counted-same : (z : Sizes) (st : State) → Fit z st → Ruled z st → counted z st ≡ st
 unfolding counted
-counted-same z st f r = same-state refl (ap (λ (n : ℕ). record { hand = st .memory .held .pool .hand; free = n }) (sym (r .counts .free)))
-    refl refl refl refl refl refl refl refl refl refl refl
-    (sym (tab-entries (mapWords z) (freeWord z (files st .state)) (st .memory .held .free-map) (f .memory .free-map) (r .counts .free-map)))
-    refl refl refl
-    (sym (tab-entries (z .accounts) (usedOf z (files st) (frames st)) (st .memory .used) (f .memory .used) (r .counts .used)))
+counted-same z st f r = λ i. setUsed (used i) (onHeld (λ h. setFree (free i) (setFreeMap (map i) h)) st)
+  where
+    used : tab (z .accounts) (usedOf z (files st) (frames st)) 0 ≡ st .memory .used
+    used = sym (tab-entries (z .accounts) (usedOf z (files st) (frames st)) (st .memory .used) (f .memory .used) (r .counts .used))
+
+    free : freeCount z (files st .state) ≡ st .memory .held .pool .free
+    free = sym (r .counts .free)
+
+    map : tab (mapWords z) (freeWord z (files st .state)) 0 ≡ st .memory .held .free-map
+    map = sym (tab-entries (mapWords z) (freeWord z (files st .state)) (st .memory .held .free-map) (f .memory .free-map) (r .counts .free-map))
 
 module _ (z : Sizes) (st : State) (f : Fit z st) (r : Ruled z st) (s : ℕ) where
   -- no page is from N up
@@ -171,7 +175,8 @@ module _ (z : Sizes) (st : State) (f : Fit z st) (r : Ruled z st) (s : ℕ) wher
 
   truncated-same : Writeback.truncate z st s (z .pages) ≡ st
   unfolding Writeback.truncate
-  truncated-same = ap (counted z) (same-state frames-same refl refl refl refl refl refl refl queue-same list-same addresses-same states-same refl refl refl refl refl refl) ∙ counted-same z st f r
+  truncated-same = ap (counted z) (λ i. onHeld (λ h. setAddresses (addresses-same i) (setStates (states-same i) h))
+      (onCore (λ c. setFreeQueue (queue-same i) (setRemovalList (list-same i) (setFrames (frames-same i) c))) st)) ∙ counted-same z st f r
 
 truncate-all : (z : Sizes) (st : State) → Good z st → (s : ℕ) → s < z .slots → ¬ (files st .number s ≡ 0) → files st .active s ≡ 1 → step z st (Event.Writeback (Truncate s (z .pages))) ≡ completed 0 st
 unfolding carried result

@@ -101,6 +101,7 @@ module _ (z : Sizes) (st : State) (f : Fit z st) (r : Ruled z st) (some : 0 < si
     core = record { frames = took .frames-long ∙ f .memory .frames; words = f .memory .words; free-queue = f .memory .free-queue; removal-list = list-moved .long ∙ f .memory .removal-list };
     held = o .held;
     slots = o .slots;
+    line = o .line;
   })
 
   -- ── unmodified: the frame is freed ──
@@ -117,6 +118,7 @@ module _ (z : Sizes) (st : State) (f : Fit z st) (r : Ruled z st) (some : 0 < si
         core = o .core;
         held = record { addresses = f .memory .addresses; states = length-set (st .memory .held .states) (recordIn z st k) NULLED ∙ f .memory .states; owners = f .memory .owners };
         slots = o .slots;
+        line = o .line;
       })
 
   -- ── otherwise a write begins ──
@@ -137,6 +139,7 @@ module _ (z : Sizes) (st : State) (f : Fit z st) (r : Ruled z st) (some : 0 < si
         core = record { frames = length-set (l .frames) k new ∙ o .core .frames; words = o .core .words; free-queue = o .core .free-queue; removal-list = o .core .removal-list };
         held = o .held;
         slots = o .slots;
+        line = o .line;
       })
     where
       new : Frame

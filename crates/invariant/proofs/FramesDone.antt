@@ -93,6 +93,7 @@ module _ (z : Sizes) (st : State) (f : Fit z st) (r : Ruled z st) where
           core = record { frames = length-set (st .memory .core .frames) k (fresh i₀) ∙ f .memory .frames; words = length-store (st .memory .core .words) _ _ ∙ f .memory .words; free-queue = f .memory .free-queue; removal-list = list .long ∙ f .memory .removal-list };
           held = l .held;
           slots = l .slots;
+          line = l .line;
         })
       where
         there : frameAt (set (st .memory .core .frames) k (fresh i₀)) k ≡ fresh i₀
@@ -123,6 +124,7 @@ module _ (z : Sizes) (st : State) (f : Fit z st) (r : Ruled z st) where
           core = l .core;
           held = record { addresses = l .held .addresses; states = length-set (st .memory .held .states) (recordIn z st k) LIVE ∙ l .held .states; owners = l .held .owners };
           slots = l .slots;
+          line = l .line;
         })
 
     -- ── failed write ──

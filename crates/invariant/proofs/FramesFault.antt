@@ -90,6 +90,7 @@ module _ (z : Sizes) (st : State) (f : Fit z st) (r : Ruled z st) where
           core = record { frames = length-set (st .memory .core .frames) k (awaiting i) ∙ f .memory .frames; words = f .memory .words; free-queue = free .long ∙ f .memory .free-queue; removal-list = f .memory .removal-list };
           held = l .held;
           slots = l .slots;
+          line = l .line;
         })
 
     -- served as zeros, after a change y of what is held
@@ -118,6 +119,7 @@ module _ (z : Sizes) (st : State) (f : Fit z st) (r : Ruled z st) where
           };
           held = fits;
           slots = l .slots;
+          line = l .line;
         })
 
     -- the page has an address, which is not live

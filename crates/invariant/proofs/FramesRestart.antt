@@ -12,7 +12,7 @@ use Rattle.tables.specs.ThoseLaws.{tab-those, times-those, those-within}
 use Rattle.tables.specs.QueueLaws.{length-packed, members-packed, queue-packed}
 use Rattle.model.specs.declared.sizes.Sizes.{Sizes}
 use Rattle.model.specs.declared.frame.Frame.{Frame}
-use Rattle.model.specs.State.{Disk, State, files, frames, noFrame, allPages}
+use Rattle.model.specs.State.{Disk, State, files, frames, LINE, noFrame, allPages}
 use Rattle.model.specs.Restart.{restarted, uncounted}
 use Rattle.model.specs.Fit.{Within, DiskFit}
 use Rattle.invariant.proofs.Framed.{Framed, Framing}
@@ -57,6 +57,7 @@ module _ (z : Sizes) (d : Disk) (within : Within z) (fit : DiskFit z d) where
       core = record { frames = length-replicate (z .frames) noFrame; words = length-replicate (z .frames * z .words) 0; free-queue = length-packed (z .frames) line; removal-list = length-packed (z .frames) [] };
       held = record { addresses = length-replicate (allPages z) 0; states = length-tab (z .records) _ 0; owners = length-tab (z .records) _ 0 };
       slots = record { active = length-replicate (z .slots) 0; updating = length-replicate (z .slots) 0; images = length-replicate (allPages z) 0 };
+      line = length-packed LINE [];
     };
   }
 

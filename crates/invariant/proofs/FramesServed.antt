@@ -68,6 +68,7 @@ module _ (z : Sizes) (st : State) (f : Fit z st) (r : Ruled z st) where
           core = record { frames = length-set (st .memory .core .frames) k g ∙ f .memory .frames; words = long-words; free-queue = f .memory .free-queue; removal-list = moved .long ∙ f .memory .removal-list };
           held = l .held;
           slots = l .slots;
+          line = l .line;
         })
 
     -- modified is as it was

@@ -64,6 +64,7 @@ module _ (z : Sizes) (st : State) (f : Fit z st) (r : Ruled z st) (s k : ℕ) wh
         pool = st .memory .held .pool;
       };
       slots = st .memory .slots;
+      line = st .memory .line;
       used = st .memory .used;
     };
   }
@@ -221,6 +222,7 @@ module _ (z : Sizes) (st : State) (f : Fit z st) (r : Ruled z st) (s k : ℕ) wh
         owners = f .memory .owners;
       };
       slots = o .slots;
+      line = o .line;
     });
   }
 

@@ -55,6 +55,7 @@ module _ (z : Sizes) (st : State) (f : Fit z st) (r : Ruled z st) where
         };
         held = l .held;
         slots = l .slots;
+        line = l .line;
       })
     where
       there : frameAt (set (x .memory .core .frames) k noFrame) k ≡ noFrame

@@ -2,7 +2,7 @@
 use mathlib.Core.Path.{_≡_, refl}
 use mathlib.Core.Bool.{Bool}
 use Prim.Native.Nat.{ℕ, zero, suc, _+_, _≤_}
-use Rattle.tables.specs.Queue.{size}
+use Rattle.tables.specs.Queue.{queueOf, size}
 use Rattle.tables.specs.Questions.{Asked, none, ask, firstNo, all-yes, yes-all}
 use Rattle.tables.specs.Rule.{Holds}
 use Rattle.model.specs.declared.sizes.Sizes.{Sizes}
@@ -10,7 +10,7 @@ use Rattle.model.specs.declared.event.Writeback.the-variants.{Claim}
 use Rattle.model.specs.declared.event.Event.{Event}
 use Rattle.model.specs.declared.event.Event.the-variants as Event
 use Rattle.model.specs.Sizes.{sizesFit}
-use Rattle.model.specs.State.{Memory, State, files}
+use Rattle.model.specs.State.{Memory, State, LINE, files, allPages}
 use Rattle.model.specs.Rules.{diskRules, allRules}
 use Rattle.model.specs.Ruled.{OnDisk, Ruled, ruled, rules, disk-ruled, rules-disk}
 use Rattle.model.specs.Questions.{questions}
@@ -21,6 +21,7 @@ use Rattle.model.specs.Acts as A
 use Rattle.invariant.proofs.Framed.{Framed}
 use Rattle.invariant.proofs.FramesKept.{frames-kept}
 use Rattle.invariant.proofs.FramesRestart.{restarted-frames}
+use Rattle.invariant.proofs.LineKept.{line-kept, restarted-line}
 use Rattle.invariant.proofs.Records as Records
 use Rattle.invariant.proofs.RecordsKept.{kept-records}
 use Rattle.invariant.proofs.RestartedRecords.{format-disk, restarted-records}
@@ -32,12 +33,12 @@ abbrev pub Good : Sizes → State → Type 0
 Good z st = Holds (allFit z st) × Holds (allRules z st)
 
 -- the two halves of the rules, joined
-joined : (z : Sizes) (st : State) → Records.Kept z st → Framed z st → Ruled z st
-joined z st k f = record { disk = k .0; records = k .1; queues = f .queues; frames = f .frames; counts = f .counts }
+joined : (z : Sizes) (st : State) → Records.Kept z st → Framed z st → Holds (queueOf LINE (allPages z) (st .memory .line)) → Ruled z st
+joined z st k f l = record { disk = k .0; records = k .1; queues = f .queues; frames = f .frames; counts = f .counts; line = l }
 
 -- a carried-out event: its questions' rules hold
 pub carried-kept : (z : Sizes) (st : State) (e : Event) → Fit z st → Ruled z st → Asked (questions z st e) → Fit z (carried z st e) × Ruled z (carried z st e)
-carried-kept z st e f r a = let k = frames-kept z st f r e a in (k .lengths, joined z (carried z st e) (kept-records z st e f r a) k)
+carried-kept z st e f r a = let k = frames-kept z st f r e a in (k .lengths, joined z (carried z st e) (kept-records z st e f r a) k (line-kept z st f r e a))
 
 pub asked-all : (z : Sizes) (st : State) (e : Event) → answer z st e ≡ 0 → Asked (asked z st (questions z st e))
 unfolding answer
@@ -71,7 +72,7 @@ restart-answer z st f d = yes-all (ask 1 (allFit z st) (ask 2 (diskRules z st) n
 pub restarted-good : (z : Sizes) (st : State) → Fit z st → OnDisk z (files st) → Fit z (R.restarted z (st .disk)) × Ruled z (R.restarted z (st .disk))
 restarted-good z st f d =
     let k = restarted-frames z (st .disk) (f .sizes) (f .disk) in
-    (k .lengths, joined z (R.restarted z (st .disk)) (restarted-records z (f .sizes) st d) k)
+    (k .lengths, joined z (R.restarted z (st .disk)) (restarted-records z (f .sizes) st d) k (restarted-line z (st .disk)))
 
 -- From any disk part that passes the disk rules and any memory of the right lengths, restart's state passes both sets.
 pub restarted : (z : Sizes) (st : State) → Holds (allFit z st) → Holds (diskRules z st) → (restart z st .answer .refusal ≡ 0) × Good z (restart z st .left)

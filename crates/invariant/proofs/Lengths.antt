@@ -3,7 +3,7 @@ use mathlib.Core.Path.{_≡_}
 use Prim.Native.Nat.{_*_}
 use lib.ListN.{length}
 use Rattle.model.specs.declared.sizes.Sizes.{Sizes}
-use Rattle.model.specs.State.{Core, Held, Slots, State, allPages, mapWords}
+use Rattle.model.specs.State.{Core, Held, Slots, State, LINE, allPages, mapWords}
 use Rattle.model.specs.Fit.{Within, DiskFit, Fit}
 
 pub record CoreFit (z : Sizes) (c : Core) : Type 0 where
@@ -30,6 +30,7 @@ pub record Long (z : Sizes) (st : State) : Type 0 where
   pub core : CoreFit z (st .memory .core)
   pub held : HeldFit z (st .memory .held)
   pub slots : SlotsFit z (st .memory .slots)
+  pub line : length (st .memory .line) ≡ LINE
 
 pub long : (z : Sizes) (st : State) → Fit z st → Long z st
 long z st f = (let m = f .memory in record {
@@ -38,6 +39,7 @@ long z st f = (let m = f .memory in record {
   core = record { frames = m .frames; words = m .words; free-queue = m .free-queue; removal-list = m .removal-list };
   held = record { addresses = m .addresses; states = m .states; owners = m .owners };
   slots = record { active = m .active; updating = m .updating; images = m .images };
+  line = m .line;
 })
 
 pub long-fit : (z : Sizes) (st : State) → Long z st → length (st .memory .held .free-map) ≡ mapWords z → length (st .memory .used) ≡ z .accounts → Fit z st
@@ -56,6 +58,7 @@ long-fit z st l m u = record {
     active = l .slots .active;
     updating = l .slots .updating;
     images = l .slots .images;
+    line = l .line;
     used = u;
   };
 }

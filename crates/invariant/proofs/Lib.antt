@@ -29,10 +29,13 @@ pub mod FramesClaim
 pub mod FramesFiled
 pub mod FramesTruncate
 pub mod FramesRestart
+pub mod Cases
+pub mod LineKept
 pub mod FramesKept
 pub mod Kept
 pub mod AfterKept
 pub mod Never
 pub mod Tidy
+pub mod Served
 pub mod EdgesAll
 pub mod Transfer

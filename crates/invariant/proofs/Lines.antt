@@ -5,6 +5,7 @@ use Prim.Native.Nat.{ℕ, _<_}
 use lib.Dec.{T}
 use Rattle.tables.specs.Questions.{Asked}
 use Rattle.model.specs.declared.sizes.Sizes.{Sizes}
+use Rattle.model.specs.declared.event.Waiting.the-variants.{Join, Turn}
 use Rattle.model.specs.declared.event.Event.{Event}
 use Rattle.model.specs.declared.event.Event.the-variants as Event
 use Rattle.model.specs.declared.event.Design.the-variants.{Limit, Create, Delete, Activate, Deactivate}
@@ -18,15 +19,21 @@ use Rattle.model.specs.Ruled.{Ruled}
 use Rattle.model.specs.Fit.{Fit}
 use Rattle.model.specs.Designs
 use Rattle.model.specs.Pages
+use Rattle.model.specs.Line
 use Rattle.model.specs.Step.{carried}
+use Rattle.invariant.proofs.LineKept.{by-turn}
 use Rattle.invariant.proofs.RecordsTurned.{turned-moves, activate-turned, deactivate-turned}
 use Rattle.invariant.proofs.RecordsPaged.{fault-done, claim-done, pageDone-done}
 use Rattle.invariant.proofs.RecordsDropped.{dropped-moves, truncate-dropped, update-dropped}
 use Rattle.invariant.proofs.RecordsStored.{mapDone-done}
 
+-- each record's state is left alone or moves along a line
+abbrev Moves : Sizes → State → State → Type 0
+Moves z st st′ = (r : ℕ) → r < z .records → (files st′ .state r ≡ files st .state r) ⊎ T (allowed (files st .state r) (files st′ .state r))
+
 pub along : (z : Sizes) (st : State) (e : Event) → Fit z st → Ruled z st → Asked (questions z st e) →
     (r : ℕ) → r < z .records → (files (carried z st e) .state r ≡ files st .state r) ⊎ T (allowed (files st .state r) (files (carried z st e) .state r))
-unfolding carried counted Designs.limit Designs.create Designs.delete Pages.read Pages.write Pages.wire Pages.unwire
+unfolding carried counted Designs.limit Designs.create Designs.delete Pages.read Pages.write Pages.wire Pages.unwire Line.join
 along z st (Event.Design (Limit q n)) f k a = λ r h. inl refl
 along z st (Event.Design (Create s q n)) f k a = λ r h. inl refl
 along z st (Event.Design (Delete s)) f k a = λ r h. inl refl
@@ -42,3 +49,5 @@ along z st (Event.Writeback (Truncate s n)) f k a = dropped-moves z (f .sizes .p
 along z st (Event.Writeback (Update s)) f k a = dropped-moves z (f .sizes .pages) s LEAVING _ _ (files st) (k .disk) (k .records) _ _ _ _ (update-dropped z st f k s (a .1 .1 .0) (a .0))
 along z st (Event.Writeback (PageDone g good)) f k a = pageDone-done z st f k g good a .1
 along z st (Event.Writeback (MapDone s good)) f k a = mapDone-done z st f k s good a .1
+along z st (Event.Waiting (Join s p)) f k a = λ r h. inl refl
+along z st (Event.Waiting Turn) f k a = by-turn z st f k (Moves z st) (λ l h r b. inl refl) (λ q. fault-done z st f k _ _ q .1) (λ q. claim-done z st f k .1) a

@@ -2,6 +2,7 @@
 use Prim.Native.Nat.{ℕ}
 use Rattle.tables.specs.Questions.{Asked}
 use Rattle.model.specs.declared.sizes.Sizes.{Sizes}
+use Rattle.model.specs.declared.event.Waiting.the-variants.{Join, Turn}
 use Rattle.model.specs.declared.event.Event.{Event}
 use Rattle.model.specs.declared.event.Event.the-variants as Event
 use Rattle.model.specs.declared.event.Design.the-variants.{Limit, Create, Delete, Activate, Deactivate}
@@ -14,7 +15,9 @@ use Rattle.model.specs.Ruled.{Ruled}
 use Rattle.model.specs.Fit.{Fit}
 use Rattle.model.specs.Designs
 use Rattle.model.specs.Pages
+use Rattle.model.specs.Line
 use Rattle.model.specs.Step.{carried}
+use Rattle.invariant.proofs.LineKept.{by-turn}
 use Rattle.invariant.proofs.Records.{Kept}
 use Rattle.invariant.proofs.RecordsNamed.{create-records, delete-records}
 use Rattle.invariant.proofs.RecordsTurned.{activate-records, deactivate-records}
@@ -46,7 +49,7 @@ module _ (z : Sizes) (st : State) (f : Fit z st) (r : Ruled z st) where
 
 -- ── every event ──
 pub kept-records : (z : Sizes) (st : State) (e : Event) → Fit z st → Ruled z st → Asked (questions z st e) → Kept z (carried z st e)
-unfolding carried
+unfolding carried Line.join
 kept-records z st (Event.Design (Limit q n)) f r a = limit-records z st f r q n a
 kept-records z st (Event.Design (Create s q n)) f r a = create-records z st f r s q n a
 kept-records z st (Event.Design (Delete s)) f r a = delete-records z st f r s a
@@ -62,3 +65,5 @@ kept-records z st (Event.Writeback (Truncate s k)) f r a = truncate-records z st
 kept-records z st (Event.Writeback (Update s)) f r a = update-records z st f r s a
 kept-records z st (Event.Writeback (PageDone g good)) f r a = pageDone-records z st f r g good a
 kept-records z st (Event.Writeback (MapDone s good)) f r a = mapDone-records z st f r s good a
+kept-records z st (Event.Waiting (Join s p)) f r a = (r .disk, r .records)
+kept-records z st (Event.Waiting Turn) f r a = by-turn z st f r (Kept z) (λ l h. (r .disk, r .records)) (λ k. fault-records z st f r _ _ k) (λ k. claim-records z st f r k) a

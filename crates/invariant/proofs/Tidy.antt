@@ -9,6 +9,7 @@ use Rattle.tables.specs.Laws.{and-left, and-right}
 use Rattle.tables.specs.Questions.{Asked}
 use Rattle.tables.specs.Rule.{Holds}
 use Rattle.model.specs.declared.sizes.Sizes.{Sizes}
+use Rattle.model.specs.declared.event.Waiting.the-variants.{Join, Turn}
 use Rattle.model.specs.declared.event.Event.{Event}
 use Rattle.model.specs.declared.event.Event.the-variants as Event
 use Rattle.model.specs.declared.event.Design.the-variants.{Limit, Create, Delete, Activate, Deactivate}
@@ -25,9 +26,11 @@ use Rattle.model.specs.Fit.{Fit, Within, within, fit}
 use Rattle.model.specs.Designs
 use Rattle.model.specs.Pages
 use Rattle.model.specs.Writeback
+use Rattle.model.specs.Line
 use Rattle.model.specs.Restart as R
 use Rattle.model.specs.Step.{outcome, diskLengths, memoryLengths, answer, carried, result, step, restart}
 use Rattle.model.specs.Acts.{Act, event, looking, restarting, cutting, World, act, allowed, legal, run, start}
+use Rattle.invariant.proofs.LineKept.{by-turn}
 use Rattle.invariant.proofs.Records.{Tidied}
 use Rattle.invariant.proofs.RecordsTurned.{turned-tidy, activate-turned, deactivate-turned}
 use Rattle.invariant.proofs.RecordsPaged.{fault-done, claim-done, pageDone-done}
@@ -39,7 +42,7 @@ use Rattle.invariant.proofs.Never.{Safe, safe-fit, one, start-safe, for
 
 -- every event that is carried out keeps it
 tidies : (z : Sizes) (st : State) (e : Event) → Fit z st → Ruled z st → Asked (questions z st e) → Tidied z st → Tidied z (carried z st e)
-unfolding carried counted Designs.limit Designs.create Designs.delete Designs.activate Designs.deactivate Pages.read Pages.write Pages.wire Pages.unwire Writeback.truncate Writeback.update
+unfolding carried counted Designs.limit Designs.create Designs.delete Designs.activate Designs.deactivate Pages.read Pages.write Pages.wire Pages.unwire Writeback.truncate Writeback.update Line.join
 tidies z st (Event.Design (Limit q n)) f k a = λ t. t
 tidies z st (Event.Design (Create s q n)) f k a = λ t. t
 tidies z st (Event.Design (Delete s)) f k a = λ t. t
@@ -57,6 +60,8 @@ tidies z st (Event.Writeback (Truncate s n)) f k a = dropped-tidy z (f .sizes .p
 tidies z st (Event.Writeback (Update s)) f k a = dropped-tidy z (f .sizes .pages) s LEAVING _ _ (files st) (k .disk) (k .records) _ _ _ _ (update-dropped z st f k s (a .1 .1 .0) (a .0))
 tidies z st (Event.Writeback (PageDone g good)) f k a = pageDone-done z st f k g good a .2
 tidies z st (Event.Writeback (MapDone s good)) f k a = mapDone-done z st f k s good a .2
+tidies z st (Event.Waiting (Join s p)) f k a = λ t. t
+tidies z st (Event.Waiting Turn) f k a = by-turn z st f k (λ x. Tidied z st → Tidied z x) (λ l h t. t) (λ q. fault-done z st f k _ _ q .2) (λ q. claim-done z st f k .2) a
 
 -- a restart makes it: a record is filed, or free and of slot 0
 restarted-tidy : (z : Sizes) → Within z → (st : State) → OnDisk z (files st) → Tidied z (R.restarted z (st .disk))

@@ -19,6 +19,7 @@ use Rattle.model.specs.declared.frame.Frame.{Frame}
 use Rattle.model.specs.declared.event.Design.the-variants.{Limit, Create, Delete, Activate, Deactivate}
 use Rattle.model.specs.declared.event.Page.the-variants.{Fault, Read, Write, Wire, Unwire}
 use Rattle.model.specs.declared.event.Writeback.the-variants.{Claim, Truncate, Update, PageDone, MapDone}
+use Rattle.model.specs.declared.event.Waiting.the-variants.{Join, Turn}
 use Rattle.model.specs.declared.event.Event.{Event}
 use Rattle.model.specs.declared.event.Event.the-variants as Event
 use Rattle.model.specs.declared.request.Request.{Request}
@@ -31,6 +32,7 @@ use Rattle.model.specs.Parts.{wordAt, setPart, frameOf}
 use Rattle.model.specs.Designs
 use Rattle.model.specs.Pages
 use Rattle.model.specs.Writeback
+use Rattle.model.specs.Line
 use Rattle.model.specs.Writeback.{looking, beginsWrite, recordIn, cutFrame}
 use Rattle.model.specs.Requests.{decoded, decodedNumber}
 use Rattle.model.specs.Step.{outcome, asked, answer, carried, result, step}
@@ -39,6 +41,7 @@ use Rattle.model.specs.Acts as A
 use Rattle.model.specs.Acts.{Act, World, act, run}
 use Rattle.model.specs.Ruled.{Ruled, ruled, once-free}
 use Rattle.model.specs.Fit.{Fit, fit}
+use Rattle.invariant.proofs.LineKept.{by-turn}
 use Rattle.invariant.proofs.Looks.{Took, looking-takes}
 use Rattle.invariant.proofs.FrameParts.{part-other, word-other}
 use Rattle.invariant.proofs.Stands.{frame-of, moving-place, seat-at}
@@ -191,7 +194,7 @@ module _ (z : Sizes) (st : State) (fits : Fit z st) (r : Ruled z st) (f : ℕ) (
 
   -- ── every event ──
   untouched : (e : Event) → Asked (questions z st e) → NotItsDone f e → Same (carried z st e)
-  unfolding carried counted Designs.limit Designs.create Designs.delete Designs.activate Designs.deactivate Writeback.update Writeback.mapDone
+  unfolding carried counted Designs.limit Designs.create Designs.delete Designs.activate Designs.deactivate Writeback.update Writeback.mapDone Line.join
   untouched (Event.Design (Limit q n)) a o = same-core z st _ f refl
   untouched (Event.Design (Create s q n)) a o = same-core z st _ f refl
   untouched (Event.Design (Delete s)) a o = same-core z st _ f refl
@@ -208,6 +211,8 @@ module _ (z : Sizes) (st : State) (fits : Fit z st) (r : Ruled z st) (f : ℕ) (
   untouched (Event.Writeback (PageDone k good)) a o = done-untouched k good (λ e. o good (ap (λ (x : ℕ). Event.Writeback (PageDone x good)) (sym e)))
   untouched (Event.Writeback (MapDone s good)) a o =
       counted-untouched z st _ f (if-elim Same (eqb good 1) _ _ (λ y. same-core z st _ f refl) (λ n. same-core z st _ f refl))
+  untouched (Event.Waiting (Join s p)) a o = same-core z st _ f refl
+  untouched (Event.Waiting Turn) a o = by-turn z st fits r Same (λ l h. same-core z st _ f refl) (λ q. fault-untouched _ _ q) (λ q. claim-untouched q) a
 
 -- For every state that passes questions 1 and 2, every frame in transfer and every event but its page done: its words are after `step` what they were; it is in that transfer still, of that page.
 pub transfer-words : (z : Sizes) (st : State) (e : Event) → Good z st → (f : ℕ) → InTransfer z st f → NotItsDone f e → Untouched z st (step z st e .left) f

@@ -1,4 +1,4 @@
--- Short names for the walks of the calls: sixteen of a kind, one for each table; how a parameter stays, what its machine value tells, and what it gives at the end.
+-- Short names for the walks of the calls: one of a kind for each table of numbers; how a parameter stays, what its machine value tells, and what it gives at the end.
 -- Assumes `Given`.
 use mathlib.Core.Path.{refl}
 use Prim.Native.Nat.{ℕ}
@@ -16,8 +16,9 @@ use denote.Signature.{AllWithin, plain, mutSliceOf, shrSliceOf}
 use denote.Triple.Walked.{Stay, stay-dropped, gave-slice, Goes, Silent, goes-dropped, goes-gave-slice}
 use denote.Exit.{yes}
 
-abbrev pub Sixteen : Type 0 → Type 0
-Sixteen X = X × (X × (X × (X × (X × (X × (X × (X × (X × (X × (X × (X × (X × (X × (X × (X × Unit {0})))))))))))))))
+-- in the order of the list of tables
+abbrev pub EachTable : Type 0 → Type 0
+EachTable X = X × (X × (X × (X × (X × (X × (X × (X × (X × (X × (X × (X × (X × (X × (X × (X × (X × Unit {0}))))))))))))))))
 
 -- n lifetimes: a value; a table of elements R, lent as `&mut` for lifetime j and given up, or lent as `&`
 module _ (n : ℕ) where

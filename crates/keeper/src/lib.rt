@@ -2,7 +2,7 @@
 // Each does its work on values, in crate `calls`, a list of requests in crate `batch`; here stands what is lent. A name with the prefix is a C symbol (include/keeper.h).
 ghost use mathlib.Core.Path.{_≡_};
 ghost use denote.Ref.{ptr};
-ghost use Rattle.model.specs.Lent.{diskOf, entered, left};
+ghost use Rattle.model.specs.Lent.{diskOf, allEntered, allLeft};
 ghost use Rattle.model.specs.Part.{wordAt};
 ghost use Rattle.model.specs.Own.{leaves};
 ghost use Rattle.model.specs.Calls.{apply};
@@ -49,14 +49,15 @@ pub extern "C" fn keeper_apply(
     active: &mut [u8],
     updating: &mut [u8],
     images: &mut [u16],
+    line: &mut [u16],
     used: &mut [u16],
 ) -> Answer
     ensures { λ r. ⌜ leaves r
-        (left (now (frames .exit)) (now (pool .exit)) records numbers accounts maps limits
-        «frame_words» «free_queue» «removal_list» addresses states owners «free_map» active updating images used)
+        (allLeft (now (frames .exit)) (now (pool .exit)) records numbers accounts maps limits
+        «frame_words» «free_queue» «removal_list» addresses states owners «free_map» active updating images line used)
         ≡ apply sizes
-        (entered (now (frames .entry)) (now (pool .entry)) records numbers accounts maps limits
-        «frame_words» «free_queue» «removal_list» addresses states owners «free_map» active updating images used) request ⌝ }
+        (allEntered (now (frames .entry)) (now (pool .entry)) records numbers accounts maps limits
+        «frame_words» «free_queue» «removal_list» addresses states owners «free_map» active updating images line used) request ⌝ }
 {
     let lent = frames.len();
     let values = load(frames);
@@ -82,6 +83,7 @@ pub extern "C" fn keeper_apply(
         active,
         updating,
         images,
+        line,
         used,
     );
     save(frames, out.frames);
@@ -114,17 +116,18 @@ pub extern "C" fn keeper_apply_all(
     active: &mut [u8],
     updating: &mut [u8],
     images: &mut [u16],
+    line: &mut [u16],
     used: &mut [u16],
 ) -> Answer
     ensures { λ r. ⌜ record {
       answer = r;
       answers = now (answers .exit);
-      left = left (now (frames .exit)) (now (pool .exit)) records numbers accounts maps limits
-          «frame_words» «free_queue» «removal_list» addresses states owners «free_map» active updating images used;
+      left = allLeft (now (frames .exit)) (now (pool .exit)) records numbers accounts maps limits
+          «frame_words» «free_queue» «removal_list» addresses states owners «free_map» active updating images line used;
     }
         ≡ applyAll sizes (now (requests .entry)) (now (answers .entry))
-        (entered (now (frames .entry)) (now (pool .entry)) records numbers accounts maps limits
-        «frame_words» «free_queue» «removal_list» addresses states owners «free_map» active updating images used) ⌝ }
+        (allEntered (now (frames .entry)) (now (pool .entry)) records numbers accounts maps limits
+        «frame_words» «free_queue» «removal_list» addresses states owners «free_map» active updating images line used) ⌝ }
 {
     let lent = frames.len();
     let values = load(frames);
@@ -151,6 +154,7 @@ pub extern "C" fn keeper_apply_all(
         active,
         updating,
         images,
+        line,
         used,
     );
     save(frames, out.frames);
@@ -180,16 +184,17 @@ pub extern "C" fn keeper_restart(
     active: &mut [u8],
     updating: &mut [u8],
     images: &mut [u16],
+    line: &mut [u16],
     used: &mut [u16],
 ) -> Answer
     ensures { λ r. ⌜ leaves r
-        (left
+        (allLeft
         (now (frames .exit))
         (now (pool .exit)) records numbers accounts maps limits
-        «frame_words» «free_queue» «removal_list» addresses states owners «free_map» active updating images used)
+        «frame_words» «free_queue» «removal_list» addresses states owners «free_map» active updating images line used)
         ≡ restart sizes
-        (entered (now (frames .entry)) (now (pool .entry)) records numbers accounts maps limits
-        «frame_words» «free_queue» «removal_list» addresses states owners «free_map» active updating images used) ⌝ }
+        (allEntered (now (frames .entry)) (now (pool .entry)) records numbers accounts maps limits
+        «frame_words» «free_queue» «removal_list» addresses states owners «free_map» active updating images line used) ⌝ }
 {
     let lent = frames.len();
     let values = load(frames);
@@ -214,6 +219,7 @@ pub extern "C" fn keeper_restart(
         active,
         updating,
         images,
+        line,
         used,
     );
     save(frames, fresh.frames);
@@ -280,10 +286,11 @@ pub fn page_look<'a>(
     active: &[u8],
     updating: &[u8],
     images: &[u16],
+    line: &[u16],
     used: &[u16],
 ) -> &'a [u32]
-    ensures { λ r. ⌜ (let st = entered (now (frames .entry)) pool records numbers accounts maps limits
-        «frame_words» «free_queue» «removal_list» addresses states owners «free_map» active updating images used in
+    ensures { λ r. ⌜ (let st = allEntered (now (frames .entry)) pool records numbers accounts maps limits
+        «frame_words» «free_queue» «removal_list» addresses states owners «free_map» active updating images line used in
         (now r ≡ look sizes st slot page .left)
         × ((now (refusal .exit) ≡ look sizes st slot page .answer .refusal)
         × (ptr r ≡ wordAt (ptr («frame_words» .entry)) (partOf sizes st slot page .start)))) ⌝ }
@@ -313,6 +320,7 @@ pub fn page_look<'a>(
         active,
         updating,
         images,
+        line,
         used,
     )
 }
@@ -341,11 +349,12 @@ pub extern "C" fn keeper_page_look(
     active: &[u8],
     updating: &[u8],
     images: &[u16],
+    line: &[u16],
     used: &[u16],
 ) -> Part
     ensures { λ r. ⌜ r ≡ partOf sizes
-        (entered (now (frames .entry)) pool records numbers accounts maps limits
-        «frame_words» «free_queue» «removal_list» addresses states owners «free_map» active updating images used) slot page ⌝ }
+        (allEntered (now (frames .entry)) pool records numbers accounts maps limits
+        «frame_words» «free_queue» «removal_list» addresses states owners «free_map» active updating images line used) slot page ⌝ }
 {
     let lent = frames.len();
     let values = load(frames);
@@ -371,6 +380,7 @@ pub extern "C" fn keeper_page_look(
         active,
         updating,
         images,
+        line,
         used,
     )
 }

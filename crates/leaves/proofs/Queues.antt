@@ -12,7 +12,7 @@ use Rattle.tables.specs.Base.{at}
 use Rattle.tables.specs.Rule.{Rule, Holds, is, below, non}
 use Rattle.tables.specs.Store.{store, at-store, length-store}
 use Rattle.tables.specs.StoreLoops.{turned-none, turned-all}
-use Rattle.tables.specs.Queue.{members, times, head, size, first, queue, push-front, pop, remove}
+use Rattle.tables.specs.Queue.{members, times, head, size, first, queueOf, push-front, pop, remove}
 use Rattle.tables.specs.QueueEntries.{at-absent, push-front-ext, pop-ext, remove-absent, remove-ext}
 
 pub first-at : (q : List ℕ) → first q ≡ at q 0 - 1
@@ -36,7 +36,7 @@ from j k = non (below k j)
 abbrev pub next : List ℕ → ℕ → ℕ
 next q k = at q (k + 1)
 
-module _ (q : List ℕ) (ok : Holds (queue (length q) q)) where
+module _ {m : ℕ} (q : List ℕ) (ok : Holds (queueOf (length q) m q)) where
   pub front-stored : (f : ℕ) → size q < length q → store q every (shifted (f + 1) q) ≡ push-front q f
   front-stored f room = push-front-ext q refl ok f room (store q every (shifted (f + 1) q)) (length-store q every (shifted (f + 1) q))
       (elim (at-store q every (shifted (f + 1) q) 0 (omega arith)) [ inl x ↦ x .1 ∙ add-one f | inr x ↦ absurd (x .0 tt) ])

@@ -1,15 +1,15 @@
-// A queue of frames in a table: frame f as entry f + 1, packed at the front, then zeros.
+// A queue of numbers in a table, of frames or of pages that wait: number f as entry f + 1, packed at the front, then zeros.
 ghost use mathlib.Core.Path.{_≡_};
 ghost use Prim.Native.Nat.{ℕ, _+_, _<_, _≤_};
 ghost use lib.ListN.{length};
 ghost use Rattle.tables.specs.Base.{at};
-ghost use Rattle.tables.specs.Queue.{members, times, size, first, queue, push-back, push-front, pop, remove};
+ghost use Rattle.tables.specs.Queue.{members, times, size, first, queue, queueOf, push-back, push-front, pop, remove};
 ghost use Rattle.tables.specs.Rule.{Holds, below, non};
 ghost use Rattle.tables.specs.Store.{store};
 use crate::cells::at16;
 use crate::cells::put16;
 
-// How many frames are queued.
+// How many are queued.
 pub fn size(q: &[u16]) -> usize
     ensures { λ r. ⌜ r ≡ size (now (q .entry)) ⌝ }
 {
@@ -20,7 +20,7 @@ pub fn size(q: &[u16]) -> usize
     k
 }
 
-// The first frame, 0 where there is none.
+// The first one, 0 where there is none.
 pub fn first(q: &[u16]) -> usize
     ensures { λ r. ⌜ r ≡ first (now (q .entry)) ⌝ }
 {
@@ -32,7 +32,7 @@ pub fn first(q: &[u16]) -> usize
 }
 
 pub fn push_back(q: &mut [u16], f: usize)
-    requires { ⌜ (f < 65535) × Holds (queue (length (now q)) (now q)) × (size (now q) < length (now q)) ⌝ }
+    requires { ⌜ (f < 65535) × ((m : ℕ) × Holds (queueOf (length (now q)) m (now q))) × (size (now q) < length (now q)) ⌝ }
     ensures { λ _. ⌜ now (q .exit) ≡ push-back (now (q .entry)) f ⌝ }
 {
     let n = size(q);
@@ -67,7 +67,7 @@ fn close_gap(q: &mut [u16], j: usize)
 }
 
 pub fn pop(q: &mut [u16])
-    requires { ⌜ Holds (queue (length (now q)) (now q)) ⌝ }
+    requires { ⌜ ((m : ℕ) × Holds (queueOf (length (now q)) m (now q))) ⌝ }
     ensures { λ _. ⌜ now (q .exit) ≡ pop (now (q .entry)) ⌝ }
 {
     close_gap(q, 0);
@@ -97,9 +97,9 @@ pub fn remove(q: &mut [u16], f: usize)
     close_gap(q, j);
 }
 
-// The first frame goes to the end.
+// The first one goes to the end.
 pub fn rotate(q: &mut [u16])
-    requires { ⌜ Holds (queue (length (now q)) (now q)) × (0 < size (now q)) ⌝ }
+    requires { ⌜ ((m : ℕ) × Holds (queueOf (length (now q)) m (now q))) × (0 < size (now q)) ⌝ }
     ensures { λ _. ⌜ now (q .exit) ≡ push-back (pop (now (q .entry))) (first (now (q .entry))) ⌝ }
 {
     let f = first(q);

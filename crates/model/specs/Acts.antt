@@ -1,7 +1,7 @@
 -- Lists of acts: events, page looks, restarts, and cuts with any choice of what lands and anything in memory after.
 use mathlib.Core.Bool.{Bool, true, false, _&&_}
 use mathlib.Core.List.{List, [], _∷_}
-use Prim.Native.Nat.{ℕ, zero, suc}
+use Prim.Native.Nat.{ℕ, zero, suc, _%_}
 use lib.Dec.{eqb}
 use Rattle.tables.specs.Base.{if}
 use Rattle.tables.specs.Rule.{test}
@@ -9,12 +9,14 @@ use Rattle.model.specs.declared.sizes.Sizes.{Sizes}
 use Rattle.model.specs.declared.event.Design.the-variants.{Limit, Create, Delete, Activate, Deactivate}
 use Rattle.model.specs.declared.event.Page.the-variants.{Fault, Read, Write, Wire, Unwire}
 use Rattle.model.specs.declared.event.Writeback.the-variants.{Claim, Truncate, Update, PageDone, MapDone}
+use Rattle.model.specs.declared.event.Waiting.the-variants.{Join, Turn}
 use Rattle.model.specs.declared.event.Event.{Event}
 use Rattle.model.specs.declared.event.Event.the-variants as Event
-use Rattle.model.specs.State.{Disk, Memory, State, files, frames, WRITING}
+use Rattle.model.specs.State.{Disk, Memory, State, files, frames, WRITING, slotOf}
 use Rattle.model.specs.Pages.{faultFrame}
 use Rattle.model.specs.Writeback
 use Rattle.model.specs.Writeback.{beginsWrite, recordIn, storeFrame, storeImage}
+use Rattle.model.specs.Questions.{Turning, nobody, serves, goesBack, faults, claims, sendsAway, nextPage, turning}
 use Rattle.model.specs.Step.{Outcome, memoryLengths, step, restart}
 use Rattle.model.specs.Ledger as L
 
@@ -26,6 +28,22 @@ pub data Act : Type 0 where
   -- which open writes land, by frame; which open updates, by slot; what the memory holds after
   cutting : (ℕ → Bool) → (ℕ → Bool) → Memory → Act
 
+-- what a fault of a page and a claim feed the ledger
+abbrev fedFault : State → ℕ → ℕ → L.Fed
+fedFault st s p = L.faulted s p (faultFrame st)
+
+abbrev fedClaim : Sizes → State → L.Fed
+fedClaim z st = let f = Writeback.looking z st .taken in L.claimed f (if (beginsWrite z st) (suc (recordIn z st f)) 0)
+
+-- a turn feeds what its fault or claim feeds
+abbrev pub fedTurn : Sizes → State → Turning → L.Fed
+fedTurn z st nobody = L.nothing
+fedTurn z st serves = L.nothing
+fedTurn z st goesBack = L.nothing
+fedTurn z st faults = fedFault st (slotOf z (nextPage z st)) (nextPage z st % z .pages)
+fedTurn z st claims = fedClaim z st
+fedTurn z st (sendsAway n) = L.nothing
+
 -- what an event that is carried out feeds the ledger
 unfoldable pub fed : Sizes → State → Event → L.Fed
 fed z st (Event.Design (Limit q n)) = L.nothing
@@ -33,16 +51,18 @@ fed z st (Event.Design (Create s q n)) = L.created s
 fed z st (Event.Design (Delete s)) = L.deleted s
 fed z st (Event.Design (Activate s)) = L.activated s (st .disk)
 fed z st (Event.Design (Deactivate s)) = L.deactivated s
-fed z st (Event.Page (Fault s p)) = L.faulted s p (faultFrame st)
+fed z st (Event.Page (Fault s p)) = fedFault st s p
 fed z st (Event.Page (Read s p w)) = L.nothing
 fed z st (Event.Page (Write s p w x)) = L.wrote s p w x
 fed z st (Event.Page (Wire s p)) = L.nothing
 fed z st (Event.Page (Unwire s p)) = L.nothing
-fed z st (Event.Writeback Claim) = let f = Writeback.looking z st .taken in L.claimed f (if (beginsWrite z st) (suc (recordIn z st f)) 0)
+fed z st (Event.Writeback Claim) = fedClaim z st
 fed z st (Event.Writeback (Truncate s k)) = L.truncated s k
 fed z st (Event.Writeback (Update s)) = L.began s
 fed z st (Event.Writeback (PageDone f good)) = L.pageEnd f good
 fed z st (Event.Writeback (MapDone s good)) = L.mapEnd s good
+fed z st (Event.Waiting (Join s p)) = L.nothing
+fed z st (Event.Waiting Turn) = fedTurn z st (turning z st)
 
 -- ── a cut ──
 -- Each open write's record and open update's map is then old or new, whole, in any mix; the rest of the disk stays.

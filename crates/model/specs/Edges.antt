@@ -28,12 +28,12 @@ flat [] = []
 flat (g ∷ gs) = g .page ∷ g .used ∷ g .modified ∷ g .wired ∷ g .initial ∷ g .transfer ∷ flat gs
 
 -- all tables in a row
-unfoldable tables : State → List ℕ
+unfoldable pub tables : State → List ℕ
 tables st = st .disk .records ++ st .disk .numbers ++ st .disk .accounts ++ st .disk .maps ++ st .disk .limits ++ flat (st .memory .core .frames) ++ st .memory .core .words
     ++ st .memory .core .free-queue ++ st .memory .core .removal-list ++ st .memory .held .addresses ++ st .memory .held .states ++ st .memory .held .owners ++ st .memory .held .free-map
-    ++ st .memory .held .pool .hand ∷ st .memory .held .pool .free ∷ st .memory .slots .active ++ st .memory .slots .updating ++ st .memory .slots .images ++ st .memory .used
+    ++ st .memory .held .pool .hand ∷ st .memory .held .pool .free ∷ st .memory .slots .active ++ st .memory .slots .updating ++ st .memory .slots .images ++ st .memory .line ++ st .memory .used
 
-unfoldable equal : List ℕ → List ℕ → Bool
+unfoldable pub equal : List ℕ → List ℕ → Bool
 equal [] [] = true
 equal [] (y ∷ ys) = false
 equal (x ∷ xs) [] = false

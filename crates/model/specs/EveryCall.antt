@@ -1,4 +1,4 @@
--- Every call as one: what it asks, and demand 1's refusal, which leaves everything lent as it was.
+-- The calls as one (step, apply, restart, format, look): what each asks, and demand 1's refusal, which leaves everything lent as it was.
 use mathlib.Core.Path.{_≡_, refl}
 use mathlib.Core.List.{List, []}
 use Prim.Native.Nat.{ℕ, zero, suc}

@@ -5,7 +5,7 @@ use lib.ListN.{length}
 use Rattle.tables.specs.Rule.{Holds}
 use Rattle.model.specs.declared.sizes.Sizes.{Sizes}
 use Rattle.model.specs.Sizes.{sizesFit}
-use Rattle.model.specs.State.{Disk, Memory, State, allPages, mapWords}
+use Rattle.model.specs.State.{Disk, Memory, State, LINE, allPages, mapWords}
 use Rattle.model.specs.Step.{diskLengths, memoryLengths, allFit}
 
 -- each size is above 0 and at most its limit
@@ -42,6 +42,7 @@ pub record MemoryFit (z : Sizes) (m : Memory) : Type 0 where
   pub active : length (m .slots .active) ≡ z .slots
   pub updating : length (m .slots .updating) ≡ z .slots
   pub images : length (m .slots .images) ≡ allPages z
+  pub line : length (m .line) ≡ LINE
   pub used : length (m .used) ≡ z .accounts
 
 pub record Fit (z : Sizes) (st : State) : Type 0 where
@@ -75,7 +76,7 @@ pub fit-disk : (z : Sizes) (d : Disk) → DiskFit z d → Holds (diskLengths z d
 fit-disk z d h = (h .records, (h .numbers, (h .accounts, (h .maps, h .limits))))
 
 pub memory-fit : (z : Sizes) (m : Memory) → Holds (memoryLengths z m) → MemoryFit z m
-memory-fit z m (a, (b, (c, (d, (e, (f, (g, (h, (i, (j, (k, l))))))))))) = record {
+memory-fit z m (a, (b, (c, (d, (e, (f, (g, (h, (i, (j, (k, (n, l)))))))))))) = record {
   frames = a;
   words = b;
   free-queue = c;
@@ -87,11 +88,12 @@ memory-fit z m (a, (b, (c, (d, (e, (f, (g, (h, (i, (j, (k, l))))))))))) = record
   active = i;
   updating = j;
   images = k;
+  line = n;
   used = l;
 }
 
 pub fit-memory : (z : Sizes) (m : Memory) → MemoryFit z m → Holds (memoryLengths z m)
-fit-memory z m h = (h .frames, (h .words, (h .free-queue, (h .removal-list, (h .addresses, (h .states, (h .owners, (h .free-map, (h .active, (h .updating, (h .images, h .used)))))))))))
+fit-memory z m h = (h .frames, (h .words, (h .free-queue, (h .removal-list, (h .addresses, (h .states, (h .owners, (h .free-map, (h .active, (h .updating, (h .images, (h .line, h .used))))))))))))
 
 pub fit : (z : Sizes) (st : State) → Holds (allFit z st) → Fit z st
 unfolding allFit

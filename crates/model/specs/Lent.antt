@@ -1,4 +1,4 @@
--- What a caller lends, in the order in which the code takes it: the frames, the pool and the sixteen tables of numbers as one state.
+-- What a caller lends, in the order in which the code takes it: the frames, the pool and the seventeen tables of numbers as one state.
 use mathlib.Core.Path.{_≡_}
 use mathlib.Core.List.{List, []}
 use Prim.Native.Nat.{ℕ}
@@ -6,26 +6,39 @@ use denote.Ref.{RefT}
 use denote.Triple.Both.{Both}
 use Rattle.model.specs.declared.frame.Frame.{Frame}
 use Rattle.model.specs.declared.frame.Pool.{Pool}
-use Rattle.model.specs.State.{Disk, Memory, State}
+use Rattle.tables.specs.Queue.{packed}
+use Rattle.model.specs.State.{Disk, Memory, State, LINE}
 
 abbrev pub diskOf : List ℕ → List ℕ → List ℕ → List ℕ → List ℕ → Disk
 diskOf records numbers accounts maps limits = record { records = records; numbers = numbers; accounts = accounts; maps = maps; limits = limits }
 
-abbrev pub memoryOf : List Frame → Pool → List ℕ → List ℕ → List ℕ → List ℕ → List ℕ → List ℕ → List ℕ → List ℕ → List ℕ → List ℕ → List ℕ → Memory
-memoryOf frames pool words free-queue removal-list addresses states owners free-map active updating images used = record {
+-- the line with nobody waiting: that of the events which do not look at it
+abbrev pub noLine : List ℕ
+noLine = packed LINE []
+
+abbrev pub memoryIn : List ℕ → List Frame → Pool → List ℕ → List ℕ → List ℕ → List ℕ → List ℕ → List ℕ → List ℕ → List ℕ → List ℕ → List ℕ → List ℕ → Memory
+memoryIn line frames pool words free-queue removal-list addresses states owners free-map active updating images used = record {
   core = record { frames = frames; words = words; free-queue = free-queue; removal-list = removal-list };
   held = record { addresses = addresses; states = states; owners = owners; free-map = free-map; pool = pool };
   slots = record { active = active; updating = updating; images = images };
+  line = line;
   used = used;
 }
 
-abbrev pub stateOf : List Frame → Pool → List ℕ → List ℕ → List ℕ → List ℕ → List ℕ → List ℕ → List ℕ → List ℕ → List ℕ → List ℕ → List ℕ → List ℕ → List ℕ → List ℕ → List ℕ → List ℕ → State
-stateOf frames pool records numbers accounts maps limits words free-queue removal-list addresses states owners free-map active updating images used = record {
+abbrev pub memoryOf : List Frame → Pool → List ℕ → List ℕ → List ℕ → List ℕ → List ℕ → List ℕ → List ℕ → List ℕ → List ℕ → List ℕ → List ℕ → Memory
+memoryOf = memoryIn noLine
+
+-- everything lent, with a line; and with nobody waiting
+abbrev pub stateIn : List ℕ → List Frame → Pool → List ℕ → List ℕ → List ℕ → List ℕ → List ℕ → List ℕ → List ℕ → List ℕ → List ℕ → List ℕ → List ℕ → List ℕ → List ℕ → List ℕ → List ℕ → List ℕ → State
+stateIn line frames pool records numbers accounts maps limits words free-queue removal-list addresses states owners free-map active updating images used = record {
   disk = diskOf records numbers accounts maps limits;
-  memory = memoryOf frames pool words free-queue removal-list addresses states owners free-map active updating images used;
+  memory = memoryIn line frames pool words free-queue removal-list addresses states owners free-map active updating images used;
 }
 
--- ── everything lent, by bare names: what the contracts speak of ──
+abbrev pub stateOf : List Frame → Pool → List ℕ → List ℕ → List ℕ → List ℕ → List ℕ → List ℕ → List ℕ → List ℕ → List ℕ → List ℕ → List ℕ → List ℕ → List ℕ → List ℕ → List ℕ → List ℕ → State
+stateOf = stateIn noLine
+
+-- ── the same by bare names: what the contracts speak of ──
 -- a table of numbers as a `requires` names it, and as an `ensures` does: passed, and left
 abbrev pub Ref : Type 0
 Ref = RefT (List ℕ)
@@ -53,6 +66,25 @@ left frames pool records numbers accounts maps limits words free-queue removal-l
     (removal-list .exit .now) (addresses .exit .now) (states .exit .now) (owners .exit .now) (free-map .exit .now) (active .exit .now) (updating .exit .now)
     (images .exit .now) (used .exit .now)
 
+-- ── everything lent, the line with it: what the calls speak of ──
+abbrev pub allOf : List Frame → Pool → List ℕ → List ℕ → List ℕ → List ℕ → List ℕ → List ℕ → List ℕ → List ℕ → List ℕ → List ℕ → List ℕ → List ℕ → List ℕ → List ℕ → List ℕ → List ℕ → List ℕ → State
+allOf frames pool records numbers accounts maps limits words free-queue removal-list addresses states owners free-map active updating images line used = stateIn line frames pool records numbers accounts maps limits words free-queue removal-list addresses states owners free-map active updating images used
+
+abbrev pub allGiven : List Frame → Pool → Ref → Ref → Ref → Ref → Ref → Ref → Ref → Ref → Ref → Ref → Ref → Ref → Ref → Ref → Ref → Ref → Ref → State
+allGiven frames pool records numbers accounts maps limits words free-queue removal-list addresses states owners free-map active updating images line used =
+    allOf frames pool (records .now) (numbers .now) (accounts .now) (maps .now) (limits .now) (words .now) (free-queue .now) (removal-list .now) (addresses .now)
+    (states .now) (owners .now) (free-map .now) (active .now) (updating .now) (images .now) (line .now) (used .now)
+
+abbrev pub allEntered : List Frame → Pool → Table → Table → Table → Table → Table → Table → Table → Table → Table → Table → Table → Table → Table → Table → Table → Table → Table → State
+allEntered frames pool records numbers accounts maps limits words free-queue removal-list addresses states owners free-map active updating images line used =
+    allOf frames pool (records .entry .now) (numbers .entry .now) (accounts .entry .now) (maps .entry .now) (limits .entry .now) (words .entry .now) (free-queue .entry .now) (removal-list .entry .now) (addresses .entry .now)
+    (states .entry .now) (owners .entry .now) (free-map .entry .now) (active .entry .now) (updating .entry .now) (images .entry .now) (line .entry .now) (used .entry .now)
+
+abbrev pub allLeft : List Frame → Pool → Table → Table → Table → Table → Table → Table → Table → Table → Table → Table → Table → Table → Table → Table → Table → Table → Table → State
+allLeft frames pool records numbers accounts maps limits words free-queue removal-list addresses states owners free-map active updating images line used =
+    allOf frames pool (records .exit .now) (numbers .exit .now) (accounts .exit .now) (maps .exit .now) (limits .exit .now) (words .exit .now) (free-queue .exit .now) (removal-list .exit .now) (addresses .exit .now)
+    (states .exit .now) (owners .exit .now) (free-map .exit .now) (active .exit .now) (updating .exit .now) (images .exit .now) (line .exit .now) (used .exit .now)
+
 -- the pool of a state whose pool nothing looks at
 abbrev pub noPool : Pool
 noPool = record { hand = 0; free = 0 }
@@ -62,7 +94,7 @@ abbrev pub noState : State
 noState = stateOf [] noPool [] [] [] [] [] [] [] [] [] [] [] [] [] [] [] []
 
 -- two states are equal by their tables
-pub same-state : {f f′ : List Frame} {p p′ : Pool} {a a′ b b′ c c′ d d′ e e′ g g′ h h′ i i′ j j′ k k′ l l′ m m′ n n′ o o′ q q′ r r′ : List ℕ}
+pub same-state : {line : List ℕ} {f f′ : List Frame} {p p′ : Pool} {a a′ b b′ c c′ d d′ e e′ g g′ h h′ i i′ j j′ k k′ l l′ m m′ n n′ o o′ q q′ r r′ : List ℕ}
     → f ≡ f′ → p ≡ p′ → a ≡ a′ → b ≡ b′ → c ≡ c′ → d ≡ d′ → e ≡ e′ → g ≡ g′ → h ≡ h′ → i ≡ i′ → j ≡ j′ → k ≡ k′ → l ≡ l′ → m ≡ m′ → n ≡ n′ → o ≡ o′ → q ≡ q′ → r ≡ r′
-    → stateOf f p a b c d e g h i j k l m n o q r ≡ stateOf f′ p′ a′ b′ c′ d′ e′ g′ h′ i′ j′ k′ l′ m′ n′ o′ q′ r′
-same-state ef ep ea eb ec ed ee eg eh ei ej ek el em en eo eq er = λ x. stateOf (ef x) (ep x) (ea x) (eb x) (ec x) (ed x) (ee x) (eg x) (eh x) (ei x) (ej x) (ek x) (el x) (em x) (en x) (eo x) (eq x) (er x)
+    → stateIn line f p a b c d e g h i j k l m n o q r ≡ stateIn line f′ p′ a′ b′ c′ d′ e′ g′ h′ i′ j′ k′ l′ m′ n′ o′ q′ r′
+same-state {line} ef ep ea eb ec ed ee eg eh ei ej ek el em en eo eq er = λ x. stateIn line (ef x) (ep x) (ea x) (eb x) (ec x) (ed x) (ee x) (eg x) (eh x) (ei x) (ej x) (ek x) (el x) (em x) (en x) (eo x) (eq x) (er x)

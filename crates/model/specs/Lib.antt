@@ -18,11 +18,14 @@ pub mod Pool
 pub mod Designs
 pub mod Pages
 pub mod Writeback
+pub mod Line
 pub mod LookLaws
 pub mod Restart
 pub mod Step
 pub mod Fit
 pub mod Bounds
+pub mod LineLaws
+pub mod Turns
 pub mod Own
 pub mod Calls
 pub mod EveryCall
@@ -38,6 +41,7 @@ pub mod Lists
 pub mod Edges
 pub mod ChargeEdges
 pub mod TransferEdges
+pub mod LineEdges
 pub mod RuleList
 pub mod Refusals
 pub mod Runs

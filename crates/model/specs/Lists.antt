@@ -14,6 +14,7 @@ use Rattle.model.specs.declared.sizes.Sizes.{Sizes}
 use Rattle.model.specs.declared.event.Design.the-variants.{Limit, Create, Delete, Activate, Deactivate}
 use Rattle.model.specs.declared.event.Page.the-variants.{Fault, Read, Write, Wire, Unwire}
 use Rattle.model.specs.declared.event.Writeback.the-variants.{Claim, Truncate, Update, PageDone, MapDone}
+use Rattle.model.specs.declared.event.Waiting.the-variants.{Join, Turn}
 use Rattle.model.specs.declared.event.Event.the-variants as Event
 use Rattle.model.specs.State
 use Rattle.model.specs.Rules
@@ -23,6 +24,7 @@ use Rattle.model.specs.Parts
 use Rattle.model.specs.Designs
 use Rattle.model.specs.Pages
 use Rattle.model.specs.Writeback
+use Rattle.model.specs.Line
 use Rattle.model.specs.Restart
 use Rattle.model.specs.Step
 use Rattle.model.specs.Ledger
@@ -75,6 +77,12 @@ pageDone f good = Acts.event (Event.Writeback (PageDone f good))
 abbrev pub mapDone : ℕ → ℕ → Act
 mapDone s good = Acts.event (Event.Writeback (MapDone s good))
 
+abbrev pub join : ℕ → ℕ → Act
+join s p = Acts.event (Event.Waiting (Join s p))
+
+abbrev pub turn : Act
+turn = Acts.event (Event.Waiting Turn)
+
 abbrev pub look : ℕ → ℕ → Act
 look s p = Acts.looking s p
 
@@ -106,6 +114,7 @@ junk z = record {
     pool = record { hand = 99; free = 99 };
   };
   slots = record { active = replicate (z .slots) 1; updating = replicate (z .slots) 1; images = replicate (State.allPages z) 2 };
+  line = replicate State.LINE 3;
   used = replicate (z .accounts) 8;
 }
 
@@ -122,8 +131,8 @@ cut fs ss = Acts.cutting (among fs) (among ss) (junk small)
 -- the answer and the result of one act (a cut has none)
 unfoldable pub said : Sizes → World → Act → List ℕ
 unfolding all any count find those tab bits members packed times without tail head push-back push-front pop remove size first firstNo test choose store State.charged State.payer
-    State.usedOf State.freeCount State.freeWord Rules.diskRules Rules.rangeRules Rules.recordRules Rules.queueRules Rules.frameRules Rules.countRules Rules.memoryRules
-    Rules.allRules Setters.counted Questions.wouldStore Parts.frameOf Parts.byHand Parts.neighbour Parts.nearest Parts.pick Designs.limit Designs.create Designs.delete Designs.activate Designs.deactivate Pages.beginRead
+    State.usedOf State.freeCount State.freeWord Rules.diskRules Rules.rangeRules Rules.recordRules Rules.queueRules Rules.frameRules Rules.countRules Rules.lineRules Rules.memoryRules
+    Rules.allRules Setters.counted Questions.wouldStore Questions.turning Line.join Line.turn Line.turnResult Parts.frameOf Parts.byHand Parts.neighbour Parts.nearest Parts.pick Designs.limit Designs.create Designs.delete Designs.activate Designs.deactivate Pages.beginRead
     Pages.serveZeros Pages.takeRecord Pages.read Pages.wordRead Pages.write Pages.wire Pages.unwire Pages.lookStart Pages.faultFrame Pages.fault Writeback.look Writeback.looking
     Writeback.zeros Writeback.freeFrame Writeback.beginsWrite Writeback.claim Writeback.cutFrames Writeback.truncate Writeback.update Writeback.readGood Writeback.readFailed
     Writeback.storeFrame Writeback.writeGood Writeback.writeFailed Writeback.pageDone Writeback.storeImage Writeback.updateOver Writeback.mapDone Restart.formatted Restart.isListed

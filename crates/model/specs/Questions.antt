@@ -1,8 +1,9 @@
--- The questions that come after 1 and 2: each stands once here, under paper 01's sentence and with its number. Number 23 is not used (Unasked).
-use Prim.Native.Nat.{ℕ, suc, _+_}
+-- The questions that come after 1 and 2: each stands once here, under the papers' sentence and with its number. Number 23 is not used (Unasked).
+use Prim.Native.Nat.{ℕ, suc, _+_, _%_}
+use lib.Dec.{eqb}
 use Rattle.tables.specs.Base.{at, if}
-use Rattle.tables.specs.Queue.{size}
-use Rattle.tables.specs.Questions.{Questions, none, ask}
+use Rattle.tables.specs.Queue.{size, first}
+use Rattle.tables.specs.Questions.{Questions, none, ask, firstNo}
 use Rattle.tables.specs.Rule.{Rule, same, below, non, _and_, _or_, _then_, each, test}
 use Rattle.model.specs.declared.sizes.Sizes.{Sizes}
 use Rattle.model.specs.declared.event.Design.{Design}
@@ -11,11 +12,22 @@ use Rattle.model.specs.declared.event.Page.{Page}
 use Rattle.model.specs.declared.event.Page.the-variants.{Fault, Read, Write, Wire, Unwire}
 use Rattle.model.specs.declared.event.Writeback.{Writeback}
 use Rattle.model.specs.declared.event.Writeback.the-variants.{Claim, Truncate, Update, PageDone, MapDone}
+use Rattle.model.specs.declared.event.Waiting.{Waiting}
+use Rattle.model.specs.declared.event.Waiting.the-variants.{Join, Turn}
 use Rattle.model.specs.declared.event.Event.{Event}
 use Rattle.model.specs.declared.event.Event.the-variants as Event
 use Rattle.model.specs.Lines.{NULLED, RELEASED}
-use Rattle.model.specs.State.{State, Files, Frames, files, frames, NONE, READING, pageOf, framed, live, charged, payer}
+use Rattle.model.specs.State.{State, Files, Frames, files, frames, NONE, READING, LINE, pageOf, slotOf, framed, live, charged, payer}
 use Rattle.model.specs.Rules.{isActive}
+
+-- how a turn treats the first request of the line
+pub data Turning : Type 0 where
+  nobody : Turning
+  serves : Turning
+  goesBack : Turning
+  faults : Turning
+  claims : Turning
+  sendsAway : ℕ → Turning
 
 module _ (z : Sizes) (st : State) where
   abbrev v : Files
@@ -173,10 +185,48 @@ module _ (z : Sizes) (st : State) where
   writebackQuestions (PageDone f good) = q3 (below f (z .frames) and below good 2) (q22 (non (same (c .frame f .transfer) NONE)) none)
   writebackQuestions (MapDone s good) = q3 (below s (z .slots) and below good 2) (q4 s (q8 s (q22 (same (v .updating s) 1) none)))
 
+  -- ── the waiting line ──
+  -- the first request's page, by its flat number
+  abbrev pub nextPage : ℕ
+  nextPage = first (st .memory .line)
+
+  -- a fault of that page
+  abbrev pub nextFault : Page
+  nextFault = Fault (slotOf z nextPage) (nextPage % z .pages)
+
+  -- otherwise the turn faults. If the fault is accepted the request stays first; if it gives 20 the turn claims, the request staying first.
+  -- Any other number from 3 up sends it away.
+  abbrev pub byFault : ℕ → Turning
+  byFault n = if (eqb n 0) faults (if (eqb n 20) claims (sendsAway n))
+
+  -- A turn treats the first: if its page is in service it is served; if the page is in transfer it goes to the back; ..
+  unfoldable pub turning : Turning
+  turning = if (eqb (size (st .memory .line)) 0) nobody
+      (if (test (framed z c nextPage)) (if (test (still nextPage)) serves goesBack) (byFault (firstNo (pageQuestions nextFault))))
+
+  -- 27. Join: fewer than 32 waiting?
+  abbrev q27 : Questions → Questions
+  q27 = ask 27 (below (size (st .memory .line)) LINE)
+
+  -- A turn asks 1 and 2; a refused claim refuses the turn.
+  abbrev pub turnQuestions : Turning → Questions
+  turnQuestions nobody = none
+  turnQuestions serves = none
+  turnQuestions goesBack = none
+  turnQuestions faults = none
+  turnQuestions claims = q21 none
+  turnQuestions (sendsAway n) = none
+
+  -- Joining asks only 1 to 3, then 27.
+  abbrev pub waitingQuestions : Waiting → Questions
+  waitingQuestions (Join s p) = q3 (pageRange s p) (q27 none)
+  waitingQuestions Turn = turnQuestions turning
+
   abbrev pub questions : Event → Questions
   questions (Event.Design e) = designQuestions e
   questions (Event.Page e) = pageQuestions e
   questions (Event.Writeback e) = writebackQuestions e
+  questions (Event.Waiting e) = waitingQuestions e
 
   -- a page look asks as a read does
   abbrev pub lookQuestions : ℕ → ℕ → Questions

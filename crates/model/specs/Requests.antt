@@ -2,20 +2,22 @@
 use mathlib.Core.Path.{_≡_, refl, ap, _∙_}
 use mathlib.Core.Bool.{Bool, true, _&&_}
 use mathlib.Core.List.{List, [], _∷_, _++_}
+use mathlib.Core.Logic.{inl, inr}
 use Prim.Native.Nat.{ℕ, _<_}
 use native.Mathlib.Omega.{arith}
-use native.Mathlib.Decide.{ℕ-discrete, decLt}
+use native.Mathlib.Decide.{decLt}
 use lib.Dec.{T, eqb, ltb, ltb→lt}
 use borrow.Author.Tests.{ne-eqb}
 use Rattle.tables.specs.Base.{if, all}
-use Rattle.tables.specs.Laws.{and-left, and-right, if-yes, if-no}
+use Rattle.tables.specs.Laws.{and-left, and-right}
 use Rattle.tables.specs.Questions.{none, ask, firstNo}
-use Rattle.tables.specs.Rule.{Rule, same, below, _and_, each, test, sound, decided, told, untold}
+use Rattle.tables.specs.Rule.{Rule, Holds, same, below, _and_, _or_, each, test, sound, untold}
 use Rattle.model.specs.declared.event.Event.{Event}
 use Rattle.model.specs.declared.event.Event.the-variants as Event
 use Rattle.model.specs.declared.event.Design.the-variants as Design
 use Rattle.model.specs.declared.event.Page.the-variants as Page
 use Rattle.model.specs.declared.event.Writeback.the-variants as Store
+use Rattle.model.specs.declared.event.Waiting.the-variants as Waiting
 use Rattle.model.specs.declared.request.Request.{Request}
 use Rattle.model.specs.declared.request.Decoded.{Decoded}
 use Rattle.model.specs.declared.request.Decoded.the-variants.{Known, Unknown}
@@ -58,22 +60,32 @@ writebackKinds r =
     ∷ kind 14 (Event.Writeback (Store.MapDone (r .first) (r .second)))
     ∷ []
 
+-- the library's own kinds: 18 join slot page; 19 turn
+abbrev pub waitingKinds : Request → List Kind
+waitingKinds r = kind 18 (Event.Waiting (Waiting.Join (r .first) (r .second))) ∷ kind 19 (Event.Waiting Waiting.Turn) ∷ []
+
 -- the event of the first kind with this tag
 abbrev pub tagged : ℕ → List Kind → Decoded
 tagged t [] = Unknown
 tagged t (k ∷ ks) = if (eqb t (k .tag)) (Known (k .event)) (tagged t ks)
 
+abbrev pub kinds : Request → List Kind
+kinds r = designKinds r ++ pageKinds r ++ writebackKinds r ++ waitingKinds r
+
 unfoldable pub decoded : Request → Decoded
-decoded r = tagged (r .kind) (designKinds r ++ pageKinds r ++ writebackKinds r)
+decoded r = tagged (r .kind) (kinds r)
 
 -- the paper's number for each case
 abbrev pub decodedNumber : Decoded → ℕ
 decodedNumber (Known e) = 0
 decodedNumber Unknown = 3
 
--- the kinds of event are 1 to 15
+-- the kinds of event are 1 to 15, the event program's, and 18 and 19
+abbrev pub known : ℕ → Rule
+known t = below 0 t and below t 16 or same t 18 or same t 19
+
 abbrev pub kindFits : Request → Rule
-kindFits r = below 0 (r .kind) and below (r .kind) 16
+kindFits r = known (r .kind)
 
 -- the kind's part of question 3: 0, or its number
 abbrev pub kindAnswer : Request → ℕ
@@ -84,9 +96,6 @@ abbrev pub Decodes : Request → Decoded → Type 0
 Decodes r d = (d ≡ decoded r) × (decodedNumber d ≡ kindAnswer r)
 
 -- ── the number by the kind ──
-abbrev kinds : Request → List Kind
-kinds r = designKinds r ++ pageKinds r ++ writebackKinds r
-
 -- a tag past those of all kinds is unknown
 abbrev tagsBelow : ℕ → List Kind → Bool
 tagsBelow n [] = true
@@ -96,22 +105,25 @@ past : (t n : ℕ) (ks : List Kind) → T (tagsBelow n ks) → ¬ (t < n) → ta
 past t n [] b h = refl
 past t n (k ∷ ks) b h = rw (ne-eqb t (k .tag) (λ e. omega (arith, e, ltb→lt (k .tag) n (and-left (ltb (k .tag) n) (tagsBelow n ks) b)))) (past t n ks (and-right (ltb (k .tag) n) (tagsBelow n ks) b) h)
 
--- of the first 16 tags all but 0 are known
+-- of the first 20 tags these are known
 abbrev first : Request → ℕ → Rule
-first r t = same (decodedNumber (tagged t (kinds r))) (if (eqb t 0) 3 0)
+first r t = same (decodedNumber (tagged t (kinds r))) (firstNo (ask 3 (known t) none))
 
-known : (r : Request) (t : ℕ) → t < 16 → decodedNumber (tagged t (kinds r)) ≡ if (eqb t 0) 3 0
-unfolding test all
-known r t h = sound (each 16 (first r)) tt t h
+by-tag : (r : Request) (t : ℕ) → t < 20 → decodedNumber (tagged t (kinds r)) ≡ firstNo (ask 3 (known t) none)
+unfolding test all firstNo
+by-tag r t h = sound (each 20 (first r)) tt t h
+
+-- and no others
+unknown-past : (t : ℕ) → ¬ (t < 20) → ¬ Holds (known t)
+unknown-past t l (inl h) = omega (arith, l, h .1)
+unknown-past t l (inr (inl h)) = omega (arith, l, h)
+unknown-past t l (inr (inr h)) = omega (arith, l, h)
 
 decoded-number : (r : Request) → decodedNumber (decoded r) ≡ kindAnswer r
 unfolding decoded firstNo
-decoded-number r = elim (decided (kindFits r)) [
-  | yes h ↦ rw (told (kindFits r) h) (known r (r .kind) (h .1) ∙ if-no (r .kind) 0 3 0 (λ e. omega (arith, h .0, e)))
-  | no h ↦ rw (untold (kindFits r) h) (elim (decLt (r .kind) 16) [
-    | yes l ↦ known r (r .kind) l ∙ if-yes (r .kind) 0 3 0 (elim (ℕ-discrete (r .kind) 0) [ yes e ↦ e | no e ↦ absurd (h (omega (arith, e), l)) ])
-    | no l ↦ ap decodedNumber (past (r .kind) 16 (kinds r) tt l)
-  ])
+decoded-number r = elim (decLt (r .kind) 20) [
+  | yes l ↦ by-tag r (r .kind) l
+  | no l ↦ rw (untold (known (r .kind)) (unknown-past (r .kind) l)) (ap decodedNumber (past (r .kind) 20 (kinds r) tt l))
 ]
 
 pub decodes-by : (r : Request) (d : Decoded) → d ≡ decoded r → Decodes r d

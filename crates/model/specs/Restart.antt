@@ -8,7 +8,7 @@ use Rattle.tables.specs.Base.{at, if, any, find, tab}
 use Rattle.tables.specs.Queue.{packed}
 use Rattle.model.specs.declared.sizes.Sizes.{Sizes}
 use Rattle.model.specs.Lines.{FREE, FILED}
-use Rattle.model.specs.State.{Disk, State, noFrame, allPages, slotOf}
+use Rattle.model.specs.State.{Disk, State, LINE, noFrame, allPages, slotOf}
 use Rattle.model.specs.Setters.{counted}
 
 -- Format zeroes all of the disk part.
@@ -29,6 +29,7 @@ unfoldable pub listedAt : Sizes → Disk → ℕ → ℕ
 listedAt z d r = find (allPages z) (λ i. eqb (at (d .maps) i) (suc r)) 0
 
 -- Restart: from the disk part alone; memory may hold anything. All designs inactive, hand 0, free queue 0 to F−1, free frames zeroed.
+-- Restart empties the line.
 -- Restart sets all (states) anew: listed ones filed, others free.
 abbrev pub uncounted : Sizes → Disk → State
 uncounted z d = record {
@@ -43,6 +44,7 @@ uncounted z d = record {
       pool = record { hand = 0; free = 0 };
     };
     slots = record { active = replicate (z .slots) 0; updating = replicate (z .slots) 0; images = replicate (allPages z) 0 };
+    line = packed LINE [];
     used = [];
   };
 }

@@ -3,10 +3,10 @@ use mathlib.Core.Path.{_≡_, refl}
 use mathlib.Core.List.{List, [], _∷_, _++_}
 use Prim.Native.Nat.{ℕ, suc}
 use Rattle.tables.specs.Base.{if, at}
-use Rattle.tables.specs.Queue.{queue}
+use Rattle.tables.specs.Queue.{queue, queueOf}
 use Rattle.tables.specs.Rule.{Rule, same, below, each, _and_, test}
 use Rattle.model.specs.declared.sizes.Sizes.{Sizes}
-use Rattle.model.specs.State.{State, Files, Frames, files, frames, mapWords, freeCount, freeWord, usedOf}
+use Rattle.model.specs.State.{State, Files, Frames, files, frames, LINE, allPages, mapWords, freeCount, freeWord, usedOf}
 use Rattle.model.specs.Rules
 use Rattle.model.specs.Lists.{said}
 
@@ -44,9 +44,13 @@ module _ (z : Sizes) (st : State) where
   ofCounts = below (st .memory .held .pool .hand) (z .records) ∷ same (st .memory .held .pool .free) (freeCount z (v .state))
       ∷ (each (mapWords z) λ k. same (at (st .memory .held .free-map) k) (freeWord z (v .state) k)) ∷ (each (z .accounts) λ q. same (at (st .memory .used) q) (usedOf z v c q)) ∷ []
 
+  -- 41
+  abbrev pub ofLine : List Rule
+  ofLine = queueOf LINE (allPages z) (st .memory .line) ∷ []
+
 -- all of them
 abbrev pub ofAll : Sizes → State → List Rule
-ofAll z st = ofDisk z st ++ ofRanges z st ++ ofRecords z st ++ ofQueues z st ++ ofFrames z st ++ ofCounts z st
+ofAll z st = ofDisk z st ++ ofRanges z st ++ ofRecords z st ++ ofQueues z st ++ ofFrames z st ++ ofCounts z st ++ ofLine z st
 
 -- the rules of a list as one
 abbrev pub together : List Rule → Rule
@@ -56,8 +60,8 @@ together (r ∷ s ∷ rs) = r and together (s ∷ rs)
 
 -- question 2 asks these, and nothing else
 pub asked-rules : (z : Sizes) (st : State) → Rules.allRules z st
-    ≡ together (together (ofDisk z st) ∷ together (ofRanges z st) ∷ together (ofRecords z st) ∷ together (ofQueues z st) ∷ together (ofFrames z st) ∷ together (ofCounts z st) ∷ [])
-unfolding Rules.allRules Rules.memoryRules Rules.diskRules Rules.rangeRules Rules.recordRules Rules.queueRules Rules.frameRules Rules.countRules
+    ≡ together (together (ofDisk z st) ∷ together (ofRanges z st) ∷ together (ofRecords z st) ∷ together (ofQueues z st) ∷ together (ofFrames z st) ∷ together (ofCounts z st) ∷ together (ofLine z st) ∷ [])
+unfolding Rules.allRules Rules.memoryRules Rules.diskRules Rules.rangeRules Rules.recordRules Rules.queueRules Rules.frameRules Rules.countRules Rules.lineRules
 asked-rules z st = refl
 
 -- the numbers of the rules that say no, counted from n

@@ -2,12 +2,12 @@
 use Prim.Native.Nat.{ℕ, _<_}
 use native.Mathlib.Omega.{arith}
 use Rattle.tables.specs.Base.{at}
-use Rattle.tables.specs.Queue.{queue, members}
+use Rattle.tables.specs.Queue.{queue, queueOf, members}
 use Rattle.tables.specs.TimesLaws.{Once}
 use Rattle.tables.specs.Rule.{Holds}
 use mathlib.Core.Path.{_≡_}
 use Rattle.model.specs.declared.sizes.Sizes.{Sizes}
-use Rattle.model.specs.State.{State, Files, Frames, files, frames, mapWords, usedOf, freeCount, freeWord}
+use Rattle.model.specs.State.{State, Files, Frames, files, frames, LINE, allPages, mapWords, usedOf, freeCount, freeWord}
 use Rattle.model.specs.Rules
 
 -- the disk rules
@@ -69,6 +69,7 @@ pub record Ruled (z : Sizes) (st : State) : Type 0 where
   pub queues : OfQueues z st
   pub frames : OfFrames z (files st) (frames st) (at (st .disk .records))
   pub counts : OfCounts z st
+  pub line : Holds (queueOf LINE (allPages z) (st .memory .line))
 
 -- no frame stands twice in a queue
 module _ (z : Sizes) (st : State) (r : Ruled z st) where
@@ -138,17 +139,18 @@ unfolding Rules.frameRules
 rules-frames z st h = (h .fit, (h .in-one-place, (h .active, (h .once, (h .held, (h .writing, (h .free, (h .busy, h .clean))))))))
 
 pub ruled : (z : Sizes) (st : State) → Holds (Rules.allRules z st) → Ruled z st
-unfolding Rules.allRules Rules.memoryRules Rules.queueRules Rules.countRules
+unfolding Rules.allRules Rules.memoryRules Rules.queueRules Rules.countRules Rules.lineRules
 ruled z st h = record {
   disk = disk-ruled z st (h .0);
   records = records-ruled z st (h .1 .0) (h .1 .1 .0);
   queues = record { free-queue = h .1 .1 .1 .0 .0; removal-list = h .1 .1 .1 .0 .1 };
   frames = frames-ruled z st (h .1 .1 .1 .1 .0);
-  counts = (let k = h .1 .1 .1 .1 .1 in record { hand = k .0; free = k .1 .0; free-map = k .1 .1 .0; used = k .1 .1 .1 });
+  counts = (let k = h .1 .1 .1 .1 .1 .0 in record { hand = k .0; free = k .1 .0; free-map = k .1 .1 .0; used = k .1 .1 .1 });
+  line = h .1 .1 .1 .1 .1 .1;
 }
 
 pub rules : (z : Sizes) (st : State) → Ruled z st → Holds (Rules.allRules z st)
-unfolding Rules.allRules Rules.memoryRules Rules.queueRules Rules.countRules
+unfolding Rules.allRules Rules.memoryRules Rules.queueRules Rules.countRules Rules.lineRules
 rules z st r = (
   rules-disk z st (r .disk),
   (
@@ -159,7 +161,7 @@ rules z st r = (
         (r .queues .free-queue, r .queues .removal-list),
         (
           rules-frames z st (r .frames),
-          (r .counts .hand, (r .counts .free, (r .counts .free-map, r .counts .used))),
+          ((r .counts .hand, (r .counts .free, (r .counts .free-map, r .counts .used))), r .line),
         ),
       ),
     ),

@@ -2,11 +2,11 @@
 use Prim.Native.Nat.{ℕ, suc, _+_, _*_}
 use lib.Dec.{eqb}
 use Rattle.tables.specs.Base.{if, at}
-use Rattle.tables.specs.Queue.{queue}
+use Rattle.tables.specs.Queue.{queue, queueOf}
 use Rattle.tables.specs.Rule.{Rule, same, below, non, _and_, _or_, _then_, each, some, named}
 use Rattle.model.specs.declared.sizes.Sizes.{Sizes}
 use Rattle.model.specs.Lines.{FILED, NULLED, LIVE, RELEASED, LEAVING}
-use Rattle.model.specs.State.{State, Files, Frames, files, frames, NONE, READING, WRITING, allPages, slotOf, mapWords, live, usedOf, freeCount, freeWord}
+use Rattle.model.specs.State.{State, Files, Frames, files, frames, NONE, READING, WRITING, LINE, allPages, slotOf, mapWords, live, usedOf, freeCount, freeWord}
 
 -- no number is named by two of the first n entries
 abbrev pub once : ℕ → (ℕ → ℕ) → Rule
@@ -192,8 +192,12 @@ module _ (z : Sizes) (st : State) where
   countRules = below (st .memory .held .pool .hand) (z .records) and same (st .memory .held .pool .free) (freeCount z (v .state))
       and (each (mapWords z) λ k. same (at (st .memory .held .free-map) k) (freeWord z (v .state) k)) and (each (z .accounts) λ q. same (at (st .memory .used) q) (usedOf z v c q))
 
+  -- Question 2 wants the line within the sizes: pages that exist, packed at the front.
+  unfoldable pub lineRules : Rule
+  lineRules = queueOf LINE (allPages z) (st .memory .line)
+
   unfoldable pub memoryRules : Rule
-  memoryRules = rangeRules and recordRules and queueRules and frameRules and countRules
+  memoryRules = rangeRules and recordRules and queueRules and frameRules and countRules and lineRules
 
   -- both sets
   unfoldable pub allRules : Rule

@@ -27,16 +27,19 @@ setLimits x d = record { records = d .records; numbers = d .numbers; accounts = 
 
 -- ── the memory part ──
 abbrev pub onCore : (Core → Core) → State → State
-onCore f st = record { disk = st .disk; memory = record { core = f (st .memory .core); held = st .memory .held; slots = st .memory .slots; used = st .memory .used } }
+onCore f st = record { disk = st .disk; memory = record { core = f (st .memory .core); held = st .memory .held; slots = st .memory .slots; line = st .memory .line; used = st .memory .used } }
 
 abbrev pub onHeld : (Held → Held) → State → State
-onHeld f st = record { disk = st .disk; memory = record { core = st .memory .core; held = f (st .memory .held); slots = st .memory .slots; used = st .memory .used } }
+onHeld f st = record { disk = st .disk; memory = record { core = st .memory .core; held = f (st .memory .held); slots = st .memory .slots; line = st .memory .line; used = st .memory .used } }
 
 abbrev pub onSlots : (Slots → Slots) → State → State
-onSlots f st = record { disk = st .disk; memory = record { core = st .memory .core; held = st .memory .held; slots = f (st .memory .slots); used = st .memory .used } }
+onSlots f st = record { disk = st .disk; memory = record { core = st .memory .core; held = st .memory .held; slots = f (st .memory .slots); line = st .memory .line; used = st .memory .used } }
 
 abbrev pub setUsed : List ℕ → State → State
-setUsed x st = record { disk = st .disk; memory = record { core = st .memory .core; held = st .memory .held; slots = st .memory .slots; used = x } }
+setUsed x st = record { disk = st .disk; memory = record { core = st .memory .core; held = st .memory .held; slots = st .memory .slots; line = st .memory .line; used = x } }
+
+abbrev pub setLine : List ℕ → State → State
+setLine x st = record { disk = st .disk; memory = record { core = st .memory .core; held = st .memory .held; slots = st .memory .slots; line = x; used = st .memory .used } }
 
 abbrev pub setFrames : List Frame → Core → Core
 setFrames x c = record { frames = x; words = c .words; free-queue = c .free-queue; removal-list = c .removal-list }

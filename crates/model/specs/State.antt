@@ -44,11 +44,16 @@ pub record Slots : Type 0 where
   pub updating : List ℕ
   pub images : List ℕ
 
--- Memory part, lost at a cut; `used` is each account's used count.
+-- Up to 32 requests, each a slot and a page, wait in order of arrival.
+abbrev pub LINE : ℕ
+LINE = 32
+
+-- Memory part, lost at a cut; `line` has the requests that wait (page + 1, packed at the front, then 0), `used` each account's used count.
 pub record Memory : Type 0 where
   pub core : Core
   pub held : Held
   pub slots : Slots
+  pub line : List ℕ
   pub used : List ℕ
 
 pub record State : Type 0 where

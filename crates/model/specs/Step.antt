@@ -10,15 +10,17 @@ use Rattle.model.specs.declared.event.Answer.{Answer}
 use Rattle.model.specs.declared.event.Design.the-variants.{Limit, Create, Delete, Activate, Deactivate}
 use Rattle.model.specs.declared.event.Page.the-variants.{Fault, Read, Write, Wire, Unwire}
 use Rattle.model.specs.declared.event.Writeback.the-variants.{Claim, Truncate, Update, PageDone, MapDone}
+use Rattle.model.specs.declared.event.Waiting.the-variants.{Join, Turn}
 use Rattle.model.specs.declared.event.Event.{Event}
 use Rattle.model.specs.declared.event.Event.the-variants as Event
 use Rattle.model.specs.Sizes.{sizesFit}
-use Rattle.model.specs.State.{Disk, Memory, State, allPages, mapWords}
+use Rattle.model.specs.State.{Disk, Memory, State, LINE, allPages, mapWords}
 use Rattle.model.specs.Rules.{diskRules, allRules}
-use Rattle.model.specs.Questions.{questions, lookQuestions}
+use Rattle.model.specs.Questions.{Turning, nobody, serves, goesBack, faults, claims, sendsAway, questions, lookQuestions, turnQuestions, turning}
 use Rattle.model.specs.Designs
 use Rattle.model.specs.Pages
 use Rattle.model.specs.Writeback
+use Rattle.model.specs.Line
 use Rattle.model.specs.Restart.{formatted, restarted}
 
 -- ── question 1: sizes within limits, every slice of its exact length? ──
@@ -30,7 +32,7 @@ abbrev pub memoryLengths : Sizes → Memory → Rule
 memoryLengths z m = same (length (m .core .frames)) (z .frames) and same (length (m .core .words)) (z .frames * z .words) and same (length (m .core .free-queue)) (z .frames)
     and same (length (m .core .removal-list)) (z .frames) and same (length (m .held .addresses)) (allPages z) and same (length (m .held .states)) (z .records)
     and same (length (m .held .owners)) (z .records) and same (length (m .held .free-map)) (mapWords z) and same (length (m .slots .active)) (z .slots)
-    and same (length (m .slots .updating)) (z .slots) and same (length (m .slots .images)) (allPages z) and same (length (m .used)) (z .accounts)
+    and same (length (m .slots .updating)) (z .slots) and same (length (m .slots .images)) (allPages z) and same (length (m .line)) LINE and same (length (m .used)) (z .accounts)
 
 unfoldable pub allFit : Sizes → State → Rule
 allFit z st = sizesFit z and diskLengths z (st .disk) and memoryLengths z (st .memory)
@@ -61,8 +63,10 @@ module _ (z : Sizes) (st : State) where
   carried (Event.Writeback (Update s)) = Writeback.update z st s
   carried (Event.Writeback (PageDone f good)) = Writeback.pageDone z st f good
   carried (Event.Writeback (MapDone s good)) = Writeback.mapDone z st s good
+  carried (Event.Waiting (Join s p)) = Line.join z st s p
+  carried (Event.Waiting Turn) = Line.turn z st
 
-  -- its result: 0 unless paper 01 names one
+  -- its result: 0 unless the papers name one
   unfoldable pub result : Event → ℕ
   result (Event.Design e) = 0
   result (Event.Page (Fault s p)) = Pages.faultFrame st
@@ -75,6 +79,8 @@ module _ (z : Sizes) (st : State) where
   result (Event.Writeback (Update s)) = 0
   result (Event.Writeback (PageDone f good)) = 0
   result (Event.Writeback (MapDone s good)) = 0
+  result (Event.Waiting (Join s p)) = 0
+  result (Event.Waiting Turn) = Line.turnResult z st
 
 -- ── the calls ──
 -- an answer and what it leaves
@@ -102,6 +108,14 @@ restart z st = outcome (firstNo (ask 1 (allFit z st) (ask 2 (diskRules z st) non
 unfoldable pub look : Sizes → State → ℕ → ℕ → Outcome (List ℕ)
 look z st s p = outcome (firstNo (asked z st (lookQuestions z st s p))) 0 [] (take (z .words) (drop (Pages.lookStart z st s p) (st .memory .core .words)))
 
+turn-order : (z : Sizes) (st : State) (t : Turning) → T (above 0 (asked z st (turnQuestions z st t)))
+turn-order z st nobody = tt
+turn-order z st serves = tt
+turn-order z st goesBack = tt
+turn-order z st faults = tt
+turn-order z st claims = tt
+turn-order z st (sendsAway n) = tt
+
 -- Asked in number order, 1 to 3 first.
 pub in-order : (z : Sizes) (st : State) (e : Event) → T (above 0 (asked z st (questions z st e)))
 in-order z st (Event.Design (Limit q n)) = tt
@@ -119,3 +133,5 @@ in-order z st (Event.Writeback (Truncate s k)) = tt
 in-order z st (Event.Writeback (Update s)) = tt
 in-order z st (Event.Writeback (PageDone f good)) = tt
 in-order z st (Event.Writeback (MapDone s good)) = tt
+in-order z st (Event.Waiting (Join s p)) = tt
+in-order z st (Event.Waiting Turn) = turn-order z st (turning z st)

@@ -1,4 +1,4 @@
-// The events that a restarted keeper carries out, in three families, and what it answers.
+// The events that a restarted keeper carries out, in four families, and what it answers.
 
 // Events about a design or an account.
 pub enum Design {
@@ -58,10 +58,17 @@ pub enum Writeback {
     MapDone { slot: usize, good: usize },
 }
 
+// Events of the waiting line.
+pub enum Waiting {
+    Join { slot: usize, page: usize },
+    Turn,
+}
+
 pub enum Event {
     Design(Design),
     Page(Page),
     Writeback(Writeback),
+    Waiting(Waiting),
 }
 
 // refusal: 0, or the number of the first question that fails; result: 0 on every refusal.

@@ -66,3 +66,6 @@ pub const NOTHING_TO_CLAIM: u32 = 21;
 
 // Done: such a transfer under way?
 pub const NO_TRANSFER: u32 = 22;
+
+// Join: fewer than 32 waiting?
+pub const LINE_FULL: u32 = 27;

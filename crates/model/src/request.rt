@@ -1,10 +1,11 @@
 // A request as numbers, and the event that it asks for.
 ghost use mathlib.Core.List.{_++_};
 ghost use mathlib.Core.Path.{_≡_};
-ghost use Rattle.model.specs.Requests.{tagged, pageKinds, writebackKinds, decoded, decodedNumber, kindAnswer};
+ghost use Rattle.model.specs.Requests.{tagged, pageKinds, writebackKinds, waitingKinds, decoded, decodedNumber, kindAnswer};
 use crate::event::Design;
 use crate::event::Event;
 use crate::event::Page;
+use crate::event::Waiting;
 use crate::event::Writeback;
 
 // kind: the event program's tag; then the event's values, in that program's order. What a kind has no use for is ignored.
@@ -49,7 +50,7 @@ pub fn decode(request: Request) -> Decoded
 
 // .. then among those about one page.
 fn page(request: Request) -> Decoded
-    ensures { λ r. ⌜ r ≡ tagged (request .kind) (pageKinds request ++ writebackKinds request) ⌝ }
+    ensures { λ r. ⌜ r ≡ tagged (request .kind) (pageKinds request ++ writebackKinds request ++ waitingKinds request) ⌝ }
 {
     let kind = request.kind;
     let slot = request.first as usize;
@@ -71,9 +72,9 @@ fn page(request: Request) -> Decoded
     Decoded::Known(Event::Page(event))
 }
 
-// .. and last among those that free or move.
+// .. then among those that free or move.
 fn writeback(request: Request) -> Decoded
-    ensures { λ r. ⌜ r ≡ tagged (request .kind) (writebackKinds request) ⌝ }
+    ensures { λ r. ⌜ r ≡ tagged (request .kind) (writebackKinds request ++ waitingKinds request) ⌝ }
 {
     let kind = request.kind;
     let first = request.first as usize;
@@ -93,7 +94,22 @@ fn writeback(request: Request) -> Decoded
             slot: first,
             good: second,
         },
-        _ => return Decoded::Unknown,
+        _ => return waiting(request),
     };
     Decoded::Known(Event::Writeback(event))
+}
+
+// .. and last among those of the waiting line.
+fn waiting(request: Request) -> Decoded
+    ensures { λ r. ⌜ r ≡ tagged (request .kind) (waitingKinds request) ⌝ }
+{
+    let kind = request.kind;
+    let slot = request.first as usize;
+    let page = request.second as usize;
+    let event = match kind {
+        18 => Waiting::Join { slot, page },
+        19 => Waiting::Turn,
+        _ => return Decoded::Unknown,
+    };
+    Decoded::Known(Event::Waiting(event))
 }

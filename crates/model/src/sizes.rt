@@ -14,6 +14,9 @@ pub struct Sizes {
     pub accounts: usize,
 }
 
+// How many requests can wait in the line.
+pub const LINE: usize = 32;
+
 // What comes of making sizes: all six are within their limits, or one is not.
 pub enum Sized {
     Within(Sizes),

@@ -10,7 +10,7 @@ use Rattle.tables.specs.Questions.{firstNo, Questions, yes-all}
 use Rattle.tables.specs.Also.{_also_, also-yes, also-no}
 use Rattle.tables.specs.Base.{at}
 use Rattle.tables.specs.Rule.{Holds}
-use Rattle.tables.specs.Queue.{queue, size, members, times, remove, push-back}
+use Rattle.tables.specs.Queue.{queue, queueOf, size, members, times, remove, push-back}
 use Rattle.tables.specs.QueueLaws.{room}
 use Rattle.model.specs.declared.sizes.Sizes.{Sizes}
 use Rattle.model.specs.declared.frame.Frame.{Frame}
@@ -163,8 +163,8 @@ module _ (a : Call) where
       pub wire-needs : (f < 65535) × Holds (queue (length list) list) × (times (members list) f ≤ 1)
       wire-needs = (omega (arith, inside, seats .sizes .frames-most), packed, omega (arith, listed .placed f inside))
 
-      pub unwire-needs : (g : Frame) → g ≡ frameAt fs f → g .wired ≡ 1 → (f < 65535) × Holds (queue (length list) list) × (size list < length list)
-      unwire-needs g eg w = (omega (arith, inside, seats .sizes .frames-most), packed, room list (listed .long) (listed .packed) (λ x l. omega (arith, listed .placed x l)) f inside (omega (arith, listed .placed f inside, one)))
+      pub unwire-needs : (g : Frame) → g ≡ frameAt fs f → g .wired ≡ 1 → (f < 65535) × ((m : ℕ) × Holds (queueOf (length list) m list)) × (size list < length list)
+      unwire-needs g eg w = (omega (arith, inside, seats .sizes .frames-most), (_, packed), room list (listed .long) (listed .packed) (λ x l. omega (arith, listed .placed x l)) f inside (omega (arith, listed .placed f inside, one)))
         where
           one : frameAt (take (z .frames) fs) f .wired ≡ 1
           one = ap (λ (x : Frame). x .wired) (frame-take (z .frames) fs f inside ∙ sym eg) ∙ w

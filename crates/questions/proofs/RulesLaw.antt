@@ -9,11 +9,15 @@ use lib.ListN.{length, take}
 use lib.Seq.{getD-take}
 use Rattle.tables.specs.Base.{at}
 use Rattle.tables.specs.Laws.{count-same, count-bound}
+use Rattle.tables.specs.Queue.{queueOf}
+use Rattle.tables.specs.QueueLaws.{packed-queue}
+use Rattle.tables.specs.TimesLaws.{times-nil}
 use Rattle.tables.specs.Rule.{Rule, below, each, Holds, test, alike}
 use Rattle.tables.specs.Turn.{not-so, unlearn}
 use Rattle.model.specs.declared.frame.Frame.{Frame}
 use Rattle.model.specs.declared.sizes.Sizes.{Sizes}
-use Rattle.model.specs.State.{State, files, frames, frameAt, noFrame}
+use Rattle.model.specs.State.{State, LINE, allPages, files, frames, frameAt, noFrame}
+use Rattle.model.specs.Lent.{noLine}
 use Rattle.model.specs.Fit.{Fit}
 use Rattle.model.specs.Rules.{allRules}
 use Rattle.model.specs.Ruled.{OfFrames, OfQueues, ruled, rules}
@@ -85,8 +89,8 @@ module _ (z : Sizes) (st : State) (fit : Fit z st) where
     no-frames e = not-so (allRules z st) (λ h. unlearn frame-passes e
         (passes-same (z .frames) (z .words) (z .pages) (z .slots * z .pages) (frames st .frame) frame (λ f l. sym (same f l)) (st .disk .records) (st .memory .core .words) (st .memory .core .free-queue) (st .memory .core .removal-list) (st .memory .held .addresses) (st .memory .held .states) (st .memory .slots .active) (frames-of z st (ruled z st h .frames) (ruled z st h .queues))))
 
-    -- all others hold: the counts decide
-    pub counts-decide : (sums totals : List ℕ) (b : Bool)
+    -- all others hold, and that of the line: the counts decide
+    pub counts-decide : (sums totals : List ℕ) (b : Bool) → Holds (queueOf LINE (allPages z) (st .memory .line))
         → Holds (diskPasses (z .slots) (z .pages) (z .records) (z .accounts) (st .disk .numbers) (st .disk .accounts) (st .disk .maps))
         → Holds (filePasses (z .slots) (z .pages) (z .records) (st .disk .numbers) (st .disk .maps) (st .memory .held .addresses) (st .memory .held .states) (st .memory .held .owners) (st .memory .slots .active)
         (st .memory .slots .updating) (st .memory .slots .images))
@@ -96,8 +100,8 @@ module _ (z : Sizes) (st : State) (fit : Fit z st) where
         → Holds (framedTable (z .frames) (z .pages) (λ f. wovenPage (frame f)) (st .disk .accounts) (st .memory .held .addresses) (st .memory .held .states) sums totals)
         → b ≡ test (countPasses (z .records) (z .accounts) (st .memory .held .pool .hand) (st .memory .held .pool .free) (st .memory .held .states) (st .memory .held .free-map) (st .memory .used) totals)
         → b ≡ test (allRules z st)
-    counts-decide sums totals b d f c sum more e = e ∙ alike count-passes (allRules z st)
-        (λ h. rules z st (record { disk = on-disk z st disk-long d; records = of-files z st files-long f; queues = fq .1; frames = fq .0; counts = of-counts z st (fq .0) sums totals few sum own h }))
+    counts-decide sums totals b waits d f c sum more e = e ∙ alike count-passes (allRules z st)
+        (λ h. rules z st (record { disk = on-disk z st disk-long d; records = of-files z st files-long f; queues = fq .1; frames = fq .0; counts = of-counts z st (fq .0) sums totals few sum own h; line = waits }))
         (λ h. counts-of z st (fq .0) sums totals few sum own (ruled z st h .counts))
       where
         few : z .accounts ≤ 16
@@ -111,6 +115,10 @@ module _ (z : Sizes) (st : State) (fit : Fit z st) where
 
         count-passes : Rule
         count-passes = countPasses (z .records) (z .accounts) (st .memory .held .pool .hand) (st .memory .held .pool .free) (st .memory .held .states) (st .memory .held .free-map) (st .memory .used) totals
+
+-- the line of a state whose line nothing looks at keeps its rule
+pub empty-line : (n : ℕ) → Holds (queueOf LINE n noLine)
+empty-line n = packed-queue LINE n [] (omega arith) (λ x h. absurd (omega (arith, times-nil x, h)))
 
 -- the first frames are the state's
 pub frames-taken : (n count : ℕ) (fs : List Frame) → length (take count fs) ≡ n → (f : ℕ) → f < n → frameAt fs f ≡ frameAt (take count fs) f

@@ -89,8 +89,8 @@ pub fn frames(
     requires { ⌜ FramesGiven z totals accounts records words «free_queue» «removal_list» addresses states active ⌝ }
     ensures { λ r. ⌜ (r ≡ test (framesEntered z frames records words «free_queue» «removal_list» addresses states active)) × (r ≡ true → Holds (framesCounted z frames totals accounts addresses states)) ⌝ }
 {
-    if rules::queues::queue(z.frames, free_queue)
-        & rules::queues::queue(z.frames, removal_list)
+    if rules::queues::queue(z.frames, z.frames, free_queue)
+        & rules::queues::queue(z.frames, z.frames, removal_list)
     {} else {
         return false;
     }

@@ -8,7 +8,7 @@ use Rattle.tables.specs.Base.{if}
 use Rattle.model.specs.declared.sizes.Sizes.{Sizes}
 use Rattle.model.specs.declared.request.Request.{Request}
 use Rattle.model.specs.State.{State, noFrame}
-use Rattle.model.specs.Lent.{stateOf, noPool}
+use Rattle.model.specs.Lent.{allOf, noPool}
 use Rattle.model.specs.Step.{Outcome, restart, format}
 use Rattle.model.specs.Calls.{apply}
 use Rattle.fields.specs.Fields.{CUT, fieldAt}
@@ -66,8 +66,8 @@ abbrev zeros : ℕ → List ℕ
 zeros n = replicate n 0
 
 abbrev pub blank : State
-blank = stateOf (replicate 2 noFrame) noPool (zeros 8) (zeros 2) (zeros 2) (zeros 6) (zeros 1)
-    (zeros 4) (zeros 2) (zeros 2) (zeros 6) (zeros 4) (zeros 4) (zeros 1) (zeros 2) (zeros 2) (zeros 6) (zeros 1)
+blank = allOf (replicate 2 noFrame) noPool (zeros 8) (zeros 2) (zeros 2) (zeros 6) (zeros 1)
+    (zeros 4) (zeros 2) (zeros 2) (zeros 6) (zeros 4) (zeros 4) (zeros 1) (zeros 2) (zeros 2) (zeros 6) (zeros 32) (zeros 1)
 
 unfoldable pub output : List ℕ → List ℕ
 output s = header ++ printedFrom 0 s 0 0 (startedFrom blank .left)

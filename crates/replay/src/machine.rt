@@ -1,7 +1,7 @@
 // The tables of the event program's sizes, and one request carried out on them.
 ghost use mathlib.Core.Path.{_≡_};
 ghost use Rattle.model.specs.Calls.{framesOf};
-ghost use Rattle.model.specs.Lent.{entered, left, noPool};
+ghost use Rattle.model.specs.Lent.{allEntered, allLeft, noPool};
 ghost use lib.ListN.{replicate};
 ghost use Rattle.model.specs.State.{noFrame};
 ghost use Rattle.replay.specs.Output.{sizes as Output·sizes, carried, startedFrom};
@@ -62,11 +62,12 @@ pub fn carry(
     active: &mut [u8; 2],
     updating: &mut [u8; 2],
     images: &mut [u16; 6],
+    line: &mut [u16; 32],
     used: &mut [u16; 1],
 ) -> Pooled
     ensures { λ r.
-        ⌜ record { answer = r .answer; left = left (framesOf (r .frames) 2) (r .pool) records numbers accounts maps limits «frame_words» «free_queue» «removal_list» addresses states owners «free_map» active updating images used }
-        ≡ carried (entered (framesOf (held .frames) 2) (held .pool) records numbers accounts maps limits «frame_words» «free_queue» «removal_list» addresses states owners «free_map» active updating images used) asked ⌝ }
+        ⌜ record { answer = r .answer; left = allLeft (framesOf (r .frames) 2) (r .pool) records numbers accounts maps limits «frame_words» «free_queue» «removal_list» addresses states owners «free_map» active updating images line used }
+        ≡ carried (allEntered (framesOf (held .frames) 2) (held .pool) records numbers accounts maps limits «frame_words» «free_queue» «removal_list» addresses states owners «free_map» active updating images line used) asked ⌝ }
 {
     let frames = held.frames;
     let pool = held.pool;
@@ -91,6 +92,7 @@ pub fn carry(
             active,
             updating,
             images,
+            line,
             used,
         );
     }
@@ -115,6 +117,7 @@ pub fn carry(
         active,
         updating,
         images,
+        line,
         used,
     );
     let frames = out.frames;
@@ -145,11 +148,12 @@ pub fn start(
     active: &mut [u8; 2],
     updating: &mut [u8; 2],
     images: &mut [u16; 6],
+    line: &mut [u16; 32],
     used: &mut [u16; 1],
 ) -> Pooled
     ensures { λ r.
-        ⌜ record { answer = r .answer; left = left (framesOf (r .frames) 2) (r .pool) records numbers accounts maps limits «frame_words» «free_queue» «removal_list» addresses states owners «free_map» active updating images used }
-        ≡ startedFrom (entered (framesOf (replicate 64 noFrame) 2) noPool records numbers accounts maps limits «frame_words» «free_queue» «removal_list» addresses states owners «free_map» active updating images used) ⌝ }
+        ⌜ record { answer = r .answer; left = allLeft (framesOf (r .frames) 2) (r .pool) records numbers accounts maps limits «frame_words» «free_queue» «removal_list» addresses states owners «free_map» active updating images line used }
+        ≡ startedFrom (allEntered (framesOf (replicate 64 noFrame) 2) noPool records numbers accounts maps limits «frame_words» «free_queue» «removal_list» addresses states owners «free_map» active updating images line used) ⌝ }
 {
     calls::format(sizes(), records, numbers, accounts, maps, limits);
     carry(
@@ -170,6 +174,7 @@ pub fn start(
         active,
         updating,
         images,
+        line,
         used,
     )
 }

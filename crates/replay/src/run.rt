@@ -84,6 +84,7 @@ pub fn run() {
     let mut active = [0u8; 2];
     let mut updating = [0u8; 2];
     let mut images = [0u16; 6];
+    let mut line = [0u16; 32];
     let mut used = [0u16; 1];
     let mut held = start(
         &mut records,
@@ -101,6 +102,7 @@ pub fn run() {
         &mut active,
         &mut updating,
         &mut images,
+        &mut line,
         &mut used,
     );
     let mut buffer = io::buffer();
@@ -133,6 +135,7 @@ pub fn run() {
             &mut active,
             &mut updating,
             &mut images,
+            &mut line,
             &mut used,
         );
         let size = done.size;

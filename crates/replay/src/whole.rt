@@ -5,7 +5,7 @@ ghost use Prim.Native.Nat.{_≤_};
 ghost use lib.ListN.{length};
 ghost use Rattle.fields.specs.Fields.{fieldAt};
 ghost use Rattle.model.specs.Calls.{framesOf};
-ghost use Rattle.model.specs.Lent.{entered, left};
+ghost use Rattle.model.specs.Lent.{allEntered, allLeft};
 ghost use Rattle.replay.specs.Input.{isWhole, room};
 ghost use Rattle.replay.specs.Output.{Ran};
 use crate::input::step_at;
@@ -42,15 +42,16 @@ pub fn whole_fields(
     active: &mut [u8; 2],
     updating: &mut [u8; 2],
     images: &mut [u16; 6],
+    line: &mut [u16; 32],
     used: &mut [u16; 1],
 ) -> Done
     requires { ⌜ 4096 ≤ length (now out) ⌝ }
     ensures { λ r. ⌜ isWhole (fieldAt (now (input .entry)) (r .place)) && room (r .size) (r .n) ≡ false ⌝ }
     ensures { λ r.
         ⌜ Ran (now (input .entry)) (now (out .entry)) (now (out .exit)) from count
-        (entered (framesOf (before .frames) 2) (before .pool) records numbers accounts maps limits «frame_words» «free_queue» «removal_list» addresses states owners «free_map» active updating images used)
+        (allEntered (framesOf (before .frames) 2) (before .pool) records numbers accounts maps limits «frame_words» «free_queue» «removal_list» addresses states owners «free_map» active updating images line used)
         (r .place) (r .size) (r .n)
-        (left (framesOf (r .held .frames) 2) (r .held .pool) records numbers accounts maps limits «frame_words» «free_queue» «removal_list» addresses states owners «free_map» active updating images used) ⌝ }
+        (allLeft (framesOf (r .held .frames) 2) (r .held .pool) records numbers accounts maps limits «frame_words» «free_queue» «removal_list» addresses states owners «free_map» active updating images line used) ⌝ }
 {
     let mut held = before;
     let mut place = from;
@@ -78,6 +79,7 @@ pub fn whole_fields(
             active,
             updating,
             images,
+            line,
             used,
         );
         let answer = held.answer;

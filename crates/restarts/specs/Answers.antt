@@ -40,6 +40,7 @@ module _ (z : Sizes) (d : Disk) where
       → addresses ≡ m .held .addresses → states ≡ m .held .states → owners ≡ m .held .owners → free-map ≡ m .held .free-map
       → active ≡ m .slots .active → updating ≡ m .slots .updating → images ≡ m .slots .images → used ≡ m .used
       → stateOf frames pool (d .records) (d .numbers) (d .accounts) (d .maps) (d .limits) words free-queue removal-list addresses states owners free-map active updating images used ≡ restarted z d
+  unfolding restarted counted
   restarted-tables f p w q r a s o e c u i n = same-state f p refl refl refl refl refl w q r a s o e c u i n ∙ restarted-whole z d
 
 module _ (z : Sizes) (st : State) where

@@ -1,29 +1,29 @@
-// The free queue and the removal list.
+// The free queue, the removal list and the waiting line.
 ghost use mathlib.Core.Path.{_≡_};
 ghost use Prim.Native.Nat.{_+_, _≤_, _<_};
 ghost use lib.ListN.{length};
 ghost use Rattle.tables.specs.Base.{at};
-ghost use Rattle.tables.specs.Queue.{queue};
+ghost use Rattle.tables.specs.Queue.{queue, queueOf};
 ghost use Rattle.tables.specs.Rule.{same, each, test, Holds};
 ghost use Rattle.model.specs.Sizes.{mostFrames};
 ghost use Rattle.rules.specs.Passes.{queueEntry, counted};
 use leaves::cells::at16;
 use model::sizes::Sizes;
 
-fn entry_ok(frames: usize, entry: u16, next: u16) -> bool
-    ensures { λ r. ⌜ r ≡ test (queueEntry frames entry next) ⌝ }
+fn entry_ok(bound: usize, entry: u16, next: u16) -> bool
+    ensures { λ r. ⌜ r ≡ test (queueEntry bound entry next) ⌝ }
 {
-    (entry as usize <= frames) & (!(entry == 0) | (next == 0))
+    (entry as usize <= bound) & (!(entry == 0) | (next == 0))
 }
 
-// The entries name frames, and after a 0 there are only zeros.
-pub fn queue(frames: usize, entries: &[u16]) -> bool
-    requires { ⌜ frames ≤ length (now entries) ⌝ }
-    ensures { λ r. ⌜ r ≡ test (queue frames (now (entries .entry))) ⌝ }
+// The first `count` entries name numbers below the bound, and after a 0 there are only zeros.
+pub fn queue(count: usize, bound: usize, entries: &[u16]) -> bool
+    requires { ⌜ count ≤ length (now entries) ⌝ }
+    ensures { λ r. ⌜ r ≡ test (queueOf count bound (now (entries .entry))) ⌝ }
 {
     let mut k = 0;
-    while k < frames {
-        if entry_ok(frames, entries[k], at16(entries, k + 1)) {} else {
+    while k < count {
+        if entry_ok(bound, entries[k], at16(entries, k + 1)) {} else {
             return false;
         }
         k += 1;

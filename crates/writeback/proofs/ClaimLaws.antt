@@ -28,7 +28,7 @@ use Rattle.model.specs.Writeback
 use Rattle.model.specs.Step.{carried}
 use Rattle.model.specs.Fit.{Fit}
 use Rattle.model.specs.Ruled.{Ruled}
-use Rattle.model.specs.Lent.{stateOf, same-state}
+use Rattle.model.specs.Lent.{stateIn, same-state}
 use Rattle.leaves.specs.Counts.{counts, countsFor, usedCounts, counts-less}
 use Rattle.writeback.specs.Claim.{claim, payerOf, usedThen, Claimable, ClaimReady}
 use Rattle.writeback.proofs.Kept.{counts-alike, charged-alike, used-is, used-kept, map-kept, pool-kept}
@@ -237,7 +237,7 @@ module _ (z : Sizes) (st : State) (fit : Fit z st) (ruled : Ruled z st) where
     claimed = carried z st claim
 
     abbrev Left : State → Type 0
-    Left x = x ≡ stateOf (x .memory .core .frames) (st .memory .held .pool) (st .disk .records) (st .disk .numbers) (st .disk .accounts) (st .disk .maps) (st .disk .limits)
+    Left x = x ≡ stateIn (st .memory .line) (x .memory .core .frames) (st .memory .held .pool) (st .disk .records) (st .disk .numbers) (st .disk .accounts) (st .disk .maps) (st .disk .limits)
         (st .memory .core .words) (x .memory .core .free-queue) (x .memory .core .removal-list) (st .memory .held .addresses) (x .memory .held .states) (st .memory .held .owners) (st .memory .held .free-map)
         (st .memory .slots .active) (st .memory .slots .updating) (st .memory .slots .images) (usedThen z st)
 

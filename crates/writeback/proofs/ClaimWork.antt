@@ -10,7 +10,7 @@ use lib.Dec.{eqb}
 use lib.ListN.{length, take, set}
 use borrow.Author.Tests.{eq-eqb, ne-eqb}
 use Rattle.tables.specs.Base.{at, if, all}
-use Rattle.tables.specs.Queue.{queue, size, members, packed, times, first, pop, push-back}
+use Rattle.tables.specs.Queue.{queueOf, size, members, packed, times, first, pop, push-back}
 use Rattle.tables.specs.QueueLaws.{size-members, members-within}
 use Rattle.tables.specs.QueueEntries.{size-more, size-zero}
 use Rattle.tables.specs.Questions.{firstNo, yes-all}
@@ -37,7 +37,7 @@ use Rattle.tables.specs.StoreLoops.{part-fits}
 -- the frame that the looks end at, as the calls after them ask it
 pub record Taken (z : Sizes) (fs : List Frame) (ac ws fq ads ss us : List ℕ) (f : ℕ) : Type 0 where
   pub words-fit : f * z .words + z .words ≤ length ws
-  pub room : (f < 65535) × Holds (queue (length fq) fq) × (size fq < length fq)
+  pub room : (f < 65535) × ((m : ℕ) × Holds (queueOf (length fq) m fq)) × (size fq < length fq)
   pub pays : frameAt fs f .modified ≡ 1 → 0 < at us (at ac (pred (frameAt fs f .page) / z .pages))
   pub moves : (r : ℕ) → r ≡ pred (at ads (pred (frameAt fs f .page))) → (at ss r ≡ NULLED) ⊎ (at ss r ≡ LIVE)
 
@@ -113,7 +113,7 @@ module _ (z : Sizes) (fs : List Frame) (ac ws fq rl ads ss us : List ℕ) where
       pub taken : Taken z fs ac ws fq ads ss us f
       taken = record {
         words-fit = rw (ready .words-long) (part-fits (z .frames) (z .words) f below);
-        room = (omega (arith, below, ready .most), rw (ready .queue-long) (ready .queued), omega (arith, held .room, ready .queue-long));
+        room = (omega (arith, below, ready .most), (z .frames, rw (ready .queue-long) (ready .queued)), omega (arith, held .room, ready .queue-long));
         pays = held .pays;
         moves = λ r found. rw (item-is found) (held .moves);
       }

@@ -11,7 +11,7 @@ use lib.Dec.{T, leb, eqb, eqb→eq, leb→le}
 use lib.ListN.{length}
 use Rattle.tables.specs.Base.{at, if, those}
 use Rattle.tables.specs.Laws.{found, and-left, and-right, eq→T}
-use Rattle.tables.specs.Queue.{queue, members, times, without, size, packed, push-back, remove}
+use Rattle.tables.specs.Queue.{queue, queueOf, members, times, without, size, packed, push-back, remove}
 use Rattle.tables.specs.QueueLaws.{size-members, size-le, members-within, length-packed, members-packed, packed-members, fits-once, queue-repacked, queue-without}
 use Rattle.tables.specs.QueuePacked.{size-packed, push-back-more, append-none, without-more, remove-packed}
 use Rattle.tables.specs.Rule.{Rule, Holds, same, below, some, _and_, _or_, decided, test, told, untold, sound, alike}
@@ -145,7 +145,7 @@ module _ (n pages s k : ℕ) (fs : List Frame) (fq rl : List ℕ) (ready : Frame
   pub turn-starts : CutTurn k fq rl
   turn-starts = record {
     so-queue = sym (append-none fq (rw (ready .queue-long) (ready .queued))) ∙ ap (λ (l : List ℕ). packed (length fq) (members fq ++ map its l)) (sym none);
-    so-list = sym (packed-members rl refl (rw (ready .list-long) (ready .listed))) ∙ ap (packed (length rl)) (sym (without-same (gone k) (members rl) gone-none));
+    so-list = sym (packed-members {m = length rl} rl refl (rw (ready .list-long) (ready .listed))) ∙ ap (packed (length rl)) (sym (without-same (gone k) (members rl) gone-none));
   }
     where
       none : passed k ≡ []
@@ -159,10 +159,10 @@ module _ (n pages s k : ℕ) (fs : List Frame) (fq rl : List ℕ) (ready : Frame
     list-fits = omega (arith, length-without (gone m) (members rl), size-members rl, size-le rl)
 
     module _ {f' : ℕ} (e : f' ≡ its m) (h : Holds (in-some m)) where
-      pub push-asks : (f' < 65535) × Holds (queue (length q) q) × (size q < length q)
+      pub push-asks : (f' < 65535) × ((m : ℕ) × Holds (queueOf (length q) m q)) × (size q < length q)
       push-asks = (
         omega (arith, e, its-frame m h .0, ready .sized .most),
-        rw (t .so-queue, length-packed (length fq) (members fq ++ cutFrames n pages s k fs m), ready .queue-long) (rw (ready .queue-long) at (queue-repacked fq (ready .queue-long) (members fq ++ cutFrames n pages s k fs m) (both-within m) queue-fits)),
+        (n, rw (t .so-queue, length-packed (length fq) (members fq ++ cutFrames n pages s k fs m), ready .queue-long) (rw (ready .queue-long) at (queue-repacked fq (ready .queue-long) (members fq ++ cutFrames n pages s k fs m) (both-within m) queue-fits))),
         rw (t .so-queue, length-packed (length fq) (members fq ++ cutFrames n pages s k fs m), size-packed (length fq) (members fq ++ cutFrames n pages s k fs m) queue-fits, ready .queue-long) (room m up h),
       )
 

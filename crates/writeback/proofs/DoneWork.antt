@@ -7,7 +7,7 @@ use native.Mathlib.Omega.{arith}
 use lib.ListN.{length, take, set}
 use borrow.Author.Tests.{eq-eqb, ne-eqb}
 use Rattle.tables.specs.Base.{at}
-use Rattle.tables.specs.Queue.{queue, size, push-back, push-front}
+use Rattle.tables.specs.Queue.{queue, queueOf, size, push-back, push-front}
 use Rattle.tables.specs.Questions.{firstNo, Asked, all-yes}
 use Rattle.tables.specs.Rule.{Holds, same}
 use Rattle.tables.specs.Store.{store}
@@ -41,7 +41,7 @@ left-by {n = n} {x = x} {rs = rs} {ws = ws} {fq = fq} {rl = rl} {ss = ss} e h = 
 -- what the answers tell of the frame, as the calls after them ask it
 pub record Passed (z : Sizes) (fs : List Frame) (rs ws fq rl ads ss : List ℕ) (f : ℕ) : Type 0 where
   pub paged : 0 < frameAt fs f .page
-  pub room-queue : (f < 65535) × Holds (queue (length fq) fq) × (size fq < length fq)
+  pub room-queue : (f < 65535) × ((m : ℕ) × Holds (queueOf (length fq) m fq)) × (size fq < length fq)
   pub room-list : (f < 65535) × Holds (queue (length rl) rl) × (size rl < length rl)
   pub part-frame : f * z .words + z .words ≤ length ws
   pub part-record : (r : ℕ) → r ≡ pred (at ads (pred (frameAt fs f .page))) → r * z .words + z .words ≤ length rs
@@ -92,7 +92,7 @@ module _ (z : Sizes) (fs : List Frame) (rs ws fq rl ads ss : List ℕ) (f good :
         pub passed : Passed z fs rs ws fq rl ads ss f
         passed = record {
           paged = omega (arith, page-is);
-          room-queue = (omega (arith, inside, ready .most), rw (ready .queue-long) (ready .queued), omega (arith, held .free-room, ready .queue-long));
+          room-queue = (omega (arith, inside, ready .most), (z .frames, rw (ready .queue-long) (ready .queued)), omega (arith, held .free-room, ready .queue-long));
           room-list = (omega (arith, inside, ready .most), rw (ready .list-long) (ready .listed), omega (arith, held .list-room, ready .list-long));
           part-frame = rw (ready .words-long) (part-fits (z .frames) (z .words) f inside);
           part-record = λ r found. rw (found ∙ item-is, ready .records-long) (part-fits (z .records) (z .words) (held .item) (held .inside));

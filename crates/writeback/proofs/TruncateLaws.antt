@@ -30,7 +30,7 @@ use Rattle.model.specs.Writeback
 use Rattle.model.specs.Step.{carried}
 use Rattle.model.specs.Fit.{Fit}
 use Rattle.model.specs.Ruled.{Ruled, once-free, once-list}
-use Rattle.model.specs.Lent.{stateOf, same-state}
+use Rattle.model.specs.Lent.{stateIn, same-state}
 use Rattle.leaves.specs.Counts.{counts, countsFor, usedCounts}
 use Rattle.writeback.specs.Truncate.{truncate, usedThen, TruncateReady}
 use Rattle.writeback.proofs.Cut.{from-up, not-up}
@@ -281,7 +281,7 @@ module _ (z : Sizes) (st : State) (fit : Fit z st) (ruled : Ruled z st) where
     used-then = ap (λ (u : List ℕ). set u q (at u q - count (z .pages) (cutCharge s k inside))) (used-is z st fit (ruled .counts))
         ∙ set-tab (z .accounts) (usedOf z v c) (usedOf z v' c') q _ (omega (arith, at-tab0 (z .accounts) (usedOf z v c) q 0 payer-below, used-split, taken-count)) (λ a h d. other-used a d)
 
-    pub truncate-left : cut ≡ stateOf (cut .memory .core .frames) (st .memory .held .pool) (st .disk .records) (st .disk .numbers) (st .disk .accounts) (st .disk .maps) (st .disk .limits)
+    pub truncate-left : cut ≡ stateIn (st .memory .line) (cut .memory .core .frames) (st .memory .held .pool) (st .disk .records) (st .disk .numbers) (st .disk .accounts) (st .disk .maps) (st .disk .limits)
         (st .memory .core .words) (cut .memory .core .free-queue) (cut .memory .core .removal-list) (cut .memory .held .addresses) (cut .memory .held .states) (st .memory .held .owners) (st .memory .held .free-map)
         (st .memory .slots .active) (st .memory .slots .updating) (st .memory .slots .images) (usedThen z st s k)
     unfolding carried Writeback.truncate counted

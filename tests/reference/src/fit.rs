@@ -1,6 +1,6 @@
 //! Question 1: the sizes are within their limits and every slice has its exact length.
 
-use crate::tables::{Disk, Memory, Sizes};
+use crate::tables::{Disk, Memory, Sizes, LINE};
 
 pub fn disk_fits(sizes: &Sizes, disk: &Disk) -> bool {
     sizes.within()
@@ -24,5 +24,6 @@ pub fn memory_fits(sizes: &Sizes, memory: &Memory) -> bool {
         && memory.active.len() == sizes.slots
         && memory.updating.len() == sizes.slots
         && memory.images.len() == sizes.all_pages()
+        && memory.line.len() == LINE
         && memory.used.len() == sizes.accounts
 }

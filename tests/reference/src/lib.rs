@@ -10,8 +10,8 @@ pub mod keeper; // the public calls
 pub mod linked; // keepers that are linked in, to drive beside this one
 pub mod mend; // a pack that restart turns away, mended
 pub mod program; // the event program
-pub mod questions; // questions 3 to 22
-pub mod queue; // the free queue and the removal list
+pub mod questions; // questions 3 to 22 and 27
+pub mod queue; // the free queue, the removal list and the waiting line
 pub mod restart; // memory built anew from the disk part
 pub mod rules; // question 2
 pub mod tables; // sizes and tables

@@ -51,6 +51,7 @@ fn cut(keeper: &mut Keeper) -> Answer {
     keeper.memory.frame_words.fill(0xDEAD_BEEF);
     keeper.memory.addresses.fill(0xFFFF);
     keeper.memory.states.fill(0xFF);
+    keeper.memory.line.fill(0xFFFF);
     keeper.restart()
 }
 

@@ -1,14 +1,15 @@
-//! Questions 3 to 22, asked in number order; each says yes to the events that it does not concern.
+//! Questions 3 to 22 and 27, asked in number order; each says yes to the events that it does not concern.
 
 use crate::event::Event;
+use crate::events::line::{treatment, Treatment};
 use crate::keeper::Keeper;
 use crate::queue;
-use crate::tables::{LIVE, NO_TRANSFER, NULLED, READING, RELEASED};
+use crate::tables::{LINE, LIVE, NO_TRANSFER, NULLED, READING, RELEASED};
 use std::ops::Range;
 
 type Question = fn(&Keeper, Event) -> bool;
 
-const ASKED: [(u32, Question); 20] = [
+const ASKED: [(u32, Question); 21] = [
     (3, in_range),
     (4, slot_filled),
     (5, slot_empty),
@@ -29,6 +30,7 @@ const ASKED: [(u32, Question); 20] = [
     (20, frame_free),
     (21, list_not_empty),
     (22, under_way),
+    (27, room_in_line),
 ];
 
 /// The number of the first question that says no, else 0.
@@ -50,6 +52,7 @@ fn in_range(keeper: &Keeper, event: Event) -> bool {
             Event::Fault { page, .. }
             | Event::Wire { page, .. }
             | Event::Unwire { page, .. }
+            | Event::Join { page, .. }
             | Event::Look { page, .. } => page < sizes.pages,
             Event::Truncate { count, .. } => count <= sizes.pages,
             Event::PageDone { frame, good } => frame < sizes.frames && good <= 1,
@@ -60,7 +63,7 @@ fn in_range(keeper: &Keeper, event: Event) -> bool {
 
 fn slot_filled(keeper: &Keeper, event: Event) -> bool {
     match event {
-        Event::Create { .. } => true,
+        Event::Create { .. } | Event::Join { .. } => true,
         _ => event.slot().is_none_or(|slot| keeper.disk.numbers[slot] != 0),
     }
 }
@@ -88,7 +91,7 @@ fn map_zero(keeper: &Keeper, event: Event) -> bool {
 
 fn active(keeper: &Keeper, event: Event) -> bool {
     match event {
-        Event::Create { .. } | Event::Delete { .. } | Event::Activate { .. } => true,
+        Event::Create { .. } | Event::Delete { .. } | Event::Activate { .. } | Event::Join { .. } => true,
         _ => event.slot().is_none_or(|slot| keeper.memory.active[slot] == 1),
     }
 }
@@ -213,17 +216,27 @@ fn frame_free(keeper: &Keeper, event: Event) -> bool {
     }
 }
 
+/// A claim, and a turn that claims.
 fn list_not_empty(keeper: &Keeper, event: Event) -> bool {
-    match event {
-        Event::Claim => queue::first(&keeper.memory.removal_list).is_some(),
-        _ => true,
-    }
+    let claims = match event {
+        Event::Claim => true,
+        Event::Turn => matches!(treatment(keeper), Treatment::Claim),
+        _ => false,
+    };
+    !claims || queue::first(&keeper.memory.removal_list).is_some()
 }
 
 fn under_way(keeper: &Keeper, event: Event) -> bool {
     match event {
         Event::PageDone { frame, .. } => keeper.memory.frames[frame].transfer != NO_TRANSFER,
         Event::MapDone { slot, .. } => keeper.memory.updating[slot] == 1,
+        _ => true,
+    }
+}
+
+fn room_in_line(keeper: &Keeper, event: Event) -> bool {
+    match event {
+        Event::Join { .. } => queue::length(&keeper.memory.line) < LINE,
         _ => true,
     }
 }

@@ -1,10 +1,10 @@
-//! The free queue and the removal list: entries are frame + 1, packed at the front, then zeros.
+//! The free queue, the removal list and the waiting line: entries are frame + 1, or page + 1, packed at the front, then zeros.
 
 pub fn length(queue: &[u16]) -> usize {
     queue.iter().position(|&entry| entry == 0).unwrap_or(queue.len())
 }
 
-/// The first frame, where claim looks first and where fault takes from.
+/// The first one: where claim looks first, where fault takes from, what a turn treats.
 pub fn first(queue: &[u16]) -> Option<usize> {
     match queue.first() {
         None | Some(0) => None,
@@ -29,4 +29,10 @@ pub fn remove(queue: &mut [u16], frame: usize) {
         queue.copy_within(at + 1.., at);
         *queue.last_mut().unwrap() = 0;
     }
+}
+
+/// Takes the first one out; the others move up.
+pub fn pop(queue: &mut [u16]) {
+    queue.copy_within(1.., 0);
+    *queue.last_mut().unwrap() = 0;
 }

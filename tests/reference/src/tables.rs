@@ -52,6 +52,9 @@ pub const NO_TRANSFER: u8 = 0;
 pub const READING: u8 = 1;
 pub const WRITING: u8 = 2;
 
+/// How many requests can wait.
+pub const LINE: usize = 32;
+
 pub const FREE: u8 = 0;
 pub const FILED: u8 = 1;
 pub const NULLED: u8 = 2;
@@ -77,7 +80,7 @@ pub struct Disk {
     pub limits: Vec<u16>,
 }
 
-/// Queues hold frame + 1, packed at the front; addresses and images hold record + 1, or 0.
+/// Queues hold frame + 1, packed at the front; addresses and images hold record + 1, or 0; the line holds flat page numbers + 1.
 #[derive(Clone, Debug, Default, PartialEq, Eq)]
 pub struct Memory {
     pub frames: Vec<Frame>,
@@ -91,6 +94,7 @@ pub struct Memory {
     pub active: Vec<u8>,
     pub updating: Vec<u8>,
     pub images: Vec<u16>,
+    pub line: Vec<u16>,
     pub used: Vec<u16>,
     pub pool: Pool,
 }
@@ -123,6 +127,7 @@ impl Memory {
             active: vec![0; sizes.slots],
             updating: vec![0; sizes.slots],
             images: vec![0; sizes.all_pages()],
+            line: vec![0; LINE],
             used: vec![0; sizes.accounts],
             pool: Pool::default(),
         }

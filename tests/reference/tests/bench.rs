@@ -3,6 +3,7 @@
 use reference::bench::list::{list, List};
 use reference::bench::stretch::{stretch, LENGTH, STRETCHES};
 use reference::bench::{kinds, FORMAT, REFUSED, RESTART, SIZES};
+use reference::drive::counts::tag;
 use reference::keeper::Keeper;
 use reference::queue;
 
@@ -41,9 +42,8 @@ fn stretches_have_their_kinds() {
     for (name, sizes) in SIZES {
         for kinds in STRETCHES {
             let stretch = stretch(sizes, kinds);
-            let count = |kind: usize| {
-                stretch.requests.chunks(5).filter(|request| request[0] as usize == kind + 1).count()
-            };
+            let count =
+                |kind: usize| stretch.requests.chunks(5).filter(|request| request[0] == tag(kind)).count();
             let own: usize = kinds.iter().map(|&kind| count(kind)).sum();
             assert!(own * 5 >= LENGTH * 4, "{name}: {}: {own}", stretch.name);
             assert!(

@@ -13,6 +13,8 @@ fn lists_keep_the_promises() {
     assert!(!counts.taken.rare(), "records taken near another, out of order, of two equally near: {:?}", counts.taken);
     assert!(!counts.written.rare(), "reads and looks of pages being written, failed writes of pages read: {:?}", counts.written);
     assert!(!counts.batches.rare(), "lists in one call: {:?}", counts.batches);
+    assert!(!counts.turns.rare(), "turns: {:?}", counts.turns);
+    assert!(!counts.bound.rare(), "runs to the bound on waiting: {:?}", counts.bound);
     let rules = rules::disk::DISK.iter().map(|rule| rule.0).chain(rules::MEMORY.iter().map(|rule| rule.0));
     let idle = rules.filter(|name| !counts.alone.contains_key(name));
     assert_eq!(idle.collect::<Vec<&str>>(), Vec::<&str>::new(), "rules that never stood alone");

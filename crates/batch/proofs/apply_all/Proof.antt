@@ -8,7 +8,7 @@ use Rattle.tables.specs.Rule.{Holds}
 use Rattle.model.specs.declared.frame.Frame.{Frame}
 use Rattle.model.specs.State.{State}
 use Rattle.model.specs.Rules.{allRules}
-use Rattle.model.specs.Lent.{given}
+use Rattle.model.specs.Lent.{allGiven}
 use Rattle.model.specs.Step.{allFit}
 use Rattle.model.specs.Fit.{fit}
 use Rattle.model.specs.Calls.{framesOf}
@@ -23,8 +23,8 @@ use Rattle.batch.proofs.apply_all.Tie as tie
 abbrev at : tie.Start → List Frame → State
 at s l =
     let a = s .args in
-    given l (a .pool) (a .records) (a .numbers) (a .accounts) (a .maps) (a .limits)
-    (a .frame-words) (a .free-queue) (a .removal-list) (a .addresses) (a .states) (a .owners) (a .free-map) (a .active) (a .updating) (a .images) (a .used)
+    allGiven l (a .pool) (a .records) (a .numbers) (a .accounts) (a .maps) (a .limits)
+    (a .frame-words) (a .free-queue) (a .removal-list) (a .addresses) (a .states) (a .owners) (a .free-map) (a .active) (a .updating) (a .images) (a .line) (a .used)
 
 abbrev lent : tie.Start → State
 lent s = at s (framesOf (s .args .frames) (s .args .lent))
@@ -36,7 +36,7 @@ counted q = search
 abbrev start : tie.After-request-count → tie.Start
 start q = search
 
-abbrev worked : tie.After-slice-known35 → tie.After-in-turn
+abbrev worked : tie.After-slice-known37 → tie.After-in-turn
 worked c = search
 
 abbrev passed : tie.After-in-turn → tie.Else1
@@ -111,6 +111,7 @@ apply-all-spec =
     (λ c. refl)
     (λ c. refl)
     (λ c. refl)
+    (λ c. refl)
     returns
     in-turn-requires
     (λ c. worked c .in-turn .kept .1 .1 .1 .0)
@@ -130,4 +131,5 @@ apply-all-spec =
     (λ c. worked c .in-turn .kept .1 .1 .1 .1 .1 .1 .1 .1 .1 .1 .1 .1 .1 .1 .1 .1 .1 .1 .1 .0)
     (λ c. worked c .in-turn .kept .1 .1 .1 .1 .1 .1 .1 .1 .1 .1 .1 .1 .1 .1 .1 .1 .1 .1 .1 .1 .0)
     (λ c. worked c .in-turn .kept .1 .1 .1 .1 .1 .1 .1 .1 .1 .1 .1 .1 .1 .1 .1 .1 .1 .1 .1 .1 .1 .0)
+    (λ c. worked c .in-turn .kept .1 .1 .1 .1 .1 .1 .1 .1 .1 .1 .1 .1 .1 .1 .1 .1 .1 .1 .1 .1 .1 .1 .0)
     returns-2)

@@ -3,31 +3,31 @@ use mathlib.Core.Path.{sym, _∙_}
 use Prim.Native.Nat.{_-_, _≤_}
 use native.Mathlib.Omega.{arith}
 use lib.ListN.{take}
-use Rattle.model.specs.Lent.{stateOf}
+use Rattle.model.specs.Lent.{allOf}
 use Rattle.batch.proofs.Together.{Turned, turned-none, turned-next, turned-end, turned-long, turned-kept}
 use Rattle.batch.proofs.in_turn.Statement.{statement}
 use Rattle.batch.proofs.in_turn.Tie as tie
 
--- the tables, in the order in which they are lent: a to r
+-- the tables, in the order in which they are lent: a to u
 abbrev Inv-loop : tie.InvT-loop
-Inv-loop z n requests answers₀ a₀ b₀ c₀ d₀ e₀ f₀ g₀ h₀ i₀ j₀ k₀ l₀ m₀ o₀ q₀ r₀ held₀ t₀
-    answers a b c d e f g h i j k l m o q r held t =
+Inv-loop z n requests answers₀ a₀ b₀ c₀ d₀ e₀ f₀ g₀ h₀ i₀ j₀ k₀ l₀ m₀ o₀ q₀ r₀ u₀ held₀ t₀
+    answers a b c d e f g h i j k l m o q r u held t =
     (t ≤ n) × Turned z requests answers₀
-    (stateOf (take (z .frames) (held₀ .frames)) (held₀ .pool) a₀ b₀ c₀ d₀ e₀ f₀ g₀ h₀ i₀ j₀ k₀ l₀ m₀ o₀ q₀ r₀) t (held .answer) answers
-    (stateOf (take (z .frames) (held .frames)) (held .pool) a b c d e f g h i j k l m o q r)
+    (allOf (take (z .frames) (held₀ .frames)) (held₀ .pool) a₀ b₀ c₀ d₀ e₀ f₀ g₀ h₀ i₀ j₀ k₀ l₀ m₀ o₀ q₀ r₀ u₀) t (held .answer) answers
+    (allOf (take (z .frames) (held .frames)) (held .pool) a b c d e f g h i j k l m o q r u)
 
 abbrev μ-loop : tie.MeasureT-loop
-μ-loop z n requests answers₀ a₀ b₀ c₀ d₀ e₀ f₀ g₀ h₀ i₀ j₀ k₀ l₀ m₀ o₀ q₀ r₀ held₀ t₀
-    answers a b c d e f g h i j k l m o q r held t = n - t
+μ-loop z n requests answers₀ a₀ b₀ c₀ d₀ e₀ f₀ g₀ h₀ i₀ j₀ k₀ l₀ m₀ o₀ q₀ r₀ u₀ held₀ t₀
+    answers a b c d e f g h i j k l m o q r u held t = n - t
 
 -- from the loop back to the start; from the call, from what follows it and from the end back to the loop
 abbrev start : tie.At-loop Inv-loop μ-loop → tie.Start Inv-loop μ-loop
 start l = search
 
-abbrev turning : tie.After-turn-arg17 Inv-loop μ-loop → tie.In-loop Inv-loop μ-loop
+abbrev turning : tie.After-turn-arg18 Inv-loop μ-loop → tie.In-loop Inv-loop μ-loop
 turning c = search
 
-abbrev turned : tie.After-slice-known34 Inv-loop μ-loop → tie.After-turn Inv-loop μ-loop
+abbrev turned : tie.After-slice-known36 Inv-loop μ-loop → tie.After-turn Inv-loop μ-loop
 turned c = search
 
 abbrev looped : tie.After-loop Inv-loop μ-loop → tie.At-loop Inv-loop μ-loop
@@ -88,5 +88,6 @@ in-turn-spec =
     (λ c. let k = start (looped c) .pre .2 in turned-kept k (looped c .loop .inv .1) .fits .memory .active ∙ sym (k .fits .memory .active))
     (λ c. let k = start (looped c) .pre .2 in turned-kept k (looped c .loop .inv .1) .fits .memory .updating ∙ sym (k .fits .memory .updating))
     (λ c. let k = start (looped c) .pre .2 in turned-kept k (looped c .loop .inv .1) .fits .memory .images ∙ sym (k .fits .memory .images))
+    (λ c. let k = start (looped c) .pre .2 in turned-kept k (looped c .loop .inv .1) .fits .memory .line ∙ sym (k .fits .memory .line))
     (λ c. let k = start (looped c) .pre .2 in turned-kept k (looped c .loop .inv .1) .fits .memory .used ∙ sym (k .fits .memory .used))
     returns)

@@ -7,7 +7,7 @@ use Rattle.tables.specs.Rule.{Holds}
 use Rattle.model.specs.declared.frame.Frame.{Frame}
 use Rattle.model.specs.State.{State}
 use Rattle.model.specs.Rules.{allRules}
-use Rattle.model.specs.Lent.{stateOf, given}
+use Rattle.model.specs.Lent.{allOf, allGiven}
 use Rattle.model.specs.Step.{allFit}
 use Rattle.model.specs.Fit.{fit}
 use Rattle.model.specs.Calls.{framesOf}
@@ -23,8 +23,8 @@ use Rattle.calls.proofs.apply_core.Tie as tie
 abbrev at : tie.Start → List Frame → State
 at s l =
     let a = s .args in
-    given l (a .pool) (a .records) (a .numbers) (a .accounts) (a .maps) (a .limits) (a .frame-words) (a .free-queue) (a .removal-list)
-    (a .addresses) (a .states) (a .owners) (a .free-map) (a .active) (a .updating) (a .images) (a .used)
+    allGiven l (a .pool) (a .records) (a .numbers) (a .accounts) (a .maps) (a .limits) (a .frame-words) (a .free-queue) (a .removal-list)
+    (a .addresses) (a .states) (a .owners) (a .free-map) (a .active) (a .updating) (a .images) (a .line) (a .used)
 
 -- from the work back to the decoded event, and from questions 1 and 2 to the start
 abbrev known : tie.After-carry → tie.After-decoded
@@ -79,7 +79,7 @@ after w l =
     let m = r .1 .1 .1 .1 .1 in
     let h = m .1 .1 .1 in
     let a = h .1 .1 .1 .1 in
-    stateOf l (deposited (t .result .deposited) (taken (b .sizes) (t .result .taken) (b .pool))) (r .0) (r .1 .0) (r .1 .1 .0) (r .1 .1 .1 .0) (r .1 .1 .1 .1 .0) (m .0) (m .1 .0) (m .1 .1 .0) (h .0) (h .1 .0) (h .1 .1 .0) (h .1 .1 .1 .0) (a .0) (a .1 .0) (a .1 .1 .0) (a .1 .1 .1 .0)
+    allOf l (deposited (t .result .deposited) (taken (b .sizes) (t .result .taken) (b .pool))) (r .0) (r .1 .0) (r .1 .1 .0) (r .1 .1 .1 .0) (r .1 .1 .1 .1 .0) (m .0) (m .1 .0) (m .1 .1 .0) (h .0) (h .1 .0) (h .1 .1 .0) (h .1 .1 .1 .0) (a .0) (a .1 .0) (a .1 .1 .0) (a .1 .1 .1 .0) (a .1 .1 .1 .1 .0)
 
 returns-3 : tie.Need-returns-3
 returns-3 c =
@@ -99,6 +99,7 @@ apply-core-spec =
     tie.close
     (tie.spec
     (λ c κs. search needs)
+    (λ c. refl)
     (λ c. refl)
     (λ c. refl)
     (λ c. refl)
@@ -135,6 +136,7 @@ apply-core-spec =
     (λ c. refl)
     (λ c. refl)
     (λ c. refl)
+    (λ c. refl)
     returns-2
     carry-requires
     (λ c. let w : tie.After-carry = search in w .carry .kept .1 .1 .1 .1 .0)
@@ -153,4 +155,5 @@ apply-core-spec =
     (λ c. let w : tie.After-carry = search in w .carry .kept .1 .1 .1 .1 .1 .1 .1 .1 .1 .1 .1 .1 .1 .1 .1 .1 .1 .0)
     (λ c. let w : tie.After-carry = search in w .carry .kept .1 .1 .1 .1 .1 .1 .1 .1 .1 .1 .1 .1 .1 .1 .1 .1 .1 .1 .0)
     (λ c. let w : tie.After-carry = search in w .carry .kept .1 .1 .1 .1 .1 .1 .1 .1 .1 .1 .1 .1 .1 .1 .1 .1 .1 .1 .1 .0)
+    (λ c. let w : tie.After-carry = search in w .carry .kept .1 .1 .1 .1 .1 .1 .1 .1 .1 .1 .1 .1 .1 .1 .1 .1 .1 .1 .1 .1 .0)
     returns-3)

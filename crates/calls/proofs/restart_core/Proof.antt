@@ -8,13 +8,14 @@ use Rattle.tables.specs.Turn.{learn}
 use Rattle.model.specs.declared.frame.Frame.{Frame}
 use Rattle.model.specs.State.{State}
 use Rattle.model.specs.Rules.{diskRules}
-use Rattle.model.specs.Lent.{stateOf}
+use Rattle.model.specs.Lent.{stateOf, allOf}
 use Rattle.model.specs.Step.{allFit}
 use Rattle.model.specs.Fit.{sizes-fit, fit-disk}
 use Rattle.model.specs.Calls.{framesOf, length-frames}
 use Rattle.restarts.specs.Restarts.{seen, ready}
 use Rattle.restarts.specs.Answers.{fit-told, disk-told, restarted-tables, restart-unfit, restart-unruled}
 use Rattle.calls.specs.Frames.{all-lent}
+use Rattle.calls.specs.Lined.{no-line-zeros}
 use Rattle.calls.specs.Restarting.{restarted-lent, restart-left}
 use Rattle.calls.proofs.restart_core.Statement.{statement}
 use Rattle.calls.proofs.restart_core.Tie as tie
@@ -23,14 +24,17 @@ use Rattle.calls.proofs.restart_core.Tie as tie
 abbrev at : tie.Start → List Frame → State
 at s l =
     let a = s .args in
-    stateOf l (a .pool) (a .records .now) (a .numbers .now) (a .accounts .now) (a .maps .now) (a .limits .now) (a .frame-words .now) (a .free-queue .now) (a .removal-list .now)
-    (a .addresses .now) (a .states .now) (a .owners .now) (a .free-map .now) (a .active .now) (a .updating .now) (a .images .now) (a .used .now)
+    allOf l (a .pool) (a .records .now) (a .numbers .now) (a .accounts .now) (a .maps .now) (a .limits .now) (a .frame-words .now) (a .free-queue .now) (a .removal-list .now)
+    (a .addresses .now) (a .states .now) (a .owners .now) (a .free-map .now) (a .active .now) (a .updating .now) (a .images .now) (a .line .now) (a .used .now)
 
--- from the work back to question 2, and from question 1 to the start
+-- from the work back to question 2 and to the line, and from question 1 to the start
 abbrev ruled : tie.After-restart-tables → tie.Then2
 ruled t = search
 
-abbrev start : tie.After-all-fit → tie.Start
+abbrev emptied : tie.After-restart-tables → tie.After-zero16
+emptied t = search
+
+abbrev start : tie.After-lent-fit → tie.Start
 start q = search
 
 abbrev lent : tie.Start → State
@@ -41,13 +45,13 @@ returns c =
     let s = start (c .before) in
     let a = s .args in
     restart-unfit (a .sizes) (lent s)
-    (sym (c .if1 .left) ∙ c .before .all-fit .ensures (framesOf (a .frames) (a .lent)) (a .pool) (length-frames (a .frames) (a .lent)))
+    (sym (c .if1 .left) ∙ c .before .lent-fit .ensures (framesOf (a .frames) (a .lent)) (a .pool) (length-frames (a .frames) (a .lent)))
 
 fitted : (c : tie.Then1) → (let s = start (c .before) in true ≡ test (allFit (s .args .sizes) (lent s)))
 fitted c =
     let s = start (c .before) in
     let a = s .args in
-    sym (c .if1 .taken) ∙ c .before .all-fit .ensures (framesOf (a .frames) (a .lent)) (a .pool) (length-frames (a .frames) (a .lent))
+    sym (c .if1 .taken) ∙ c .before .lent-fit .ensures (framesOf (a .frames) (a .lent)) (a .pool) (length-frames (a .frames) (a .lent))
 
 disk-rules-requires : tie.Need-disk-rules-requires
 disk-rules-requires c κs =
@@ -71,6 +75,17 @@ restart-tables-requires c κs =
     let s = start (k .before) in
     ready (s .args .sizes) (lent s) (fit-told (s .args .sizes) (lent s) (fitted k)) (disk-told (s .args .sizes) (lent s) (listed h))
 
+-- the other tables that the work leaves
+abbrev after : tie.After-restart-tables → State
+after w =
+    let t = w .restart-tables in
+    let a = start (ruled w .before .before .before) .args in
+    let r = t .last .1 .1 .1 in
+    let h = r .1 .1 .1 in
+    let n = h .1 .1 .1 .1 in
+    stateOf (framesOf (t .result .frames) (a .lent)) (t .result .pool) (a .records .now) (a .numbers .now) (a .accounts .now) (a .maps .now) (a .limits .now)
+    (r .0) (r .1 .0) (r .1 .1 .0) (h .0) (h .1 .0) (h .1 .1 .0) (h .1 .1 .1 .0) (n .0) (n .1 .0) (n .1 .1 .0) (n .1 .1 .1 .0)
+
 returns-3 : tie.Need-returns-3
 returns-3 c =
     let w : tie.After-restart-tables = search in
@@ -80,18 +95,19 @@ returns-3 c =
     let s = start (k .before) in
     let a = s .args in
     let e = t .ensures in
-    restart-left (a .sizes) (lent s) _ (t .result .answer) (e .0)
+    restart-left (a .sizes) (lent s) (after w) _ (t .result .answer) (e .0)
     (restarted-tables (a .sizes) (lent s .disk)
     (restarted-lent (a .sizes) (seen (a .accounts .now) (a .maps .now)) (t .result .frames) (a .lent) (all-lent (a .sizes) (at s) (λ l. refl) (a .frames) (a .lent) (learn (allFit (a .sizes) (lent s)) (fitted k))) (e .1 .0))
     (e .1 .1 .1 .1 .1 .1 .1 .1 .1 .0) (e .1 .1 .0) (e .1 .1 .1 .0) (e .1 .1 .1 .1 .0) (e .1 .1 .1 .1 .1 .0) (e .1 .1 .1 .1 .1 .1 .0) (e .1 .1 .1 .1 .1 .1 .1 .0) (e .1 .1 .1 .1 .1 .1 .1 .1 .0)
     (e .1 .1 .1 .1 .1 .1 .1 .1 .1 .1 .0) (e .1 .1 .1 .1 .1 .1 .1 .1 .1 .1 .1 .0) (e .1 .1 .1 .1 .1 .1 .1 .1 .1 .1 .1 .1 .0) (e .1 .1 .1 .1 .1 .1 .1 .1 .1 .1 .1 .1 .1))
-    (fitted k) (listed h)
+    (emptied w .zero16 .ensures ∙ no-line-zeros (a .line .now) (fit-told (a .sizes) (lent s) (fitted k) .memory .line)) (fitted k) (listed h)
 
 pub restart-core-spec : {M : Type 1} → statement M
 restart-core-spec =
     tie.close
     (tie.spec
     (λ c κs. search needs)
+    (λ c. refl)
     (λ c. refl)
     (λ c. refl)
     (λ c. refl)
@@ -116,7 +132,9 @@ restart-core-spec =
     (λ c. refl)
     (λ c. refl)
     (λ c. refl)
+    (λ c. refl)
     returns-2
+    (λ c κs. search needs)
     restart-tables-requires
     (λ c. let w : tie.After-restart-tables = search in w .restart-tables .kept .1 .1 .1 .0)
     (λ c. let w : tie.After-restart-tables = search in w .restart-tables .kept .1 .1 .1 .1 .0)
@@ -128,5 +146,6 @@ restart-core-spec =
     (λ c. let w : tie.After-restart-tables = search in w .restart-tables .kept .1 .1 .1 .1 .1 .1 .1 .1 .1 .1 .0)
     (λ c. let w : tie.After-restart-tables = search in w .restart-tables .kept .1 .1 .1 .1 .1 .1 .1 .1 .1 .1 .1 .0)
     (λ c. let w : tie.After-restart-tables = search in w .restart-tables .kept .1 .1 .1 .1 .1 .1 .1 .1 .1 .1 .1 .1 .0)
+    (λ c. let w : tie.After-restart-tables = search in emptied w .zero16 .kept .0)
     (λ c. let w : tie.After-restart-tables = search in w .restart-tables .kept .1 .1 .1 .1 .1 .1 .1 .1 .1 .1 .1 .1 .1 .0)
     returns-3)

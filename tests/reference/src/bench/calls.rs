@@ -1,5 +1,6 @@
 //! Each keeper's calls, one function a kind: callgrind counts them apart, by their names.
 
+use crate::drive::counts::KINDS;
 use crate::event::{Answer, Part, Request};
 use crate::keeper::Keeper;
 use crate::linked::c_port::Lent;
@@ -30,6 +31,8 @@ macro_rules! calls {
             calls!(request $subject, "page_done", $tables, 0x0D, $apply),
             calls!(request $subject, "map_done", $tables, 0x0E, $apply),
             calls!(request $subject, "limit", $tables, 0x0F, $apply),
+            calls!(request $subject, "join", $tables, 18, $apply),
+            calls!(request $subject, "turn", $tables, 19, $apply),
             calls!(one $subject, "format", $tables, |tables, _| $format(tables)),
             calls!(one $subject, "restart", $tables, |tables, _| $restart(tables)),
             calls!(one $subject, "page_look", $tables, |tables, values| start($look(tables, values[0], values[1]))),
@@ -56,15 +59,15 @@ macro_rules! calls {
     }};
 }
 
-pub const REFERENCE: [Made<Keeper>; 19] =
+pub const REFERENCE: [Made<Keeper>; KINDS.len() + 1] =
     calls!("reference", Keeper, Keeper::format, Keeper::restart, Keeper::apply, Keeper::page_look);
 
-pub fn c_port<'a>() -> [Made<Lent<'a>>; 19] {
+pub fn c_port<'a>() -> [Made<Lent<'a>>; KINDS.len() + 1] {
     calls!("C", Lent<'_>, Lent::format, Lent::restart, Lent::apply, Lent::page_look)
 }
 
 #[cfg(keeper)]
-pub const KEEPER: [Made<Keeper>; 19] = {
+pub const KEEPER: [Made<Keeper>; KINDS.len() + 1] = {
     use crate::linked::proved::{apply, format, page_look, restart};
     calls!("keeper", Keeper, format, restart, apply, page_look)
 };

@@ -1,7 +1,8 @@
 //! The next event of a list: of the kind that came least so far, if the tables allow one of it;
-//! but a page done while many pages are in transfer.
+//! but a page done while many pages are in transfer, and a turn while many wait in line.
 
-use super::{values, LOOK, PAGE_DONE};
+use super::{values, LOOK, PAGE_DONE, TURN};
+use crate::drive::counts::{tag, REQUESTS};
 use crate::drive::random::Random;
 use crate::event::{Event, Request};
 use crate::keeper::Keeper;
@@ -21,7 +22,7 @@ impl Step {
         if self.kind == LOOK {
             return Event::Look { slot: first as usize, page: second as usize };
         }
-        let request = Request { kind: self.kind as u32 + 1, first, second, third, fourth };
+        let request = Request { kind: tag(self.kind), first, second, third, fourth };
         Event::decode(&request).expect("a kind of event")
     }
 }
@@ -34,7 +35,7 @@ pub struct Mix {
 
 impl Mix {
     pub fn new(random: Random) -> Mix {
-        Mix::of(random, (0..15).chain([LOOK]))
+        Mix::of(random, (0..REQUESTS).chain([LOOK]))
     }
 
     /// Of these kinds alone.
@@ -49,9 +50,9 @@ impl Mix {
     /// If the tables allow one of its kinds.
     pub fn one(&mut self, keeper: &Keeper) -> Option<Step> {
         let random = &mut self.random;
-        let report = values::many_transfers(keeper);
-        self.counts
-            .sort_by_cached_key(|&(count, kind)| (!(report && kind == PAGE_DONE), count, random.next()));
+        let (report, treat) = (values::many_transfers(keeper), values::many_wait(keeper));
+        let first = |kind| report && kind == PAGE_DONE || treat && kind == TURN;
+        self.counts.sort_by_cached_key(|&(count, kind)| (!first(kind), count, random.next()));
         for at in 0..self.counts.len() {
             let kind = self.counts[at].1;
             if let Some(step) = self.allowed(kind, keeper) {

@@ -23,15 +23,16 @@ pub const SIZES: [(&str, Sizes); 3] = [
     ("largest", Sizes::MOST),
 ];
 
-/// Some of the kinds, as `drive::counts::KINDS` numbers them: a request's kind less 1, then the other calls.
+/// Some of the kinds, as `drive::counts::KINDS` numbers them: those of requests, then the other calls.
 pub const ACTIVATE: usize = 2;
 pub const FAULT: usize = 4;
 pub const PAGE_DONE: usize = 12;
-pub const FORMAT: usize = 15;
-pub const RESTART: usize = 16;
-pub const LOOK: usize = 17;
+pub const TURN: usize = 16;
+pub const FORMAT: usize = 17;
+pub const RESTART: usize = 18;
+pub const LOOK: usize = 19;
 /// A call that question 1 refuses at once: what it takes to make a call and to be answered.
-pub const REFUSED: usize = 18;
+pub const REFUSED: usize = 20;
 
 /// All kinds with their names.
 pub fn kinds() -> impl Iterator<Item = (usize, &'static str)> {

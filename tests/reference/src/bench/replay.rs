@@ -41,7 +41,7 @@ impl Clock {
 }
 
 /// Makes these calls of the list; notes each one's least time so far.
-pub fn replay<T>(list: &List, own: Range<usize>, calls: &[Made<T>; 19], tables: &mut T, least: &mut [u64]) {
+pub fn replay<T>(list: &List, own: Range<usize>, calls: &[Made<T>], tables: &mut T, least: &mut [u64]) {
     for at in own {
         let step = &list.steps[at];
         let before = ticks();

@@ -2,7 +2,7 @@
 
 use super::list::{carried_out, started};
 use super::mix::Mix;
-use crate::drive::counts::KINDS;
+use crate::drive::counts::{tag, KINDS, REQUESTS};
 use crate::drive::random::Random;
 use crate::event::Answer;
 use crate::keeper::Keeper;
@@ -12,8 +12,8 @@ use crate::tables::Sizes;
 pub const LENGTH: usize = 1000;
 
 /// The kinds of each stretch: those that undo each other stand together. The first has all of them.
-pub const STRETCHES: [&[usize]; 10] = [
-    &[0, 1, 2, 3, 4, 5, 6, 7, 8, 9, 10, 11, 12, 13, 14],
+pub const STRETCHES: [&[usize]; 11] = [
+    &[0, 1, 2, 3, 4, 5, 6, 7, 8, 9, 10, 11, 12, 13, 14, 15, 16],
     &[0, 1],
     &[2, 3],
     &[4, 12, 7],
@@ -23,6 +23,7 @@ pub const STRETCHES: [&[usize]; 10] = [
     &[10],
     &[11, 13],
     &[14],
+    &[15, 16, 12],
 ];
 
 /// Every replay starts from these tables, must give these answers and leave those tables.
@@ -36,17 +37,17 @@ pub struct Stretch {
 
 /// So that the tables allow some of the kinds at all, an event of any other kind comes between where they do not.
 pub fn stretch(sizes: Sizes, kinds: &[usize]) -> Stretch {
-    let mut any = Mix::of(Random::new(2), 0..15);
+    let mut any = Mix::of(Random::new(2), 0..REQUESTS);
     let start = started(sizes, &mut any);
     let mut own = Mix::of(Random::new(3), kinds.iter().copied());
     let (mut keeper, mut requests, mut answers) = (start.clone(), Vec::new(), Vec::new());
     for _ in 0..LENGTH {
         let step = own.one(&keeper).unwrap_or_else(|| any.next(&keeper));
         answers.push(carried_out(&mut keeper, &step));
-        requests.push(step.kind as u32 + 1);
+        requests.push(tag(step.kind));
         requests.extend(step.values);
     }
     let names: Vec<&str> = kinds.iter().map(|&kind| KINDS[kind]).collect();
-    let name = if kinds.len() == 15 { "all kinds".to_string() } else { names.join(", ") };
+    let name = if kinds.len() == REQUESTS { "all kinds".to_string() } else { names.join(", ") };
     Stretch { name, start, requests, answers, end: keeper }
 }

@@ -2,10 +2,11 @@
 //! a few updates under way.
 
 use super::disk::busy;
+use crate::drive::counts::tag;
 use crate::drive::random::Random;
 use crate::keeper::Keeper;
 use crate::queue;
-use crate::tables::{Frame, LIVE, NO_TRANSFER};
+use crate::tables::{Frame, LINE, LIVE, NO_TRANSFER};
 
 /// None where an event of that kind would leave too much or too little in use, or there is nothing for it.
 pub fn likely(kind: usize, keeper: &Keeper, random: &mut Random) -> Option<[usize; 4]> {
@@ -14,7 +15,8 @@ pub fn likely(kind: usize, keeper: &Keeper, random: &mut Random) -> Option<[usiz
     let account = random.below(sizes.accounts);
     let good = usize::from(random.percent(90));
     let updating = memory.updating.iter().filter(|&&switch| switch == 1).count();
-    Some(match kind + 1 {
+    let waiting = queue::length(&memory.line);
+    Some(match tag(kind) {
         0x01 => [resting(keeper, random), account, random.next() as u32 as usize, 0],
         0x02..=0x04 => [resting(keeper, random), 0, 0, 0],
         0x05 => [slot, page_to_fault(keeper, slot, random), 0, 0],
@@ -27,6 +29,10 @@ pub fn likely(kind: usize, keeper: &Keeper, random: &mut Random) -> Option<[usiz
         0x0E if updating <= few(sizes.slots) / 2 => return None,
         0x0E => [random.find(sizes.slots, |slot| memory.updating[slot] == 1)?, good, 0, 0],
         0x0F => [account, 65_535 - random.below(100), 0, 0],
+        18 if random.percent(50) => in_service(kind, keeper, random)?,
+        18 => [slot, page_to_fault(keeper, slot, random), 0, 0],
+        19 if waiting == 0 => return None,
+        19 => [0; 4],
         _ => in_service(kind, keeper, random)?,
     })
 }
@@ -73,6 +79,11 @@ pub fn many_transfers(keeper: &Keeper) -> bool {
     transfers(keeper) > few(keeper.sizes.frames)
 }
 
+/// Whether the first that wait must be treated before others join.
+pub fn many_wait(keeper: &Keeper) -> bool {
+    queue::length(&keeper.memory.line) > LINE / 2
+}
+
 fn in_transfer(keeper: &Keeper, random: &mut Random) -> Option<usize> {
     let frames = &keeper.memory.frames;
     let enough = transfers(keeper) > few(frames.len()) / 2;
@@ -85,7 +96,7 @@ fn in_service(kind: usize, keeper: &Keeper, random: &mut Random) -> Option<[usiz
     let (sizes, frames) = (&keeper.sizes, &keeper.memory.frames);
     let wired = frames.iter().filter(|frame| frame.wired == 1).count();
     let unmodified = random.percent(50);
-    let fits = |frame: &Frame| match kind + 1 {
+    let fits = |frame: &Frame| match tag(kind) {
         0x07 => !unmodified || frame.modified + frame.wired == 0,
         0x09 => frame.wired == 0 && wired < few(sizes.frames),
         0x0A => frame.wired == 1 && wired > few(sizes.frames) / 2,

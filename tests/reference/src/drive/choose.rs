@@ -2,6 +2,7 @@
 
 use super::act::{Act, Before, Call};
 use super::aims::{self, Aim};
+use super::counts::{tag, REQUESTS};
 use super::random::Random;
 use super::shadow::marked;
 use crate::keeper::Keeper;
@@ -20,6 +21,9 @@ pub struct Chooser {
     numbers: u32,
     /// The list starts from a disk that is nearly full, and not with a format.
     pub full: bool,
+    /// How often an event is one of the waiting line, in a hundred, and how often such a one joins it.
+    line: usize,
+    joins: usize,
 }
 
 impl Chooser {
@@ -36,7 +40,8 @@ impl Chooser {
         if !full {
             first.push(Call::Format);
         }
-        Chooser { random, first, aim: None, lost: false, numbers: 0, full }
+        let (line, joins) = (random.pick(&[0, 5, 20, 40]), random.pick(&[20, 40, 50, 90]));
+        Chooser { random, first, aim: None, lost: false, numbers: 0, full, line, joins }
     }
 
     /// The next act; a write's value is marked with the number of the design that it is for.
@@ -105,7 +110,7 @@ impl Chooser {
             4 => self.random.pick(&near) + 1,
             _ => self.random.pick(&[65_535, 65_536, u32::MAX as usize]),
         });
-        Call::request(self.random.below(20) as u32, values)
+        Call::request(self.random.below(22) as u32, values)
     }
 
     /// Any event, values in range.
@@ -115,7 +120,7 @@ impl Chooser {
         let slot = random.below(sizes.slots);
         let page = random.below(sizes.pages);
         let word = random.below(sizes.words);
-        let kind = random.up_to(15) as u32;
+        let kind = tag(random.below(REQUESTS));
         let values = match kind {
             0x01 => [slot, random.below(sizes.accounts), random.up_to(sizes.slots + 2), 0],
             0x0B => [slot, random.below(sizes.pages + 1), 0, 0],
@@ -163,6 +168,9 @@ impl Chooser {
 
     /// An event that the tables allow; any event if a few tries find none.
     fn sensible(&mut self, keeper: &Keeper) -> Call {
+        if let Some(call) = self.about_line(keeper) {
+            return call;
+        }
         if let Some(call) = self.towards_aim(keeper) {
             return call;
         }
@@ -181,6 +189,28 @@ impl Chooser {
             }
         }
         self.in_range(keeper)
+    }
+
+    /// A join or a turn, as often as this list wants them. Pages of active designs join, pages in frames, those that wait already, any.
+    fn about_line(&mut self, keeper: &Keeper) -> Option<Call> {
+        if !self.random.percent(self.line) {
+            return None;
+        }
+        if !self.random.percent(self.joins) {
+            return Some(Call::request(19, [0; 4]));
+        }
+        let memory = &keeper.memory;
+        let page = match self.random.below(8) {
+            0 => memory.line[0],
+            1..=2 => self.random.pick(&memory.frames).page,
+            3..=6 => {
+                let slot = self.random.find(keeper.sizes.slots, |slot| memory.active[slot] == 1)?;
+                (keeper.flat(slot, self.random.below(keeper.sizes.pages)) + 1) as u16
+            }
+            _ => self.random.up_to(keeper.sizes.all_pages()) as u16,
+        };
+        let page = usize::from(page).checked_sub(1)?;
+        Some(Call::request(18, [page / keeper.sizes.pages, page % keeper.sizes.pages, 0, 0]))
     }
 
     fn claim(&mut self, keeper: &Keeper) -> Option<Call> {

@@ -45,6 +45,7 @@ fn first_difference(one: &Keeper, other: &Keeper) -> &'static str {
         ("active", one.active == other.active),
         ("updating", one.updating == other.updating),
         ("images", one.images == other.images),
+        ("line", one.line == other.line),
         ("used", one.used == other.used),
         ("pool", one.pool == other.pool),
     ];
@@ -75,7 +76,8 @@ pub fn promises(call: &Call, before: &Keeper, side: &Side) -> Result<(), String>
         _ => {
             check(rules::kept(side.after), "an event broke a rule")?;
             check(transfers_untouched(call, before, side.after), "an event changed the words of a frame in transfer")?;
-            check(along_the_lines(before, side.after), "a record moved along no line")
+            check(along_the_lines(before, side.after), "a record moved along no line")?;
+            check(line_moves(call, before, side), "the waiting line is not as it should be")
         }
     }
 }
@@ -116,4 +118,28 @@ fn transfers_untouched(call: &Call, before: &Keeper, after: &Keeper) -> bool {
         let words = before.words_of_frame(frame);
         before.memory.frame_words[words.clone()] == after.memory.frame_words[words]
     })
+}
+
+/// A join puts its page behind the others and changes nothing else. Of a turn the first request leaves exactly if the result is above 0,
+/// and then nothing else changes; otherwise the line stays, or the first goes to the back and nothing else changes. No other event
+/// changes the line.
+fn line_moves(call: &Call, before: &Keeper, side: &Side) -> bool {
+    let (Call::Apply(request), Outcome::Answer(answer)) = (call, side.outcome) else {
+        return false;
+    };
+    let mut wanted = before.clone();
+    let line = &mut wanted.memory.line;
+    let waiting = line.iter().filter(|&&entry| entry != 0).count();
+    match (request.kind, answer.result) {
+        (18, _) => line[waiting] = (before.flat(request.first as usize, request.second as usize) + 1) as u16,
+        (19, 1 | 3..) => {
+            line.remove(0);
+            line.push(0);
+        }
+        (19, 0) if side.after.memory.line != before.memory.line => line[..waiting].rotate_left(1),
+        (19, 2) => return false,
+        (19, _) => return side.after.memory.line == before.memory.line && side.after.disk == before.disk,
+        _ => return side.after.memory.line == before.memory.line,
+    }
+    *side.after == wanted
 }

@@ -1,8 +1,10 @@
 //! How often each kind was carried out, each refusal given, and each rule broken alone.
 
 use super::act::{Call, Outcome};
-use super::choose::LARGE;
 use super::batch::Batches;
+use super::bound::Bound;
+use super::choose::LARGE;
+use super::turns::Turns;
 use crate::event::Request;
 use crate::events::pages::{free_records, neighbour};
 use crate::keeper::Keeper;
@@ -10,7 +12,8 @@ use crate::tables::WRITING;
 use std::collections::BTreeMap;
 use std::fmt;
 
-pub const KINDS: [&str; 18] = [
+/// The kinds of request first, then the other calls.
+pub const KINDS: [&str; 20] = [
     "create",
     "delete",
     "activate",
@@ -26,10 +29,24 @@ pub const KINDS: [&str; 18] = [
     "page done",
     "map done",
     "limit",
+    "join",
+    "turn",
     "format",
     "restart",
     "page look",
 ];
+
+/// How many of them are kinds of request.
+pub const REQUESTS: usize = 17;
+
+/// The number that a request of a kind has; 0 for the other calls.
+pub fn tag(kind: usize) -> u32 {
+    match kind {
+        0..=14 => kind as u32 + 1,
+        15..=16 => kind as u32 + 3,
+        _ => 0,
+    }
+}
 
 #[derive(Default)]
 pub struct Counts {
@@ -42,6 +59,8 @@ pub struct Counts {
     pub taken: Taken,
     pub written: Written,
     pub batches: Batches,
+    pub turns: Turns,
+    pub bound: Bound,
 }
 
 /// Records taken by faults, and among them: where a lower page of the design had a record, where a higher one had (the pages come out
@@ -139,14 +158,16 @@ impl Written {
 impl Counts {
     fn count(&mut self, call: &Call, outcome: &Outcome) {
         self.calls += 1;
-        let kind = match call {
-            Call::Format => 15,
-            Call::Restart => 16,
-            Call::Look { .. } => 17,
-            Call::Apply(request) => request.kind.wrapping_sub(1) as usize,
+        let kind = || match call {
+            Call::Format => REQUESTS,
+            Call::Restart => REQUESTS + 1,
+            Call::Look { .. } => REQUESTS + 2,
+            Call::Apply(request) => {
+                (0..REQUESTS).find(|&kind| tag(kind) == request.kind).expect("a kind of request")
+            }
         };
         match outcome.refusal() {
-            0 => *self.carried_out.entry(KINDS[kind]).or_default() += 1,
+            0 => *self.carried_out.entry(KINDS[kind()]).or_default() += 1,
             number => *self.refused.entry(number).or_default() += 1,
         }
     }
@@ -154,11 +175,14 @@ impl Counts {
     /// Counts a call, the record that a fault took, and what was asked of pages being written.
     pub fn count_call(&mut self, call: &Call, outcome: &Outcome, before: &Keeper, after: &Keeper) {
         self.count(call, outcome);
-        if matches!(call, Call::Apply(Request { kind: 5, .. })) && outcome.refusal() == 0 {
+        if matches!(call, Call::Apply(Request { kind: 5 | 19, .. })) && outcome.refusal() == 0 {
             self.taken.note(before, after);
         }
         if outcome.refusal() == 0 {
             self.written.note(call, before);
+        }
+        if let (Call::Apply(Request { kind: 19, .. }), Outcome::Answer(answer)) = (call, outcome) {
+            self.turns.note(answer, before, after);
         }
     }
 
@@ -167,9 +191,9 @@ impl Counts {
         KINDS.into_iter().filter(|kind| !self.carried_out.contains_key(kind)).collect()
     }
 
-    /// Refusals of 1 to 22 never given.
+    /// Refusals of 1 to 22, and 27, never given.
     pub fn refusals_missing(&self) -> Vec<u32> {
-        (1..=22).filter(|number| !self.refused.contains_key(number)).collect()
+        (1..=22).chain([27]).filter(|number| !self.refused.contains_key(number)).collect()
     }
 }
 
@@ -179,6 +203,8 @@ impl fmt::Display for Counts {
         writeln!(out, "{:?}", self.taken)?;
         writeln!(out, "{:?}", self.written)?;
         writeln!(out, "{:?}", self.batches)?;
+        writeln!(out, "{:?}", self.turns)?;
+        writeln!(out, "{:?}", self.bound)?;
         writeln!(out, "carried out: {:?}", self.carried_out)?;
         writeln!(out, "refused: {:?}", self.refused)?;
         writeln!(out, "rules that alone refused a damaged table:")?;

@@ -50,6 +50,7 @@ fn scramble(memory: &mut Memory, random: &mut Random) {
         &mut memory.removal_list,
         &mut memory.addresses,
         &mut memory.images,
+        &mut memory.line,
         &mut memory.used,
     ] {
         table.iter_mut().for_each(|entry| *entry = random.next() as u16);

@@ -5,13 +5,13 @@ use crate::keeper::Keeper;
 use crate::queue;
 use crate::tables::{Frame, FREE, RELEASED};
 
-pub const TABLES: usize = 18;
+pub const TABLES: usize = 19;
 
 /// One damage or two.
 pub fn damage(keeper: &mut Keeper, seed: u64) {
     let mut random = Random::new(seed);
     for _ in 0..random.up_to(2) {
-        match random.below(10) {
+        match random.below(11) {
             0 => change_state(keeper, &mut random),
             1 => move_frame(keeper, &mut random),
             2 => change_frame(keeper, &mut random),
@@ -20,6 +20,7 @@ pub fn damage(keeper: &mut Keeper, seed: u64) {
             5 => swap_pages(keeper, &mut random),
             6 => copy_frame(keeper, &mut random),
             7 => forge_image(keeper, &mut random),
+            8 => forge_line(keeper, &mut random),
             _ => change_cell(keeper, &mut random),
         }
     }
@@ -93,6 +94,17 @@ fn forge_image(keeper: &mut Keeper, random: &mut Random) {
             keeper.memory.images[page] = record as u16 + 1;
         }
     }
+}
+
+/// A place of the waiting line, mostly one that is taken or the first that is not, becomes empty, a page, or one past the last.
+fn forge_line(keeper: &mut Keeper, random: &mut Random) {
+    let pages = keeper.sizes.all_pages();
+    let line = &mut keeper.memory.line;
+    let near = line.len().min(queue::length(line) + 2);
+    let among = if random.percent(80) { near } else { line.len() };
+    let at = random.below(among);
+    let any = random.up_to(pages) as u16;
+    line[at] = random.pick(&[0, any, pages as u16 + 1, u16::MAX]);
 }
 
 /// A frame's page, switches or transfer change, mostly of a frame with a page.
@@ -210,7 +222,8 @@ fn change_cell(keeper: &mut Keeper, random: &mut Random) {
         13 => put(&mut memory.updating, at, &change),
         14 => put(&mut memory.images, at, &change),
         15 => put(&mut memory.used, at, &change),
-        16 => memory.pool.hand = change(memory.pool.hand),
+        16 => put(&mut memory.line, at, &change),
+        17 => memory.pool.hand = change(memory.pool.hand),
         _ => memory.pool.free = change(memory.pool.free),
     }
 }

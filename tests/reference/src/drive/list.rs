@@ -2,6 +2,7 @@
 
 use super::act::{Act, Before, Call};
 use super::batch::{self, Batch};
+use super::bound;
 use super::choose::{Chooser, LARGE};
 use super::compare::{compare, promises, Side};
 use super::counts::Counts;
@@ -75,6 +76,11 @@ fn nearly_full(sizes: Sizes, random: &mut Random) -> Keeper {
     keeper
 }
 
+/// Sizes at which a call takes little time.
+fn small(sizes: &Sizes) -> bool {
+    sizes.records * sizes.words <= 1000 && sizes.all_pages() <= 1000
+}
+
 /// One list, from format on; or from a disk that is nearly full.
 fn list(subjects: &[Subject; 2], sizes: Sizes, seed: u64, length: usize, counts: &mut Counts) {
     let mut chooser = Chooser::new(seed, &sizes);
@@ -96,6 +102,12 @@ fn list(subjects: &[Subject; 2], sizes: Sizes, seed: u64, length: usize, counts:
         let went = went.and_then(|()| match next {
             Some(act) => step(subjects, &mut keepers, &mut shadow, &act, counts),
             None => Ok(()),
+        });
+        let went = went.and_then(|()| match cuts.below(if small(&sizes) { 100 } else { 1000 }) {
+            0 if rules::kept(&keepers[0]) => {
+                bound::run(subjects, &keepers[0], cuts.next(), &mut counts.bound)
+            }
+            _ => Ok(()),
         });
         number += 1;
         if let Err(what) = went {

@@ -20,7 +20,7 @@ fn bend_table(keeper: &mut Keeper, random: &mut Random) {
     }
     let longer = random.percent(50);
     let (disk, memory) = (&mut keeper.disk, &mut keeper.memory);
-    match random.below(17) {
+    match random.below(18) {
         0 => bend(&mut disk.records, longer),
         1 => bend(&mut disk.numbers, longer),
         2 => bend(&mut disk.accounts, longer),
@@ -37,6 +37,7 @@ fn bend_table(keeper: &mut Keeper, random: &mut Random) {
         13 => bend(&mut memory.active, longer),
         14 => bend(&mut memory.updating, longer),
         15 => bend(&mut memory.images, longer),
+        16 => bend(&mut memory.line, longer),
         _ => bend(&mut memory.used, longer),
     }
 }

@@ -3,6 +3,7 @@
 pub mod act; // one thing that a list does
 pub mod aims; // the next event on the way to a design at rest
 pub mod batch; // a stretch of a list in one call
+pub mod bound; // the bound on waiting
 pub mod choose; // the next act of a list, by what the tables hold
 pub mod compare; // the two subjects agree, and each keeps the paper's promises
 pub mod counts; // how often each kind and refusal was seen
@@ -14,6 +15,7 @@ pub mod misfit; // tables of wrong lengths
 pub mod packs; // packs to mend
 pub mod random; // random numbers from a seed
 pub mod shadow; // what each page must read as
+pub mod turns; // how turns went
 
 use crate::event::{Answer, Part, Request};
 use crate::keeper::Keeper;

@@ -2,6 +2,7 @@
 
 mod claim;
 mod designs;
+pub mod line;
 pub mod pages;
 mod transfers;
 
@@ -27,6 +28,8 @@ pub fn carry_out(keeper: &mut Keeper, event: Event) -> u32 {
         Event::Update { slot } => transfers::update(keeper, slot),
         Event::PageDone { frame, good } => transfers::page_done(keeper, frame, good == 1),
         Event::MapDone { slot, good } => transfers::map_done(keeper, slot, good == 1),
+        Event::Join { slot, page } => line::join(keeper, slot, page),
+        Event::Turn => line::turn(keeper),
         Event::Look { .. } => 0,
     }
 }

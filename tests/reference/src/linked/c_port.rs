@@ -36,6 +36,7 @@ struct Memory {
     active: Slice<u8>,
     updating: Slice<u8>,
     images: Slice<u16>,
+    line: Slice<u16>,
     used: Slice<u16>,
     pool: *mut Pool,
 }
@@ -94,6 +95,7 @@ fn lent_memory(memory: &mut tables::Memory) -> Memory {
         active: slice(&mut memory.active),
         updating: slice(&mut memory.updating),
         images: slice(&mut memory.images),
+        line: slice(&mut memory.line),
         used: slice(&mut memory.used),
         pool: &mut memory.pool,
     }

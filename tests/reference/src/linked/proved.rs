@@ -57,6 +57,8 @@ extern "C" {
         updating_count: usize,
         images: *mut u16,
         images_count: usize,
+        line: *mut u16,
+        line_count: usize,
         used: *mut u16,
         used_count: usize,
     ) -> Answer;
@@ -96,6 +98,8 @@ extern "C" {
         updating_count: usize,
         images: *mut u16,
         images_count: usize,
+        line: *mut u16,
+        line_count: usize,
         used: *mut u16,
         used_count: usize,
     ) -> Answer;
@@ -138,6 +142,8 @@ extern "C" {
         updating_count: usize,
         images: *mut u16,
         images_count: usize,
+        line: *mut u16,
+        line_count: usize,
         used: *mut u16,
         used_count: usize,
     ) -> Answer;
@@ -178,6 +184,8 @@ extern "C" {
         updating_count: usize,
         images: *const u16,
         images_count: usize,
+        line: *const u16,
+        line_count: usize,
         used: *const u16,
         used_count: usize,
     ) -> Part;
@@ -240,6 +248,8 @@ macro_rules! lend {
                 $keeper.memory.updating.len(),
                 $keeper.memory.images.$at(),
                 $keeper.memory.images.len(),
+                $keeper.memory.line.$at(),
+                $keeper.memory.line.len(),
                 $keeper.memory.used.$at(),
                 $keeper.memory.used.len(),
             )

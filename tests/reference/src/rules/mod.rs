@@ -2,6 +2,7 @@
 
 pub mod disk; // the rules of the disk part
 pub mod frames; // the rules of frames and queues
+pub mod line; // the rules of the waiting line
 pub mod records; // the rules of records, addresses, images and counts
 pub mod values; // what names something names something that exists
 
@@ -21,7 +22,7 @@ pub struct View<'a> {
 pub type Rule = (&'static str, fn(&View) -> bool);
 
 /// Asked once the disk rules and the values are in order.
-pub const MEMORY: [Rule; 17] = [
+pub const MEMORY: [Rule; 19] = [
     ("a queue is packed, no frame in it twice", frames::queues_packed),
     ("each frame is in exactly one place", frames::one_place),
     ("a free frame has no page and no switch on, any other has a page", frames::free_frames_bare),
@@ -39,6 +40,8 @@ pub const MEMORY: [Rule; 17] = [
     ("the hand is below R", records::hand),
     ("the free map and count agree with the states", records::free_agrees),
     ("used counts equal their definition", records::used_counts),
+    ("the waiting line is packed", line::packed),
+    ("a page that waits exists", line::pages_exist),
 ];
 
 pub fn kept(keeper: &Keeper) -> bool {

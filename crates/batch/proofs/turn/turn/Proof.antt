@@ -3,7 +3,7 @@ use borrow.Author.Needs.{needs}
 use mathlib.Core.Path.{sym, ap, _∙_}
 use lib.ListN.{take}
 use Rattle.model.specs.State.{State}
-use Rattle.model.specs.Lent.{given}
+use Rattle.model.specs.Lent.{allGiven}
 use Rattle.model.specs.Pool.{deposited}
 use Rattle.batch.proofs.Turning.{turned-unknown, turned-known}
 use Rattle.batch.proofs.turn.turn.Statement.{statement}
@@ -13,8 +13,8 @@ use Rattle.batch.proofs.turn.turn.Tie as tie
 abbrev lent : tie.Start → State
 lent s =
     let a = s .args in
-    given (take (a .sizes .frames) (a .held .frames)) (a .held .pool) (a .records) (a .numbers) (a .accounts) (a .maps) (a .limits)
-    (a .frame-words) (a .free-queue) (a .removal-list) (a .addresses) (a .states) (a .owners) (a .free-map) (a .active) (a .updating) (a .images) (a .used)
+    allGiven (take (a .sizes .frames) (a .held .frames)) (a .held .pool) (a .records) (a .numbers) (a .accounts) (a .maps) (a .limits)
+    (a .frame-words) (a .free-queue) (a .removal-list) (a .addresses) (a .states) (a .owners) (a .free-map) (a .active) (a .updating) (a .images) (a .line) (a .used)
 
 -- from the request back to the start; from the work back to the decoded event; from the end back to the work
 abbrev start : tie.After-pool → tie.Start
@@ -23,13 +23,13 @@ start q = search
 abbrev known : tie.After-carry → tie.After-decoded
 known w = search
 
-abbrev over : tie.After-slice-known35 → tie.After-answer
+abbrev over : tie.After-slice-known37 → tie.After-answer
 over c = search
 
 abbrev ended : tie.After-answer → tie.After-carry
 ended c = search
 
-abbrev worked : tie.After-slice-known35 → tie.After-carry
+abbrev worked : tie.After-slice-known37 → tie.After-carry
 worked c = ended (over c)
 
 abbrev begun : tie.After-carry → tie.Start
@@ -99,4 +99,5 @@ turn-spec =
     (λ c. worked c .carry .kept .1 .1 .1 .1 .1 .1 .1 .1 .1 .1 .1 .1 .1 .1 .1 .1 .1 .0)
     (λ c. worked c .carry .kept .1 .1 .1 .1 .1 .1 .1 .1 .1 .1 .1 .1 .1 .1 .1 .1 .1 .1 .0)
     (λ c. worked c .carry .kept .1 .1 .1 .1 .1 .1 .1 .1 .1 .1 .1 .1 .1 .1 .1 .1 .1 .1 .1 .0)
+    (λ c. worked c .carry .kept .1 .1 .1 .1 .1 .1 .1 .1 .1 .1 .1 .1 .1 .1 .1 .1 .1 .1 .1 .1 .0)
     returns-2)

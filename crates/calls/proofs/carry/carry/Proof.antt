@@ -1,7 +1,12 @@
 -- `carry` meets its contract: each family's outcome is the event's.
 use borrow.Author.Needs.{needs}
 use mathlib.Core.Path.{refl}
+use lib.ListN.{take}
+use Rattle.model.specs.declared.event.Event.the-variants as Event
+use Rattle.model.specs.State.{State}
+use Rattle.model.specs.Lent.{allGiven, given}
 use Rattle.model.specs.Pool.{taken, deposited}
+use Rattle.dispatch.specs.Beside.{kept-alone, leaves-beside}
 use Rattle.calls.proofs.carry.carry.Statement.{statement}
 use Rattle.calls.proofs.carry.carry.Tie as tie
 
@@ -15,30 +20,67 @@ event2 k = search
 abbrev event3 : tie.After-writeback-event → tie.After-event3
 event3 k = search
 
+abbrev event4 : tie.After-waiting-event → tie.After-event4
+event4 k = search
+
+-- and from the match to the start
+abbrev start : tie.After-event → tie.Start
+start k = search
+
+abbrev start2 : tie.After-event2 → tie.Start
+start2 k = search
+
+abbrev start3 : tie.After-event3 → tie.Start
+start3 k = search
+
+-- everything lent, and the same with nobody waiting
+abbrev lent : tie.Start → State
+lent s =
+    let a = s .args in
+    allGiven (take (a .sizes .frames) (a .frames)) (a .pool) (a .records) (a .numbers) (a .accounts) (a .maps) (a .limits) (a .frame-words) (a .free-queue) (a .removal-list)
+    (a .addresses) (a .states) (a .owners) (a .free-map) (a .active) (a .updating) (a .images) (a .line) (a .used)
+
+abbrev alone : tie.Start → State
+alone s =
+    let a = s .args in
+    given (take (a .sizes .frames) (a .frames)) (a .pool) (a .records) (a .numbers) (a .accounts) (a .maps) (a .limits) (a .frame-words) (a .free-queue) (a .removal-list)
+    (a .addresses) (a .states) (a .owners) (a .free-map) (a .active) (a .updating) (a .images) (a .used)
+
 design-event-requires : tie.Need-design-event-requires
-design-event-requires c κs = let s : tie.Start = search in s .pre
+design-event-requires c κs = let s : tie.Start = search in kept-alone (s .args .sizes) (lent s) (s .pre)
 
 page-event-requires : tie.Need-page-event-requires
-page-event-requires c κs = let s : tie.Start = search in s .pre
+page-event-requires c κs = let s : tie.Start = search in kept-alone (s .args .sizes) (lent s) (s .pre)
 
 writeback-event-requires : tie.Need-writeback-event-requires
-writeback-event-requires c κs = let s : tie.Start = search in s .pre
+writeback-event-requires c κs = let s : tie.Start = search in kept-alone (s .args .sizes) (lent s) (s .pre)
+
+waiting-event-requires : tie.Need-waiting-event-requires
+waiting-event-requires c κs = let s : tie.Start = search in s .pre
 
 returns : tie.Need-returns
 unfolding taken deposited
 returns c =
     let k : tie.After-design-event = search in
-    rw (event k .event .given .1) (k .design-event .ensures)
+    let s = start (event k) in
+    rw (event k .event .given .1) (leaves-beside (s .args .line .now) (s .args .sizes) (alone s) (Event.Design (event k .event .given .0 .0)) tt _ (k .design-event .ensures))
 
 returns-2 : tie.Need-returns-2
 returns-2 c =
     let k : tie.After-page-event = search in
-    rw (event2 k .event2 .given .1) (k .page-event .ensures)
+    let s = start2 (event2 k) in
+    rw (event2 k .event2 .given .1) (leaves-beside (s .args .line .now) (s .args .sizes) (alone s) (Event.Page (event2 k .event2 .given .0 .0)) tt _ (k .page-event .ensures))
 
 returns-3 : tie.Need-returns-3
 returns-3 c =
     let k : tie.After-writeback-event = search in
-    rw (event3 k .event3 .given .1) (k .writeback-event .ensures)
+    let s = start3 (event3 k) in
+    rw (event3 k .event3 .given .1) (leaves-beside (s .args .line .now) (s .args .sizes) (alone s) (Event.Writeback (event3 k .event3 .given .0 .0)) tt _ (k .writeback-event .ensures))
+
+returns-4 : tie.Need-returns-4
+returns-4 c =
+    let k : tie.After-waiting-event = search in
+    rw (event4 k .event4 .given .1) (k .waiting-event .ensures)
 
 pub carry-spec : {M : Type 1} → statement M
 carry-spec =
@@ -50,6 +92,8 @@ carry-spec =
     page-event-requires
     (λ c. search needs)
     writeback-event-requires
+    (λ c. search needs)
+    waiting-event-requires
     (λ c. refl)
     (λ c. let w : tie.After-design-event = search in w .design-event .kept .1 .1 .1 .1 .1 .0)
     (λ c. let w : tie.After-design-event = search in w .design-event .kept .1 .1 .1 .1 .1 .1 .0)
@@ -100,4 +144,22 @@ carry-spec =
     (λ c. let w : tie.After-writeback-event = search in w .writeback-event .kept .1 .1 .1 .1 .1 .1 .1 .1 .1 .1 .1 .1 .1 .1 .1 .1 .1 .0)
     (λ c. let w : tie.After-writeback-event = search in w .writeback-event .kept .1 .1 .1 .1 .1 .1 .1 .1 .1 .1 .1 .1 .1 .1 .1 .1 .1 .1 .0)
     (λ c. let w : tie.After-writeback-event = search in w .writeback-event .kept .1 .1 .1 .1 .1 .1 .1 .1 .1 .1 .1 .1 .1 .1 .1 .1 .1 .1 .1 .0)
-    returns-3)
+    returns-3
+    (λ c. refl)
+    (λ c. refl)
+    (λ c. refl)
+    (λ c. refl)
+    (λ c. refl)
+    (λ c. let w : tie.After-waiting-event = search in w .waiting-event .kept .1 .1 .1 .1 .1 .1 .1 .1 .1 .0)
+    (λ c. let w : tie.After-waiting-event = search in w .waiting-event .kept .1 .1 .1 .1 .1 .1 .1 .1 .1 .1 .0)
+    (λ c. let w : tie.After-waiting-event = search in w .waiting-event .kept .1 .1 .1 .1 .1 .1 .1 .1 .1 .1 .1 .0)
+    (λ c. let w : tie.After-waiting-event = search in w .waiting-event .kept .1 .1 .1 .1 .1 .1 .1 .1 .1 .1 .1 .1 .0)
+    (λ c. let w : tie.After-waiting-event = search in w .waiting-event .kept .1 .1 .1 .1 .1 .1 .1 .1 .1 .1 .1 .1 .1 .0)
+    (λ c. let w : tie.After-waiting-event = search in w .waiting-event .kept .1 .1 .1 .1 .1 .1 .1 .1 .1 .1 .1 .1 .1 .1 .0)
+    (λ c. let w : tie.After-waiting-event = search in w .waiting-event .kept .1 .1 .1 .1 .1 .1 .1 .1 .1 .1 .1 .1 .1 .1 .1 .0)
+    (λ c. refl)
+    (λ c. refl)
+    (λ c. refl)
+    (λ c. let w : tie.After-waiting-event = search in w .waiting-event .kept .1 .1 .1 .1 .1 .1 .1 .1 .1 .1 .1 .1 .1 .1 .1 .1 .1 .1 .1 .0)
+    (λ c. let w : tie.After-waiting-event = search in w .waiting-event .kept .1 .1 .1 .1 .1 .1 .1 .1 .1 .1 .1 .1 .1 .1 .1 .1 .1 .1 .1 .1 .0)
+    returns-4)

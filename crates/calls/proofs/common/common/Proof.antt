@@ -8,7 +8,7 @@ use Rattle.tables.specs.Rule.{Holds}
 use Rattle.tables.specs.Turn.{learn}
 use Rattle.model.specs.declared.frame.Frame.{Frame}
 use Rattle.model.specs.State.{State}
-use Rattle.model.specs.Lent.{given}
+use Rattle.model.specs.Lent.{allGiven}
 use Rattle.model.specs.Step.{allFit}
 use Rattle.model.specs.Calls.{framesOf, length-frames}
 use Rattle.calls.specs.Frames.{fit-taken, ruled-taken}
@@ -20,11 +20,11 @@ use Rattle.calls.proofs.common.common.Tie as tie
 abbrev at : tie.Start → List Frame → State
 at s l =
     let a = s .args in
-    given l (a .pool) (a .records) (a .numbers) (a .accounts) (a .maps) (a .limits) (a .frame-words) (a .free-queue) (a .removal-list)
-    (a .addresses) (a .states) (a .owners) (a .free-map) (a .active) (a .updating) (a .images) (a .used)
+    allGiven l (a .pool) (a .records) (a .numbers) (a .accounts) (a .maps) (a .limits) (a .frame-words) (a .free-queue) (a .removal-list)
+    (a .addresses) (a .states) (a .owners) (a .free-map) (a .active) (a .updating) (a .images) (a .line) (a .used)
 
 -- from question 1 back to the start
-abbrev start : tie.After-all-fit → tie.Start
+abbrev start : tie.After-lent-fit → tie.Start
 start q = search
 
 abbrev lent : tie.Start → State
@@ -38,17 +38,17 @@ returns c =
     let s = start (c .before) in
     let a = s .args in
     common-unfit (a .sizes) (lent s)
-    (sym (c .if1 .left) ∙ c .before .all-fit .ensures (framesOf (a .frames) (a .lent)) (a .pool) (length-frames (a .frames) (a .lent)))
+    (sym (c .if1 .left) ∙ c .before .lent-fit .ensures (framesOf (a .frames) (a .lent)) (a .pool) (length-frames (a .frames) (a .lent)))
 
 fitted : (c : tie.Then1) → (let s = start (c .before) in Holds (allFit (s .args .sizes) (lent s)))
 fitted c =
     let s = start (c .before) in
     let a = s .args in
     learn (allFit (a .sizes) (lent s))
-    (sym (c .if1 .taken) ∙ c .before .all-fit .ensures (framesOf (a .frames) (a .lent)) (a .pool) (length-frames (a .frames) (a .lent)))
+    (sym (c .if1 .taken) ∙ c .before .lent-fit .ensures (framesOf (a .frames) (a .lent)) (a .pool) (length-frames (a .frames) (a .lent)))
 
-all-rules-requires : tie.Need-all-rules-requires
-all-rules-requires c κs =
+lent-rules-requires : tie.Need-lent-rules-requires
+lent-rules-requires c κs =
     let s = start (c .before) in
     let a = s .args in
     fit-taken (a .sizes) (at s) (λ l. refl) (a .frames) (a .lent) (fitted c) (long s)
@@ -59,7 +59,7 @@ returns-2 c =
     let s = start (k .before) in
     let a = s .args in
     common-told (a .sizes) (lent s) false (fitted k)
-    (ruled-taken (a .sizes) (at s) (λ l. refl) (a .frames) (a .lent) (fitted k) (long s) false (sym (c .if2 .left) ∙ c .before .all-rules .ensures))
+    (ruled-taken (a .sizes) (at s) (λ l. refl) (a .frames) (a .lent) (fitted k) (long s) false (sym (c .if2 .left) ∙ c .before .lent-rules .ensures))
 
 returns-3 : tie.Need-returns-3
 returns-3 c =
@@ -67,7 +67,7 @@ returns-3 c =
     let s = start (k .before) in
     let a = s .args in
     common-told (a .sizes) (lent s) true (fitted k)
-    (ruled-taken (a .sizes) (at s) (λ l. refl) (a .frames) (a .lent) (fitted k) (long s) true (sym (c .if2 .taken) ∙ c .before .all-rules .ensures))
+    (ruled-taken (a .sizes) (at s) (λ l. refl) (a .frames) (a .lent) (fitted k) (long s) true (sym (c .if2 .taken) ∙ c .before .lent-rules .ensures))
 
 pub common-spec : {M : Type 1} → statement M
-common-spec = tie.close (tie.spec (λ c κs. search needs) returns all-rules-requires returns-2 returns-3)
+common-spec = tie.close (tie.spec (λ c κs. search needs) returns lent-rules-requires returns-2 returns-3)

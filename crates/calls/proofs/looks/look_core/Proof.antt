@@ -1,7 +1,7 @@
 -- `look_core` meets its contract: the part that the numbers tell.
 use borrow.Author.Needs.{needs}
 use native.Mathlib.Omega.{arith}
-use Rattle.model.specs.Lent.{given}
+use Rattle.model.specs.Lent.{allGiven}
 use Rattle.model.specs.Calls.{framesOf}
 use Rattle.calls.specs.Looking.{part-looked}
 use Rattle.calls.proofs.looks.look_core.Statement.{statement}
@@ -22,8 +22,8 @@ returns c =
     let k = c .before .before in
     let a = start k .args in
     part-looked (a .sizes)
-    (given (framesOf (a .frames) (a .lent)) (a .pool) (a .records) (a .numbers) (a .accounts) (a .maps) (a .limits) (a .frame-words) (a .free-queue) (a .removal-list)
-    (a .addresses) (a .states) (a .owners) (a .free-map) (a .active) (a .updating) (a .images) (a .used))
+    (allGiven (framesOf (a .frames) (a .lent)) (a .pool) (a .records) (a .numbers) (a .accounts) (a .maps) (a .limits) (a .frame-words) (a .free-queue) (a .removal-list)
+    (a .addresses) (a .states) (a .owners) (a .free-map) (a .active) (a .updating) (a .images) (a .line) (a .used))
     (a .slot) (a .page) (k .place-core .result) (a .frame-words .ptr) (k .place-core .ensures .0)
 
 pub look-core-spec : {M : Type 1} → statement M

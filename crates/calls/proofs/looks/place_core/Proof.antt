@@ -9,7 +9,7 @@ use Rattle.tables.specs.Rule.{Holds}
 use Rattle.model.specs.declared.frame.Frame.{Frame}
 use Rattle.model.specs.State.{State}
 use Rattle.model.specs.Rules.{allRules}
-use Rattle.model.specs.Lent.{given}
+use Rattle.model.specs.Lent.{allGiven}
 use Rattle.model.specs.Step.{allFit}
 use Rattle.model.specs.Fit.{fit}
 use Rattle.model.specs.Calls.{framesOf}
@@ -23,8 +23,8 @@ use Rattle.calls.proofs.looks.place_core.Tie as tie
 abbrev at : tie.Start → List Frame → State
 at s l =
     let a = s .args in
-    given l (a .pool) (a .records) (a .numbers) (a .accounts) (a .maps) (a .limits) (a .frame-words) (a .free-queue) (a .removal-list)
-    (a .addresses) (a .states) (a .owners) (a .free-map) (a .active) (a .updating) (a .images) (a .used)
+    allGiven l (a .pool) (a .records) (a .numbers) (a .accounts) (a .maps) (a .limits) (a .frame-words) (a .free-queue) (a .removal-list)
+    (a .addresses) (a .states) (a .owners) (a .free-map) (a .active) (a .updating) (a .images) (a .line) (a .used)
 
 -- from questions 1 and 2 back to the start
 abbrev start : tie.After-common → tie.Start

@@ -11,7 +11,7 @@ returns c =
     let p = c .before .before in
     let z = p .before .before in
     let s : tie.Start = search in
-    p .put16 .ensures ∙ rw (z .size .ensures, add-one (s .args .f)) (sym (push-back-set (s .args .q .now) refl (s .pre .1) (s .args .f) (s .pre .2)))
+    p .put16 .ensures ∙ rw (z .size .ensures, add-one (s .args .f)) (sym (push-back-set (s .args .q .now) refl (s .pre .1 .1) (s .args .f) (s .pre .2)))
 
 pub push-back-spec : {M : Type 1} → statement M
 push-back-spec = tie.close (tie.spec (λ c κs. search needs) (λ c. search needs) (λ c. search needs) (λ c κs. search needs) (λ c. search needs) returns)

@@ -6,14 +6,14 @@ use Prim.Native.Nat.{ℕ, _<_}
 use lib.ListN.{length}
 use mathlib.Core.List.{List}
 use Rattle.tables.specs.Rule.{Holds}
-use Rattle.tables.specs.Queue.{queue, size, push-back, pop}
+use Rattle.tables.specs.Queue.{queueOf, size, push-back, pop}
 use Rattle.tables.specs.QueueLaws.{size-le, size-pop, length-pop, queue-pop}
 use Rattle.leaves.proofs.Queues.{first-at}
 use Rattle.leaves.proofs.queue.rotate.Statement.{statement}
 use Rattle.leaves.proofs.queue.rotate.Tie as tie
 
 -- what is popped is a queue with room
-popped : (q p : List ℕ) → p ≡ pop q → Holds (queue (length q) q) → 0 < size q → Holds (queue (length p) p) × (size p < length p)
+popped : {m : ℕ} (q p : List ℕ) → p ≡ pop q → Holds (queueOf (length q) m q) → 0 < size q → Holds (queueOf (length p) m p) × (size p < length p)
 popped q p e ok h = rw e (rw length-pop (queue-pop q refl ok), omega (arith, size-pop q, length-pop q, size-le q))
 
 push-back-requires : tie.Need-push-back-requires
@@ -21,8 +21,8 @@ push-back-requires c κs =
     let p : tie.After-pop = search in
     let f = p .before .before in
     let s : tie.Start = search in
-    let r = popped (s .args .q .now) (p .pop .last .0) (p .pop .ensures) (s .pre .0) (s .pre .1) in
-    (omega (arith, first-at (s .args .q .now), f .first .ensures, f .before .before .slice-known .given 0), r .0, r .1)
+    let r = popped (s .args .q .now) (p .pop .last .0) (p .pop .ensures) (s .pre .0 .1) (s .pre .1) in
+    (omega (arith, first-at (s .args .q .now), f .first .ensures, f .before .before .slice-known .given 0), (_, r .0), r .1)
 
 returns : tie.Need-returns
 returns c =

@@ -1,13 +1,14 @@
--- `writeback` meets its contract: each arm's tag leads to its event, and any other is unknown.
+-- `writeback` meets its contract: each arm's tag leads to its event, and any other is looked for in `waiting`.
 use borrow.Author.Needs.{needs}
-use mathlib.Core.List.{[]}
-use Rattle.model.specs.Requests.{writebackKinds}
+use mathlib.Core.Path.{_∙_}
+use Rattle.model.specs.Requests.{writebackKinds, waitingKinds}
 use Rattle.model.proofs.Tagged.{passed}
 use Rattle.model.proofs.request.writeback.Statement.{statement}
 use Rattle.model.proofs.request.writeback.Tie as tie
 
 returns : tie.Need-returns
-returns c = let r = c .before .before .before .args .request in passed (r .kind) Unit (writebackKinds r) [] (c .match .rest)
+returns c = let s : tie.Start = search in let r = s .args .request in
+    c .waiting .ensures ∙ passed (r .kind) Unit (writebackKinds r) (waitingKinds r) (c .before .match .rest)
 
 pub writeback-spec : {M : Type 1} → statement M
 writeback-spec =
@@ -15,6 +16,7 @@ writeback-spec =
     (tie.spec
     (λ c. search needs)
     (λ c. search needs)
+    (λ c κs. search needs)
     returns
     (λ c. rw (c .match .keys1))
     (λ c. rw (c .match .keys2))

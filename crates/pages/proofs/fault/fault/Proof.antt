@@ -79,7 +79,7 @@ serve-requires c κs =
     (s .pre .0 .sizes, rw (paged x .page-of .ensures) (page-most (s .args .sizes) (s .pre .0 .sizes) (s .args .slot) (s .args .page) (r .0) (r .1)), n .0, s .pre .2, n .1, n .2)
 
 pop-requires : tie.Need-pop-requires
-pop-requires c κs = let v : tie.After-serve = search in let s = from (held (served v)) in rw (s .pre .1 .free-long) (s .pre .1 .free-packed)
+pop-requires c κs = let v : tie.After-serve = search in let s = from (held (served v)) in (s .args .sizes .frames, rw (s .pre .1 .free-long) (s .pre .1 .free-packed))
 
 cast-t50 : tie.Need-cast-t50
 cast-t50 c = let o : tie.After-pop = search in let x = held (served (popped o)) in omega (arith, needs-served x .0, from x .pre .0 .sizes .frames-most)

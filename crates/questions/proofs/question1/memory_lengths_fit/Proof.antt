@@ -4,6 +4,7 @@ use Prim.Native.Nat.{_+_, _*_, _/_}
 use lib.Dec.{eqb}
 use lib.ListN.{length}
 use native.Mathlib.Omega.{arith}
+use Rattle.tables.specs.Queue.{packed}
 use Rattle.tables.specs.Rule.{test}
 use Rattle.model.specs.Fit.{within}
 use Rattle.model.specs.Bounds.{pages-most, frame-words-most}
@@ -20,7 +21,7 @@ mul-result c =
     omega (arith, frame-words-most (args .z) (within (args .z) pre))
 
 returns : tie.Need-returns
-unfolding test
+unfolding test packed
 returns c =
     let s₀ : tie.Start = search in let args = s₀ .args in let z = args .z in
     λ frames pool e. rw e (

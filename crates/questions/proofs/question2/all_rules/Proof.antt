@@ -6,12 +6,12 @@ use native.Mathlib.Omega.{arith}
 use lib.ListN.{take, length-replicate}
 use Rattle.tables.specs.Turn.{learn}
 use Rattle.tables.specs.Laws.{at-zeros}
-use Rattle.model.specs.State.{State, frameAt}
+use Rattle.model.specs.State.{State, allPages, frameAt}
 use Rattle.model.specs.Fit.{Fit, fit}
 use Rattle.model.specs.Bounds.{pages-most}
 use Rattle.model.specs.Lent.{stateOf}
 use Rattle.questions.proofs.Shapes.{all-zero}
-use Rattle.questions.proofs.RulesLaw.{disk-long, files-long, frames-long, counts-long, no-disk, no-files, no-frames, counts-decide, frames-taken, sums-small}
+use Rattle.questions.proofs.RulesLaw.{disk-long, files-long, frames-long, counts-long, no-disk, no-files, no-frames, counts-decide, empty-line, frames-taken, sums-small}
 use Rattle.questions.proofs.question2.all_rules.Statement.{statement}
 use Rattle.questions.proofs.question2.all_rules.Tie as tie
 
@@ -86,7 +86,7 @@ returns-4 c =
     let u : tie.Then2 = search in
     let after-files : tie.After-files = search in let files = after-files .files in
     let t : tie.Then1 = search in
-    counts-decide (s .args .z) (lent s) (fits s) (frameAt (s .args .frames)) (same s) (files .last .1 .0) (frames .last .1 .1 .0) _
+    counts-decide (s .args .z) (lent s) (fits s) (frameAt (s .args .frames)) (same s) (files .last .1 .0) (frames .last .1 .1 .0) _ (empty-line (allPages (s .args .z)))
     (learn _ (sym (t .if1 .taken) ∙ disk .ensures .0)) (learn _ (sym (u .if2 .taken) ∙ files .ensures .0)) (learn _ (sym (w .if3 .taken) ∙ frames .ensures .0)) (files .ensures .1 (u .if2 .taken)) (frames .ensures .1 (w .if3 .taken)) (c .counts .ensures)
 
 pub all-rules-spec : {M : Type 1} → statement M

@@ -5,7 +5,7 @@ use Rattle.replay.proofs.machine.start.Statement.{statement}
 use Rattle.replay.proofs.machine.start.Tie as tie
 
 -- the place before the call
-abbrev blanked : tie.After-carry-arg16 → tie.After-blank
+abbrev blanked : tie.After-carry-arg17 → tie.After-blank
 blanked c = search
 
 returns : tie.Need-returns

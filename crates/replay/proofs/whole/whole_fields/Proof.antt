@@ -3,30 +3,30 @@ use borrow.Author.Needs.{needs}
 use Prim.Native.Nat.{ℕ, _-_}
 use native.Mathlib.Omega.{arith}
 use Rattle.model.specs.Calls.{framesOf}
-use Rattle.model.specs.Lent.{stateOf}
+use Rattle.model.specs.Lent.{allOf}
 use Rattle.replay.proofs.Printed.{At, at-first, at-room, at-more, at-last}
 use Rattle.replay.proofs.whole.whole_fields.Statement.{statement}
 use Rattle.replay.proofs.whole.whole_fields.Tie as tie
 
--- the tables, in the order in which they are lent: a to r
+-- the tables, in the order in which they are lent: a to u
 abbrev Inv-loop : tie.InvT-loop
-Inv-loop input from out₀ count a₀ b₀ c₀ d₀ e₀ f₀ g₀ h₀ i₀ j₀ k₀ l₀ m₀ o₀ q₀ r₀ held₀ place₀ size₀ n₀ step₀
-    out a b c d e f g h i j k l m o q r held place size n step =
+Inv-loop input from out₀ count a₀ b₀ c₀ d₀ e₀ f₀ g₀ h₀ i₀ j₀ k₀ l₀ m₀ o₀ q₀ r₀ u₀ held₀ place₀ size₀ n₀ step₀
+    out a b c d e f g h i j k l m o q r u held place size n step =
     At input out₀ from count
-    (stateOf (framesOf (held₀ .frames) 2) (held₀ .pool) a₀ b₀ c₀ d₀ e₀ f₀ g₀ h₀ i₀ j₀ k₀ l₀ m₀ o₀ q₀ r₀)
+    (allOf (framesOf (held₀ .frames) 2) (held₀ .pool) a₀ b₀ c₀ d₀ e₀ f₀ g₀ h₀ i₀ j₀ k₀ l₀ m₀ o₀ q₀ r₀ u₀)
     place size n step out
-    (stateOf (framesOf (held .frames) 2) (held .pool) a b c d e f g h i j k l m o q r)
+    (allOf (framesOf (held .frames) 2) (held .pool) a b c d e f g h i j k l m o q r u)
 
 abbrev μ-loop : tie.MeasureT-loop
-μ-loop input from out₀ count a₀ b₀ c₀ d₀ e₀ f₀ g₀ h₀ i₀ j₀ k₀ l₀ m₀ o₀ q₀ r₀ held₀ place₀ size₀ n₀ step₀
-    out a b c d e f g h i j k l m o q r held place size n step =
+μ-loop input from out₀ count a₀ b₀ c₀ d₀ e₀ f₀ g₀ h₀ i₀ j₀ k₀ l₀ m₀ o₀ q₀ r₀ u₀ held₀ place₀ size₀ n₀ step₀
+    out a b c d e f g h i j k l m o q r u held place size n step =
     18446744073709551615 - n
 
 -- the places before the calls
 abbrev In : Type 0
 In = tie.In-loop Inv-loop μ-loop
 
-abbrev turned : tie.After-carry-arg16 Inv-loop μ-loop → In
+abbrev turned : tie.After-carry-arg17 Inv-loop μ-loop → In
 turned c = search
 
 loop-holds : tie.Need-loop-holds Inv-loop μ-loop

@@ -12,10 +12,10 @@ use Rattle.rules.proofs.queues.queue.Statement.{statement}
 use Rattle.rules.proofs.queues.queue.Tie as tie
 
 abbrev Inv-loop : tie.InvT-loop
-Inv-loop frames entries k₀ k = Passed k (λ i. queueEntry frames (at entries i) (at entries (suc i)))
+Inv-loop count bound entries k₀ k = Passed k (λ i. queueEntry bound (at entries i) (at entries (suc i)))
 
 abbrev μ-loop : tie.MeasureT-loop
-μ-loop frames entries k₀ k = frames - k
+μ-loop count bound entries k₀ k = count - k
 
 returns : tie.Need-returns Inv-loop μ-loop
 returns c =

@@ -65,7 +65,7 @@ turn-requires c κs =
 pop-requires : tie.Need-pop-requires
 pop-requires c κs =
     let t : tie.After-turn = search in
-    t .turn .ensures .ruled
+    (_, t .turn .ensures .ruled)
 
 begins-requires : tie.Need-begins-requires
 begins-requires c κs =

@@ -3,6 +3,7 @@ use borrow.Author.Needs.{needs}
 use mathlib.Core.Path.{sym, _∙_}
 use Prim.Native.Nat.{suc, _-_}
 use native.Mathlib.Omega.{arith}
+use lib.ListN.{length}
 use Rattle.tables.specs.Queue.{size}
 use Rattle.tables.specs.QueueLaws.{size-le}
 use Rattle.writeback.proofs.Looks.{Round, round-starts, entry-below, looks-most, more, round-again, round-ends}
@@ -36,7 +37,8 @@ array-set-from-kept c =
 rotate-requires : tie.Need-rotate-requires Inv-loop μ-loop
 rotate-requires c κs =
     let at-loop : tie.At-loop Inv-loop μ-loop = search in
-    (rw (at-loop .loop .inv .long) (at-loop .loop .inv .ruled), at-loop .loop .inv .entries)
+    let start : tie.Start Inv-loop μ-loop = search in
+    ((length (start .args .list .now), rw (at-loop .loop .inv .long) (at-loop .loop .inv .ruled)), at-loop .loop .inv .entries)
 
 add-looks : tie.Need-add-looks Inv-loop μ-loop
 add-looks c =

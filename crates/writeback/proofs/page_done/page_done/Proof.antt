@@ -110,7 +110,8 @@ returns-4 c =
 push-back-requires-3 : tie.Need-push-back-requires-3
 push-back-requires-3 c κs =
     let p : tie.Else1 = search in
-    told p .room-list
+    let t = told p .room-list in
+    (t .0, (_, t .1), t .2)
 
 returns-5 : tie.Need-returns-5
 returns-5 c =

@@ -1,0 +1,79 @@
+-- A turn whose page is in no frame, by what its fault and its claim ensure of the tables that they see.
+use mathlib.Core.Path.{_≡_, refl, ap, sym, _∙_, subst}
+use mathlib.Core.List.{List, []}
+use Prim.Native.Nat.{ℕ, _%_}
+use lib.Dec.{eqb}
+use lib.ListN.{take}
+use Rattle.tables.specs.Base.{if}
+use Rattle.tables.specs.Queue.{pop}
+use Rattle.model.specs.declared.sizes.Sizes.{Sizes}
+use Rattle.model.specs.declared.frame.Frame.{Frame}
+use Rattle.model.specs.declared.frame.Pool.{Pool}
+use Rattle.model.specs.declared.event.Answer.{Answer}
+use Rattle.model.specs.declared.event.Event.the-variants as Event
+use Rattle.model.specs.declared.event.Page.the-variants.{Fault}
+use Rattle.model.specs.declared.event.Waiting.the-variants.{Turn}
+use Rattle.model.specs.State.{Disk, Core, Held, Slots, State, slotOf}
+use Rattle.model.specs.Setters.{onCore, onHeld, setFrames, setHand, setFree}
+use Rattle.model.specs.Questions.{nextPage, nextFault}
+use Rattle.model.specs.LineLaws.{Waiting, InFrame}
+use Rattle.model.specs.Lent.{stateIn, stateOf, noPool}
+use Rattle.model.specs.Own.{own, leaves}
+use Rattle.pages.specs.Seen.{seenFault}
+use Rattle.pages.specs.Faults.{FaultLeft}
+use Rattle.writeback.specs.Claim.{claim, ClaimReady, ClaimLeft}
+use Rattle.writeback.proofs.ClaimLaws.{claim-ready}
+use Rattle.dispatch.specs.Kept.{Kept}
+use Rattle.dispatch.proofs.FaultLaws.{fault-own}
+use Rattle.dispatch.proofs.WritebackLaws.{claim-own}
+use Rattle.waiting.proofs.Turned.{as-it-was, claimed-own, settled-own}
+
+module _ (z : Sizes) (st : State) (k : Kept z st) (w : Waiting z st) (away : ¬ InFrame z st) (i : ℕ) (its : i ≡ nextPage z st) where
+  abbrev disk : Disk
+  disk = st .disk
+
+  abbrev core : Core
+  core = st .memory .core
+
+  abbrev held : Held
+  held = st .memory .held
+
+  abbrev slots : Slots
+  slots = st .memory .slots
+
+  -- what the fault sees
+  abbrev sees : State
+  sees = seenFault (core .frames) (held .pool) (disk .numbers) (core .words) (core .free-queue) (core .removal-list) (held .addresses) (held .states) (held .owners) (held .free-map) (slots .active)
+
+  -- all tables, with those new that a turn changes
+  abbrev after : List ℕ → List Frame → Pool → List ℕ → List ℕ → List ℕ → List ℕ → List ℕ → List ℕ → List ℕ → List ℕ → State
+  after line fs pool ws fq rl ads ss os fm us =
+      stateIn line fs pool (disk .records) (disk .numbers) (disk .accounts) (disk .maps) (disk .limits) ws fq rl ads ss os fm (slots .active) (slots .updating) (slots .images) us
+
+  module _ {fs : List Frame} (pool : Pool) {ws fq rl ads ss os fm : List ℕ} {a : Answer} (l : FaultLeft z sees (slotOf z i) (i % z .pages) fs pool ws fq rl ads ss os fm)
+      (e : a ≡ own z sees (Event.Page (Fault (slotOf z i) (i % z .pages))) .answer) where
+    faulted : leaves a (after (st .memory .line) fs pool ws fq rl ads ss os fm (st .memory .used)) ≡ own z st (Event.Page (nextFault z st))
+    faulted = fault-own z st k (slotOf z i) (i % z .pages) pool l e ∙ ap (λ (j : ℕ). own z st (Event.Page (Fault (slotOf z j) (j % z .pages)))) its
+
+    -- accepted, or sent away
+    pub brought : ¬ (a .refusal ≡ 20) → {line : List ℕ} → line ≡ if (eqb (a .refusal) 0) (st .memory .line) (pop (st .memory .line))
+        → leaves (record { refusal = 0; result = a .refusal }) (after line fs pool ws fq rl ads ss os fm (st .memory .used)) ≡ own z st (Event.Waiting Turn)
+    brought h {line} q = settled-own z st w away faulted h refl line q
+
+    -- no frame is free: all is as it was, and the claim's outcome is the turn's
+    module _ (h : a .refusal ≡ 20) where
+      abbrev again : State
+      again = after (st .memory .line) (core .frames) (held .pool) ws fq rl ads ss os fm (st .memory .used)
+
+      same : again ≡ st
+      same = λ x. onCore (setFrames (core .frames)) (onHeld (λ o. setHand (held .pool .hand) (setFree (held .pool .free) o)) (as-it-was z st w away faulted h x))
+
+      kept-again : Kept z again
+      kept-again = subst (Kept z) (sym same) k
+
+      pub claim-asked : ClaimReady z (core .frames) (disk .accounts) ws fq rl ads ss (st .memory .used)
+      claim-asked = claim-ready z again (kept-again .fits) (kept-again .rules)
+
+      pub brought-by-claim : {gs : List Frame} {b : Answer} {fq′ rl′ ss′ us′ : List ℕ} → ClaimLeft z (stateOf (core .frames) noPool [] [] (disk .accounts) [] [] ws fq rl ads ss [] [] [] [] [] (st .memory .used)) gs b fq′ rl′ ss′ us′
+          → leaves (record { refusal = b .refusal; result = 0 }) (after (st .memory .line) (take (z .frames) gs) (held .pool) ws fq′ rl′ ads ss′ os fm us′) ≡ own z st (Event.Waiting Turn)
+      brought-by-claim d = claimed-own z st w away faulted h _ (claim-own z again kept-again d ∙ ap (λ (x : State). own z x claim) same)

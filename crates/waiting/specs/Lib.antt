@@ -1,0 +1,2 @@
+-- What an event of the waiting line sees.
+pub mod Seen

@@ -1,0 +1,88 @@
+// The events of the waiting line, over all tables: joining it, and a turn, which treats the first request.
+ghost use mathlib.Core.Path.{_≡_};
+ghost use lib.ListN.{take};
+ghost use Rattle.model.specs.declared.event.Event.the-variants as Event;
+ghost use Rattle.model.specs.Lent.{allGiven, allEntered, allLeft};
+ghost use Rattle.model.specs.Own.{own, leaves};
+ghost use Rattle.model.specs.Pool.{taken, deposited};
+ghost use Rattle.dispatch.specs.Kept.{Kept};
+use crate::join::join;
+use crate::turn::turn;
+use model::applied::Applied;
+use model::event::Waiting;
+use model::frame::Frame;
+use model::frame::Pool;
+use model::sizes::Sizes;
+
+pub mod join; // a request joins the line
+pub mod turn; // the first request is treated
+
+// Once questions 1 and 2 are answered yes.
+pub fn waiting_event(
+    sizes: Sizes,
+    event: Waiting,
+    frames: [Frame; 64],
+    pool: Pool,
+    records: &[u32],
+    numbers: &[u32],
+    accounts: &[u16],
+    maps: &[u16],
+    limits: &[u16],
+    frame_words: &mut [u32],
+    free_queue: &mut [u16],
+    removal_list: &mut [u16],
+    addresses: &mut [u16],
+    states: &mut [u8],
+    owners: &mut [u8],
+    free_map: &mut [u32],
+    active: &[u8],
+    updating: &[u8],
+    images: &[u16],
+    line: &mut [u16],
+    used: &mut [u16],
+) -> Applied
+    requires { ⌜ Kept sizes
+        (allGiven (take (sizes .frames) frames) pool records numbers accounts maps limits
+        «frame_words» «free_queue» «removal_list» addresses states owners «free_map» active updating images line used) ⌝ }
+    ensures { λ r. ⌜ leaves (r .answer)
+        (allLeft (take (sizes .frames) (r .frames)) (deposited (r .deposited) (taken sizes (r .taken) pool)) records numbers accounts maps limits
+        «frame_words» «free_queue» «removal_list» addresses states owners «free_map» active updating images line used)
+        ≡ own sizes
+        (allEntered (take (sizes .frames) frames) pool records numbers accounts maps limits
+        «frame_words» «free_queue» «removal_list» addresses states owners «free_map» active updating images line used)
+        (Event.Waiting event) ⌝ }
+{
+    match event {
+        Waiting::Join { slot, page } => {
+            let answer = join(sizes, slot, page, line);
+            Applied {
+                frames,
+                taken: 0,
+                deposited: 0,
+                answer,
+            }
+        }
+        Waiting::Turn => turn(
+            sizes,
+            frames,
+            pool,
+            records,
+            numbers,
+            accounts,
+            maps,
+            limits,
+            frame_words,
+            free_queue,
+            removal_list,
+            addresses,
+            states,
+            owners,
+            free_map,
+            active,
+            updating,
+            images,
+            line,
+            used,
+        ),
+    }
+}
