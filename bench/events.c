@@ -42,7 +42,7 @@ static uint32_t *words_on(const struct keeper *k, size_t record)
 
 static uint16_t *used_of(const struct keeper *k, size_t page)
 {
-    return &k->memory.used.at[k->disk.accounts.at[page / k->sizes.pages]];
+    return &k->memory.used.at[payer_of(k, page / k->sizes.pages)];
 }
 
 /* The frame loses its page and switches and joins the free queue's end. */
@@ -361,7 +361,8 @@ uint32_t carry_out(struct keeper *k, const struct request *r)
     case MAP_DONE: map_done(k, r->first, r->second == 1); break;
     case JOIN: push_end(k->memory.line, page); break;
     case TURN: return turn(k);
-    case LIMIT: k->disk.limits.at[r->first] = (uint16_t)r->second; break;
+    case LIMIT: set_limit(k, r->first, r->second); break;
+    case MOVE: move_pages(k, r); break;
     default: return touch(k, r, page);
     }
     return 0;

@@ -18,6 +18,10 @@ bool keeps_memory_rules(const struct keeper *k);
 uint32_t first_refusal(const struct keeper *k, const struct request *r);
 uint32_t treatment(const struct keeper *k);
 uint32_t carry_out(struct keeper *k, const struct request *r);
+uint32_t refuses_move(const struct keeper *k, const struct request *r);
+void move_pages(struct keeper *k, const struct request *r);
+void set_limit(struct keeper *k, size_t account, uint32_t pages);
+bool are_lower(const uint16_t *parents, size_t count);
 
 /* The frame that a page is in, or -1. */
 static inline int frame_of(const struct keeper *k, size_t page)
@@ -38,6 +42,19 @@ static inline bool holds(const struct keeper *k, size_t page, uint8_t state)
 static inline bool charged(const struct keeper *k, size_t page, int frame)
 {
     return holds(k, page, LIVE) || (frame >= 0 && k->memory.frames.at[frame].modified);
+}
+
+/* Who pays by these limits: the account, or the first on the way up that has a limit, or account 0. */
+static inline size_t payer(const struct keeper *k, const uint16_t *limits, size_t account)
+{
+    while (account > 0 && limits[account] == 0 && k->disk.parents.at[account] < account)
+        account = k->disk.parents.at[account];
+    return account;
+}
+
+static inline size_t payer_of(const struct keeper *k, size_t slot)
+{
+    return payer(k, k->disk.limits.at, k->disk.accounts.at[slot]);
 }
 
 static inline bool all_zero(const uint32_t *words, size_t count)

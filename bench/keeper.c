@@ -12,15 +12,19 @@ static uint32_t common(const struct keeper *k)
     return keeps_disk_rules(k) && keeps_memory_rules(k) ? 0 : 2;
 }
 
-struct answer keeper_format(struct keeper *k)
+struct answer keeper_format(struct keeper *k, const uint16_t *wanted, size_t wanted_count)
 {
-    if (!fits_disk(k))
+    if (!fits_disk(k) || wanted_count != k->sizes.accounts)
         return refused(1);
+    if (!are_lower(wanted, wanted_count))
+        return refused(3);
     memset(k->disk.records.at, 0, k->disk.records.len * sizeof *k->disk.records.at);
     memset(k->disk.numbers.at, 0, k->disk.numbers.len * sizeof *k->disk.numbers.at);
     memset(k->disk.accounts.at, 0, k->disk.accounts.len * sizeof *k->disk.accounts.at);
     memset(k->disk.maps.at, 0, k->disk.maps.len * sizeof *k->disk.maps.at);
     memset(k->disk.limits.at, 0, k->disk.limits.len * sizeof *k->disk.limits.at);
+    memmove(k->disk.parents.at, wanted, k->disk.parents.len * sizeof *k->disk.parents.at);
+    k->disk.parents.at[0] = 0;
     return refused(0);
 }
 
@@ -57,7 +61,7 @@ struct answer keeper_restart(struct keeper *k)
             size_t slot = page / k->sizes.pages;
             m->states.at[entry - 1] = FILED;
             m->owners.at[entry - 1] = (uint8_t)slot;
-            m->used.at[k->disk.accounts.at[slot]]++;
+            m->used.at[payer_of(k, slot)]++;
         }
     }
     for (size_t record = 0; record < k->sizes.records; record++) {

@@ -12,10 +12,10 @@ enum {
 enum { LINE = 32 }; /* requests that can wait */
 enum { FREE, FILED, NULLED, LIVE, RELEASED, LEAVING }; /* states of a record */
 enum { NO_TRANSFER, READING, WRITING };
-enum { /* kinds of request; CUT is the event program's own, JOIN and TURN are the library's */
+enum { /* kinds of request; CUT is the event program's own, those after it the library's */
     CREATE = 1, DELETE, ACTIVATE, DEACTIVATE, FAULT, READ, WRITE, CLAIM,
     WIRE, UNWIRE, TRUNCATE, UPDATE, PAGE_DONE, MAP_DONE, LIMIT, CUT,
-    JOIN = 18, TURN
+    MOVE, JOIN, TURN
 };
 
 struct sizes { size_t words, records, frames, slots, pages, accounts; };
@@ -38,6 +38,7 @@ struct disk {
     struct halves accounts;
     struct halves maps;
     struct halves limits;
+    struct halves parents;
 };
 
 struct memory {
@@ -71,7 +72,7 @@ struct change { uint32_t slot, page, old, reason; };
 struct changes { struct change *at; size_t len; };
 struct part { uint32_t refusal; size_t start, count; };
 
-struct answer keeper_format(struct keeper *keeper);
+struct answer keeper_format(struct keeper *keeper, const uint16_t *wanted, size_t wanted_count);
 struct answer keeper_restart(struct keeper *keeper);
 struct answer keeper_apply(struct keeper *keeper, struct request request);
 struct answer keeper_mend(struct keeper *keeper, struct changes changes);

@@ -1,4 +1,4 @@
-/* Questions 3 to 22 and 27, in number order for each event. */
+/* Questions 3 to 27, in number order for each event. */
 #include "inside.h"
 
 static bool in_range(const struct keeper *k, const struct request *r)
@@ -14,6 +14,7 @@ static bool in_range(const struct keeper *k, const struct request *r)
     case PAGE_DONE: return r->first < z->frames && r->second <= 1;
     case MAP_DONE: return r->first < z->slots && r->second <= 1;
     case LIMIT: return r->first < z->accounts && r->second <= UINT16_MAX;
+    case MOVE: return r->first < z->accounts && r->second < z->accounts;
     default: return false;
     }
 }
@@ -75,9 +76,11 @@ static uint32_t touch(const struct keeper *k, uint32_t kind, size_t page)
     const struct frame *frame = &k->memory.frames.at[number];
     if (kind == READ || kind == LOOK ? frame->transfer == READING : frame->transfer != NO_TRANSFER)
         return 14;
-    uint16_t account = k->disk.accounts.at[page / k->sizes.pages];
-    if (kind == WRITE && !charged(k, page, number) && k->memory.used.at[account] >= k->disk.limits.at[account])
-        return 18;
+    if (kind == WRITE && !charged(k, page, number)) {
+        size_t account = payer_of(k, page / k->sizes.pages);
+        if (k->memory.used.at[account] >= k->disk.limits.at[account])
+            return 18;
+    }
     if (kind == WIRE && frame->wired)
         return 16;
     return kind == UNWIRE && !frame->wired ? 17 : 0;
@@ -130,6 +133,7 @@ uint32_t first_refusal(const struct keeper *k, const struct request *r)
     switch (r->kind) { /* no slot events */
     case CREATE: return create(k, r);
     case LIMIT: return 0;
+    case MOVE: return refuses_move(k, r);
     case CLAIM: return nothing_to_claim(k);
     case JOIN: return k->memory.line.at[LINE - 1] != 0 ? 27 : 0;
     case TURN: return treatment(k) == CLAIMS ? nothing_to_claim(k) : 0;

@@ -13,6 +13,7 @@ static uint32_t numbers[S];
 static uint16_t accounts[S];
 static uint16_t maps[S * N];
 static uint16_t limits[Q];
+static uint16_t parents[Q];
 static struct frame frames[F];
 static uint32_t frame_words[F * W];
 static uint16_t free_queue[F];
@@ -36,6 +37,7 @@ static struct keeper keeper = {
         SLICE(accounts),
         SLICE(maps),
         SLICE(limits),
+        SLICE(parents),
     },
     .memory = {
         SLICE(frames),
@@ -108,7 +110,8 @@ int main(void)
 {
     unsigned long count = 0, offset = 0;
     puts("n tag answer result");
-    keeper_format(&keeper);
+    static const uint16_t wanted[Q];
+    keeper_format(&keeper, wanted, Q);
     keeper_restart(&keeper);
     for (int tag; (tag = getchar()) != EOF;) {
         struct request request;

@@ -15,7 +15,8 @@ bool fits_disk(const struct keeper *k)
     const struct sizes *z = &k->sizes;
     const struct disk *d = &k->disk;
     return sizes_within(z) && d->records.len == z->records * z->words && d->numbers.len == z->slots
-        && d->accounts.len == z->slots && d->maps.len == z->slots * z->pages && d->limits.len == z->accounts;
+        && d->accounts.len == z->slots && d->maps.len == z->slots * z->pages && d->limits.len == z->accounts
+        && d->parents.len == z->accounts;
 }
 
 bool fits_memory(const struct keeper *k)
@@ -50,6 +51,15 @@ static bool number_elsewhere(const struct disk *d, size_t slot)
     return false;
 }
 
+/* Each account but 0 has a parent with a lower number. */
+bool are_lower(const uint16_t *parents, size_t count)
+{
+    for (size_t account = 1; account < count; account++)
+        if (parents[account] >= account)
+            return false;
+    return true;
+}
+
 bool keeps_disk_rules(const struct keeper *k)
 {
     const struct disk *d = &k->disk;
@@ -67,7 +77,7 @@ bool keeps_disk_rules(const struct keeper *k)
                 return false;
         }
     }
-    return true;
+    return are_lower(d->parents.at, d->parents.len);
 }
 
 /* What the passes hand on to each other. */
@@ -144,7 +154,7 @@ static bool pending(const struct memory *m, uint16_t entry, size_t slot, uint8_t
     return m->owners.at[entry - 1] == slot && state >= RELEASED && state <= last;
 }
 
-static bool active_page_ok(const struct keeper *k, size_t slot, size_t page, struct marks *imaged, struct tally *t)
+static bool active_page_ok(const struct keeper *k, size_t slot, size_t page, struct marks *imaged, struct tally *t, uint32_t *used)
 {
     const struct memory *m = &k->memory;
     uint16_t entry = k->disk.maps.at[page], image = m->images.at[page], address = m->addresses.at[page];
@@ -157,11 +167,11 @@ static bool active_page_ok(const struct keeper *k, size_t slot, size_t page, str
             return false;
     }
     bool live = address != 0 && m->states.at[address - 1] == LIVE;
-    t->used[k->disk.accounts.at[slot]] += live || t->framed[page] == 2;
+    *used += live || t->framed[page] == 2;
     return true;
 }
 
-static bool inactive_page_ok(const struct keeper *k, size_t slot, size_t page, struct tally *t)
+static bool inactive_page_ok(const struct keeper *k, size_t slot, size_t page, struct tally *t, uint32_t *used)
 {
     const struct memory *m = &k->memory;
     uint16_t entry = k->disk.maps.at[page];
@@ -170,7 +180,7 @@ static bool inactive_page_ok(const struct keeper *k, size_t slot, size_t page, s
     if (entry == 0)
         return true;
     t->filed++;
-    t->used[k->disk.accounts.at[slot]]++;
+    ++*used;
     return m->states.at[entry - 1] == FILED && m->owners.at[entry - 1] == slot;
 }
 
@@ -193,10 +203,11 @@ static bool slots_ok(const struct keeper *k, struct tally *t)
         uint8_t active = k->memory.active.at[slot], updating = k->memory.updating.at[slot];
         if (active > 1 || updating > active || (active && k->disk.numbers.at[slot] == 0))
             return false;
+        uint32_t *used = &t->used[payer_of(k, slot)];
         for (size_t end = page + k->sizes.pages; page < end; page++) {
             if (!address_ok(k, slot, k->memory.addresses.at[page], &held, t))
                 return false;
-            if (!(active ? active_page_ok(k, slot, page, &imaged, t) : inactive_page_ok(k, slot, page, t)))
+            if (!(active ? active_page_ok(k, slot, page, &imaged, t, used) : inactive_page_ok(k, slot, page, t, used)))
                 return false;
         }
     }

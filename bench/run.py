@@ -19,10 +19,12 @@ BENCH = ROOT / "target" / "cargo" / "bench-run" / "bench"
 SEARCH = OUT / "search"
 ALONE = OUT / "alone"
 SEARCH_ALONE = OUT / "search_alone"
-PORT = ["keeper", "rules", "questions", "events"]
+PORT = ["keeper", "accounts", "rules", "questions", "events"]
 # what the C port's files share; in the port with the old search each name is another
 CALLS = ["keeper_format", "keeper_restart", "keeper_apply", "keeper_apply_all", "keeper_mend", "keeper_page_look"]
-INSIDE = ["fits_disk", "fits_memory", "keeps_disk_rules", "keeps_memory_rules", "first_refusal", "treatment", "carry_out"]
+INSIDE = [
+    "fits_disk", "fits_memory", "keeps_disk_rules", "keeps_memory_rules", "first_refusal", "treatment", "carry_out", "refuses_move", "move_pages", "set_limit", "are_lower",
+]
 BUILD = "cargo build --quiet --offline --profile bench-run --manifest-path tests/reference/Cargo.toml --target-dir target/cargo --bin bench"
 # callgrind counts a repeated string instruction once a step: in the counting run the C library is to use none
 NO_REPEATS = {"GLIBC_TUNABLES": "glibc.cpu.hwcaps=-ERMS,-FSRM"}

@@ -178,10 +178,18 @@ static int recognise(FileDisk *disk, const HeaderBlock *found)
     return FILEDISK_GOOD;
 }
 
+/* Whether the device reaches to its tables' end: a file that was cut short is not lengthened by a store, nor read as zeros. */
+static int reaches(FileDisk *disk, FileBlocks blocks, uint64_t end)
+{
+    unsigned char last;
+    if (blocks.read(blocks.self, end - 1, &last, 1) != 0)
+        return refused(disk, FILEDISK_DEVICE, "the device failed: it is shorter than its tables");
+    return FILEDISK_GOOD;
+}
+
 int filedisk_sizes(FileDisk *disk, FileBlocks blocks, KeeperSizes *sizes)
 {
     HeaderBlock found;
-    unsigned char last;
     memset(disk, 0, sizeof *disk);
     if (blocks.read(blocks.self, 0, found.bytes, FILEDISK_BLOCK) != 0)
         return refused(disk, FILEDISK_DEVICE, "the device failed: the header block cannot be read");
@@ -191,10 +199,8 @@ int filedisk_sizes(FileDisk *disk, FileBlocks blocks, KeeperSizes *sizes)
     uint64_t end = FILEDISK_BLOCK + FILEDISK_JOURNAL;
     for (size_t number = 0; number < KEEPER_DISK_COUNT; number++)
         end += whole_blocks((uint64_t)found.header.width[number] * found.header.count[number]);
-    if (blocks.read(blocks.self, end - 1, &last, 1) != 0)
-        return refused(disk, FILEDISK_DEVICE, "the device failed: it is shorter than its tables");
     *sizes = keeper_sizes_of(found.header.sizes);
-    return FILEDISK_GOOD;
+    return reaches(disk, blocks, end);
 }
 
 /* Whether this keeper may use the disk with that header. */
@@ -316,16 +322,28 @@ static int zeros(FileDisk *disk, uint64_t from, uint64_t to)
     return disk->blocks.sync(disk->blocks.self);
 }
 
-int filedisk_format(FileDisk *disk, FileBlocks blocks, Keeper *keeper)
+/* The parents are all that a format leaves that is not 0. */
+static int put_parents(FileDisk *disk, const Keeper *keeper)
+{
+    const KeeperTable parents = keeper_table(keeper, KEEPER_TABLE_PARENTS);
+    if (disk->blocks.write(disk->blocks.self, disk->table_at[KEEPER_TABLE_PARENTS], parents.at, parents.width * parents.count) != 0)
+        return -1;
+    return disk->blocks.sync(disk->blocks.self);
+}
+
+int filedisk_format(FileDisk *disk, FileBlocks blocks, Keeper *keeper, const uint16_t *wanted)
 {
     HeaderBlock block;
     plan(disk, blocks, keeper, &block);
-    /* the old header goes first, so that no cut leaves it before half a disk of zeros; the new one comes last */
-    if (zeros(disk, 0, FILEDISK_BLOCK) != 0 || zeros(disk, FILEDISK_BLOCK, disk->end) != 0
+    const uint32_t refusal = keeper_easy_format(keeper, wanted).refusal;
+    if (refusal == KEEPER_NO_RANGE)
+        return refused(disk, FILEDISK_PARENTS, "an account's parent is to be a lower account");
+    if (refusal != KEEPER_DONE || keeper_easy_restart(keeper).refusal != KEEPER_DONE)
+        return refused(disk, FILEDISK_RESTART, "the keeper refused the format");
+    /* the old header goes first, so that no cut leaves it before half a new disk; the new one comes last */
+    if (zeros(disk, 0, FILEDISK_BLOCK) != 0 || zeros(disk, FILEDISK_BLOCK, disk->end) != 0 || put_parents(disk, keeper) != 0
         || blocks.write(blocks.self, 0, block.bytes, FILEDISK_BLOCK) != 0 || blocks.sync(blocks.self) != 0)
         return refused(disk, FILEDISK_DEVICE, "the device failed in the format: format again");
-    if (keeper_easy_format(keeper).refusal != KEEPER_DONE || keeper_easy_restart(keeper).refusal != KEEPER_DONE)
-        return refused(disk, FILEDISK_RESTART, "the keeper refused the format");
     return FILEDISK_GOOD;
 }
 
@@ -347,6 +365,8 @@ int filedisk_open(FileDisk *disk, FileBlocks blocks, Keeper *keeper)
     if (blocks.read(blocks.self, 0, found.bytes, FILEDISK_BLOCK) != 0)
         return refused(disk, FILEDISK_DEVICE, "the device failed: the header block cannot be read");
     int answer = compare(disk, keeper, &wanted, &found);
+    if (answer == FILEDISK_GOOD)
+        answer = reaches(disk, blocks, disk->end);
     if (answer != FILEDISK_GOOD)
         return answer;
     if (blocks.read(blocks.self, FILEDISK_BLOCK, entry.bytes, FILEDISK_JOURNAL) != 0)
@@ -394,6 +414,17 @@ KeeperAnswer filedisk_limit(FileDisk *disk, Keeper *keeper, uint32_t account, ui
     KeeperAnswer answer = keeper_limit(keeper, account, pages);
     if (answer.refusal == KEEPER_DONE) {
         const FilePiece piece = {KEEPER_TABLE_LIMITS, account, 1, keeper->limits + account};
+        filedisk_store(disk, &piece, 1);
+    }
+    return answer;
+}
+
+/* The limits table is one store: both limits land, or neither. */
+KeeperAnswer filedisk_move(FileDisk *disk, Keeper *keeper, uint32_t giver, uint32_t taker, uint32_t pages)
+{
+    KeeperAnswer answer = keeper_move(keeper, giver, taker, pages);
+    if (answer.refusal == KEEPER_DONE) {
+        const FilePiece piece = {KEEPER_TABLE_LIMITS, 0, keeper->sizes.accounts, keeper->limits};
         filedisk_store(disk, &piece, 1);
     }
     return answer;

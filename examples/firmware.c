@@ -129,7 +129,8 @@ static void land_map(uint32_t slot)
 
 static void set_up(void)
 {
-    done("format", keeper_format(sizes, KEEPER_LEND_DISK(disk)));
+    static const uint16_t parents[Q] = {0}; /* every account under account 0 */
+    done("format", keeper_format(sizes, KEEPER_LEND(parents), KEEPER_LEND_DISK(disk)));
     disk.header = sizes; /* after the tables: a disk that was half formatted has no header */
     restart();
     for (uint32_t mill = 0; mill < S; mill++) {

@@ -61,7 +61,7 @@ int main(void)
 {
     const size_t bytes = keeper_workspace(sizes);
     void *block = malloc(bytes);
-    if (keeper_place(&keeper, sizes, block, bytes) != KEEPER_PLACED || keeper_easy_format(&keeper).refusal != KEEPER_DONE
+    if (keeper_place(&keeper, sizes, block, bytes) != KEEPER_PLACED || keeper_easy_format(&keeper, NULL).refusal != KEEPER_DONE
         || keeper_easy_restart(&keeper).refusal != KEEPER_DONE || keeper_limit(&keeper, 0, 8).refusal != KEEPER_DONE)
         return 1;
     for (uint32_t slot = 0; slot < MILLS; slot++)

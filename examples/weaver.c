@@ -24,9 +24,9 @@ static int power_on(const char *path)
     const int is_new = filedisk_file(&blocks, path, 0) != 0;
     if (is_new && filedisk_file(&blocks, path, 1) != 0)
         return failed(path, FILEDISK_DIED);
-    int answer = is_new ? filedisk_format(&disk, blocks, &keeper) : filedisk_open(&disk, blocks, &keeper);
+    int answer = is_new ? filedisk_format(&disk, blocks, &keeper, NULL) : filedisk_open(&disk, blocks, &keeper);
     if (answer == FILEDISK_NO_DISK)
-        answer = filedisk_format(&disk, blocks, &keeper);
+        answer = filedisk_format(&disk, blocks, &keeper, NULL);
     if (answer != FILEDISK_GOOD)
         return failed(path, FILEDISK_DIED);
     for (uint32_t slot = 0; slot < sizes.slots; slot++) {

@@ -110,7 +110,8 @@ enum {
     KEEPER_PAGE_DONE = 13,  /* frame, good: 1 the transfer ended well, 0 it failed */
     KEEPER_MAP_DONE = 14,   /* slot, good: 1 the map image was stored, 0 it was not */
     KEEPER_LIMIT = 15,      /* account, pages */
-    /* 16 is the event program's cut, 17 is reserved: both are answered 3 */
+    /* 16 is the event program's cut, which is no event here: it is answered 3 */
+    KEEPER_MOVE = 17,       /* giver, taker, pages: so many pages of limit from an account to its parent, or back */
     KEEPER_JOIN = 18,       /* slot, page: the page waits in line */
     KEEPER_TURN = 19        /* result: 1 if the first page of the line is served, the number that sends it away, else 0 */
 };
@@ -135,25 +136,27 @@ enum {
     KEEPER_PAGE_IN = 15,        /* fault: the page is in a frame */
     KEEPER_WIRED = 16,          /* a page concerned is wired */
     KEEPER_NOT_WIRED = 17,      /* unwire: the page is not wired */
-    KEEPER_AT_LIMIT = 18,       /* write to a page that is not charged: the account is at its limit or above */
+    KEEPER_AT_LIMIT = 18,       /* write to a page that is not charged: the account that pays is at its limit or above */
     KEEPER_NO_RECORD = 19,      /* fault: no record is free */
     KEEPER_NO_FRAME = 20,       /* fault: no frame is free */
     KEEPER_NOTHING_TO_CLAIM = 21, /* claim, turn: the removal list is empty */
     KEEPER_NO_TRANSFER = 22,    /* done: no such transfer or update is under way */
     /* 23 is reserved: no call answers it */
     KEEPER_LIST_SHORT = 24,     /* mend: the list has fewer than S * (N + 2) places */
-    /* 25 and 26 are reserved: no call answers them */
+    KEEPER_NO_MOVE = 25,        /* move: not parent and child, no pages, more than the giver has, or the taker would pass 65,535 */
+    KEEPER_OVER_LIMIT = 26,     /* move: an account whose limit or count it changes would have more used than its limit */
     KEEPER_LINE_FULL = 27       /* join: 32 pages are waiting */
 };
 
 /* tables and calls: made by tools/tables.py from tools/tables.txt */
 /* The lent tables as members of a struct, where the sizes are constants: each with exactly its length. */
-#define KEEPER_DISK_TABLES(W, R, F, S, N, Q)                                             \
-    uint32_t records[(R) * (W)]; /* the records' words */                                \
-    uint32_t numbers[S];         /* the slot's unique number, 0 for an empty slot */     \
-    uint16_t accounts[S];        /* the slot's account */                                \
-    uint16_t maps[(S) * (N)];    /* file maps: 0 for a page of zeros, else record + 1 */ \
-    uint16_t limits[Q];          /* the account's limit, 0 to 65,535 pages */
+#define KEEPER_DISK_TABLES(W, R, F, S, N, Q)                                                  \
+    uint32_t records[(R) * (W)]; /* the records' words */                                     \
+    uint32_t numbers[S];         /* the slot's unique number, 0 for an empty slot */          \
+    uint16_t accounts[S];        /* the slot's account */                                     \
+    uint16_t maps[(S) * (N)];    /* file maps: 0 for a page of zeros, else record + 1 */      \
+    uint16_t limits[Q];          /* the account's limit, 0 to 65,535 pages */                 \
+    uint16_t parents[Q];         /* the account's parent, a lower account; 0 for account 0 */
 #define KEEPER_MEMORY_TABLES(W, R, F, S, N, Q)                                                                                                                  \
     KeeperFrame frames[F];              /* the frames: page, switches, transfer */                                                                              \
     uint32_t frame_words[(F) * (W)];    /* the frames' words */                                                                                                 \
@@ -177,7 +180,8 @@ enum {
     KEEPER_LEND((disk).numbers),  \
     KEEPER_LEND((disk).accounts), \
     KEEPER_LEND((disk).maps),     \
-    KEEPER_LEND((disk).limits)
+    KEEPER_LEND((disk).limits),   \
+    KEEPER_LEND((disk).parents)
 #define KEEPER_LEND_MEMORY(memory)      \
     KEEPER_LEND((memory).frame_words),  \
     KEEPER_LEND((memory).free_queue),   \
@@ -191,18 +195,21 @@ enum {
     KEEPER_LEND((memory).images),       \
     KEEPER_LEND((memory).line),         \
     KEEPER_LEND((memory).used)
-#define KEEPER_LEND_CHANGES(changes) &(changes)->slot, sizeof(changes) / sizeof(uint32_t) /* an array of KeeperChange */
+#define KEEPER_LEND_CHANGES(changes) (uint32_t *)(changes), sizeof(changes) / (sizeof(uint32_t)) /* an array of KeeperChange */
 
 /* The calls; beside each table the count that is asked for. */
 
-/* Zeroes the disk part, once for a new disk. Lent: the disk part. Answers 0 or 1. */
+/* Zeroes the disk part, once for a new disk, and stores the wanted parents, one an account: a lower account each. Account 0's
+ * is not looked at, and stored as 0. Lent: the disk part. Answers 0, 1, or 3 for a parent that is not lower. */
 KeeperAnswer keeper_format(
     KeeperSizes sizes,
-    uint32_t *records, size_t records_count,   /* R * W */
-    uint32_t *numbers, size_t numbers_count,   /* S */
-    uint16_t *accounts, size_t accounts_count, /* S */
-    uint16_t *maps, size_t maps_count,         /* S * N */
-    uint16_t *limits, size_t limits_count      /* Q */
+    const uint16_t *wanted, size_t wanted_count, /* Q */
+    uint32_t *records, size_t records_count,     /* R * W */
+    uint32_t *numbers, size_t numbers_count,     /* S */
+    uint16_t *accounts, size_t accounts_count,   /* S */
+    uint16_t *maps, size_t maps_count,           /* S * N */
+    uint16_t *limits, size_t limits_count,       /* Q */
+    uint16_t *parents, size_t parents_count      /* Q */
 );
 
 /* Sets up the memory part from the disk part alone: the first call after a format or a cut, made again while it is
@@ -216,6 +223,7 @@ KeeperAnswer keeper_restart(
     const uint16_t *accounts, size_t accounts_count,   /* S */
     const uint16_t *maps, size_t maps_count,           /* S * N */
     const uint16_t *limits, size_t limits_count,       /* Q */
+    const uint16_t *parents, size_t parents_count,     /* Q */
     uint32_t *frame_words, size_t frame_words_count,   /* F * W */
     uint16_t *free_queue, size_t free_queue_count,     /* F */
     uint16_t *removal_list, size_t removal_list_count, /* F */
@@ -241,6 +249,7 @@ KeeperAnswer keeper_apply(
     uint16_t *accounts, size_t accounts_count,         /* S */
     uint16_t *maps, size_t maps_count,                 /* S * N */
     uint16_t *limits, size_t limits_count,             /* Q */
+    const uint16_t *parents, size_t parents_count,     /* Q */
     uint32_t *frame_words, size_t frame_words_count,   /* F * W */
     uint16_t *free_queue, size_t free_queue_count,     /* F */
     uint16_t *removal_list, size_t removal_list_count, /* F */
@@ -270,6 +279,7 @@ KeeperAnswer keeper_apply_all(
     uint16_t *accounts, size_t accounts_count,         /* S */
     uint16_t *maps, size_t maps_count,                 /* S * N */
     uint16_t *limits, size_t limits_count,             /* Q */
+    const uint16_t *parents, size_t parents_count,     /* Q */
     uint32_t *frame_words, size_t frame_words_count,   /* F * W */
     uint16_t *free_queue, size_t free_queue_count,     /* F */
     uint16_t *removal_list, size_t removal_list_count, /* F */
@@ -297,6 +307,7 @@ KeeperPart keeper_page_look(
     const uint16_t *accounts, size_t accounts_count,         /* S */
     const uint16_t *maps, size_t maps_count,                 /* S * N */
     const uint16_t *limits, size_t limits_count,             /* Q */
+    const uint16_t *parents, size_t parents_count,           /* Q */
     const uint32_t *frame_words, size_t frame_words_count,   /* F * W */
     const uint16_t *free_queue, size_t free_queue_count,     /* F */
     const uint16_t *removal_list, size_t removal_list_count, /* F */
@@ -312,7 +323,8 @@ KeeperPart keeper_page_look(
 );
 
 /* Mends a disk part that restart answers 2, before restart is called again; docs/USING.md says what is lost. Lent: the disk
- * part, of which records and limits are only read, and a list for the changes, four numbers a place (KEEPER_LEND_CHANGES).
+ * part, of which records, limits and parents are only read, and a list for the changes, four numbers a place
+ * (KEEPER_LEND_CHANGES). A parent that is not lower stays, and restart answers 2 still.
  * Answers 0, 1 or 24. The result is how many changes are listed; the list's later places are untouched. */
 KeeperAnswer keeper_mend(
     KeeperSizes sizes,
@@ -321,6 +333,7 @@ KeeperAnswer keeper_mend(
     uint16_t *accounts, size_t accounts_count,     /* S */
     uint16_t *maps, size_t maps_count,             /* S * N */
     const uint16_t *limits, size_t limits_count,   /* Q */
+    const uint16_t *parents, size_t parents_count, /* Q */
     uint32_t *changes, size_t changes_count        /* 4 * S * (N + 2), or more */
 );
 /* end of tables and calls */

@@ -3,7 +3,8 @@
  *   Keeper keeper;
  *   size_t bytes = keeper_workspace(sizes);                  what all tables take, 0 for sizes out of limits
  *   keeper_place(&keeper, sizes, block, bytes);              lays the tables into your block
- *   keeper_easy_format(&keeper); keeper_easy_restart(&keeper);
+ *   keeper_easy_format(&keeper, NULL);                       every account under account 0; or an array of Q parents
+ *   keeper_easy_restart(&keeper);
  *   keeper_limit(&keeper, 0, 8); keeper_create(&keeper, 0, 0, 101); keeper_activate(&keeper, 0);
  *
  * One function for each event, named as its kind: keeper_fault, keeper_write, .. And four that ask the tables, so that a driver
@@ -44,6 +45,13 @@ static inline void *keeper_take(unsigned char *block, size_t *at, size_t width, 
     return place;
 }
 
+/* The parents that a format is to store: none wanted is account 0 for every account. */
+static inline const uint16_t *keeper_wanted(const uint16_t *wanted)
+{
+    static const uint16_t zeros[KEEPER_MOST_ACCOUNTS] = {0};
+    return wanted ? wanted : zeros;
+}
+
 /* tables and calls: made by tools/tables.py from tools/tables.txt */
 /* The tables by number, those of the disk part first, and how many there are. */
 enum {
@@ -52,22 +60,23 @@ enum {
     KEEPER_TABLE_ACCOUNTS = 2,
     KEEPER_TABLE_MAPS = 3,
     KEEPER_TABLE_LIMITS = 4,
-    KEEPER_TABLE_FRAMES = 5,
-    KEEPER_TABLE_FRAME_WORDS = 6,
-    KEEPER_TABLE_FREE_QUEUE = 7,
-    KEEPER_TABLE_REMOVAL_LIST = 8,
-    KEEPER_TABLE_ADDRESSES = 9,
-    KEEPER_TABLE_STATES = 10,
-    KEEPER_TABLE_OWNERS = 11,
-    KEEPER_TABLE_FREE_MAP = 12,
-    KEEPER_TABLE_ACTIVE = 13,
-    KEEPER_TABLE_UPDATING = 14,
-    KEEPER_TABLE_IMAGES = 15,
-    KEEPER_TABLE_LINE = 16,
-    KEEPER_TABLE_USED = 17,
-    KEEPER_TABLE_POOL = 18,
-    KEEPER_DISK_COUNT = 5,
-    KEEPER_TABLE_COUNT = 19
+    KEEPER_TABLE_PARENTS = 5,
+    KEEPER_TABLE_FRAMES = 6,
+    KEEPER_TABLE_FRAME_WORDS = 7,
+    KEEPER_TABLE_FREE_QUEUE = 8,
+    KEEPER_TABLE_REMOVAL_LIST = 9,
+    KEEPER_TABLE_ADDRESSES = 10,
+    KEEPER_TABLE_STATES = 11,
+    KEEPER_TABLE_OWNERS = 12,
+    KEEPER_TABLE_FREE_MAP = 13,
+    KEEPER_TABLE_ACTIVE = 14,
+    KEEPER_TABLE_UPDATING = 15,
+    KEEPER_TABLE_IMAGES = 16,
+    KEEPER_TABLE_LINE = 17,
+    KEEPER_TABLE_USED = 18,
+    KEEPER_TABLE_POOL = 19,
+    KEEPER_DISK_COUNT = 6,
+    KEEPER_TABLE_COUNT = 20
 };
 
 /* The sizes and all tables: a name for everything that is lent. */
@@ -78,6 +87,7 @@ typedef struct {
     uint16_t *accounts;     /* S: the slot's account */
     uint16_t *maps;         /* S * N: file maps: 0 for a page of zeros, else record + 1 */
     uint16_t *limits;       /* Q: the account's limit, 0 to 65,535 pages */
+    uint16_t *parents;      /* Q: the account's parent, a lower account; 0 for account 0 */
     KeeperFrame *frames;    /* F: the frames: page, switches, transfer */
     uint32_t *frame_words;  /* F * W: the frames' words */
     uint16_t *free_queue;   /* F: the free frames, a queue: frame + 1, packed at the front, then 0 */
@@ -140,6 +150,7 @@ static inline size_t keeper_lay(Keeper *keeper, unsigned char *block)
     keeper->accounts = (uint16_t *)keeper_take(block, &at, sizeof *keeper->accounts, sizes.slots);
     keeper->maps = (uint16_t *)keeper_take(block, &at, sizeof *keeper->maps, sizes.slots * sizes.pages);
     keeper->limits = (uint16_t *)keeper_take(block, &at, sizeof *keeper->limits, sizes.accounts);
+    keeper->parents = (uint16_t *)keeper_take(block, &at, sizeof *keeper->parents, sizes.accounts);
     keeper->frames = (KeeperFrame *)keeper_take(block, &at, sizeof *keeper->frames, sizes.frames);
     keeper->frame_words = (uint32_t *)keeper_take(block, &at, sizeof *keeper->frame_words, sizes.frames * sizes.words);
     keeper->free_queue = (uint16_t *)keeper_take(block, &at, sizeof *keeper->free_queue, sizes.frames);
@@ -167,6 +178,7 @@ static inline KeeperTable keeper_table(const Keeper *keeper, size_t number)
     case KEEPER_TABLE_ACCOUNTS: return keeper_described("accounts", keeper->accounts, sizeof *keeper->accounts, sizes.slots);
     case KEEPER_TABLE_MAPS: return keeper_described("maps", keeper->maps, sizeof *keeper->maps, sizes.slots * sizes.pages);
     case KEEPER_TABLE_LIMITS: return keeper_described("limits", keeper->limits, sizeof *keeper->limits, sizes.accounts);
+    case KEEPER_TABLE_PARENTS: return keeper_described("parents", keeper->parents, sizeof *keeper->parents, sizes.accounts);
     case KEEPER_TABLE_FRAMES: return keeper_described("frames", keeper->frames, sizeof *keeper->frames, sizes.frames);
     case KEEPER_TABLE_FRAME_WORDS: return keeper_described("frame_words", keeper->frame_words, sizeof *keeper->frame_words, sizes.frames * sizes.words);
     case KEEPER_TABLE_FREE_QUEUE: return keeper_described("free_queue", keeper->free_queue, sizeof *keeper->free_queue, sizes.frames);
@@ -186,16 +198,18 @@ static inline KeeperTable keeper_table(const Keeper *keeper, size_t number)
 }
 
 /* The calls of keeper.h over the struct: easy_ stands in their names. */
-static inline KeeperAnswer keeper_easy_format(Keeper *keeper)
+static inline KeeperAnswer keeper_easy_format(Keeper *keeper, const uint16_t *wanted)
 {
     const KeeperSizes sizes = keeper->sizes;
     return keeper_format(
         sizes,
+        keeper_wanted(wanted), sizes.accounts,
         keeper->records, sizes.records * sizes.words,
         keeper->numbers, sizes.slots,
         keeper->accounts, sizes.slots,
         keeper->maps, sizes.slots * sizes.pages,
-        keeper->limits, sizes.accounts);
+        keeper->limits, sizes.accounts,
+        keeper->parents, sizes.accounts);
 }
 
 static inline KeeperAnswer keeper_easy_restart(Keeper *keeper)
@@ -210,6 +224,7 @@ static inline KeeperAnswer keeper_easy_restart(Keeper *keeper)
         keeper->accounts, sizes.slots,
         keeper->maps, sizes.slots * sizes.pages,
         keeper->limits, sizes.accounts,
+        keeper->parents, sizes.accounts,
         keeper->frame_words, sizes.frames * sizes.words,
         keeper->free_queue, sizes.frames,
         keeper->removal_list, sizes.frames,
@@ -237,6 +252,7 @@ static inline KeeperAnswer keeper_easy_apply(Keeper *keeper, KeeperRequest reque
         keeper->accounts, sizes.slots,
         keeper->maps, sizes.slots * sizes.pages,
         keeper->limits, sizes.accounts,
+        keeper->parents, sizes.accounts,
         keeper->frame_words, sizes.frames * sizes.words,
         keeper->free_queue, sizes.frames,
         keeper->removal_list, sizes.frames,
@@ -265,6 +281,7 @@ static inline KeeperAnswer keeper_easy_apply_all(Keeper *keeper, const KeeperReq
         keeper->accounts, sizes.slots,
         keeper->maps, sizes.slots * sizes.pages,
         keeper->limits, sizes.accounts,
+        keeper->parents, sizes.accounts,
         keeper->frame_words, sizes.frames * sizes.words,
         keeper->free_queue, sizes.frames,
         keeper->removal_list, sizes.frames,
@@ -293,6 +310,7 @@ static inline KeeperPart keeper_easy_page_look(const Keeper *keeper, size_t slot
         keeper->accounts, sizes.slots,
         keeper->maps, sizes.slots * sizes.pages,
         keeper->limits, sizes.accounts,
+        keeper->parents, sizes.accounts,
         keeper->frame_words, sizes.frames * sizes.words,
         keeper->free_queue, sizes.frames,
         keeper->removal_list, sizes.frames,
@@ -317,6 +335,7 @@ static inline KeeperAnswer keeper_easy_mend(Keeper *keeper, KeeperChange *change
         keeper->accounts, sizes.slots,
         keeper->maps, sizes.slots * sizes.pages,
         keeper->limits, sizes.accounts,
+        keeper->parents, sizes.accounts,
         (uint32_t *)changes, 4 * places);
 }
 
@@ -408,6 +427,11 @@ static inline KeeperAnswer keeper_limit(Keeper *keeper, uint32_t account, uint32
     return keeper_asked(keeper, KEEPER_LIMIT, account, pages, 0, 0);
 }
 
+static inline KeeperAnswer keeper_move(Keeper *keeper, uint32_t giver, uint32_t taker, uint32_t pages)
+{
+    return keeper_asked(keeper, KEEPER_MOVE, giver, taker, pages, 0);
+}
+
 static inline KeeperAnswer keeper_join(Keeper *keeper, uint32_t slot, uint32_t page)
 {
     return keeper_asked(keeper, KEEPER_JOIN, slot, page, 0, 0);
@@ -440,12 +464,14 @@ static inline const char *keeper_text(uint32_t refusal)
     case KEEPER_PAGE_IN: return "fault: the page is in a frame";
     case KEEPER_WIRED: return "a page concerned is wired";
     case KEEPER_NOT_WIRED: return "unwire: the page is not wired";
-    case KEEPER_AT_LIMIT: return "write to a page that is not charged: the account is at its limit or above";
+    case KEEPER_AT_LIMIT: return "write to a page that is not charged: the account that pays is at its limit or above";
     case KEEPER_NO_RECORD: return "fault: no record is free";
     case KEEPER_NO_FRAME: return "fault: no frame is free";
     case KEEPER_NOTHING_TO_CLAIM: return "claim, turn: the removal list is empty";
     case KEEPER_NO_TRANSFER: return "done: no such transfer or update is under way";
     case KEEPER_LIST_SHORT: return "mend: the list has fewer than S * (N + 2) places";
+    case KEEPER_NO_MOVE: return "move: not parent and child, no pages, more than the giver has, or the taker would pass 65,535";
+    case KEEPER_OVER_LIMIT: return "move: an account whose limit or count it changes would have more used than its limit";
     case KEEPER_LINE_FULL: return "join: 32 pages are waiting";
     default: return "no refusal of this keeper";
     }

@@ -4,7 +4,10 @@
 #include <stdlib.h>
 #include "keeper_easy.h"
 
-enum { W = 4, R = 9, F = 4, S = 3, N = 5, Q = 2 };
+enum { W = 4, R = 9, F = 4, S = 3, N = 5, Q = 3 };
+
+/* account 2 is under account 1; account 0's parent is not looked at */
+static const uint16_t parents[Q] = {7, 0, 1};
 
 static struct {
     KEEPER_DISK_TABLES(W, R, F, S, N, Q)
@@ -49,7 +52,7 @@ static void set_up(KeeperSizes sizes)
     void *block = malloc(keeper_workspace(sizes));
     memset(block, 0xA5, keeper_workspace(sizes));
     CHECK(keeper_place(&keeper, sizes, block, keeper_workspace(sizes)) == KEEPER_PLACED);
-    CHECK(keeper_easy_format(&keeper).refusal == KEEPER_DONE);
+    CHECK(keeper_easy_format(&keeper, parents).refusal == KEEPER_DONE);
     CHECK(keeper_easy_restart(&keeper).refusal == KEEPER_DONE);
 }
 
@@ -118,6 +121,7 @@ static KeeperAnswer by_function(KeeperRequest r)
     case KEEPER_PAGE_DONE: return keeper_page_done(&keeper, r.first, r.second);
     case KEEPER_MAP_DONE: return keeper_map_done(&keeper, r.first, r.second);
     case KEEPER_LIMIT: return keeper_limit(&keeper, r.first, r.second);
+    case KEEPER_MOVE: return keeper_move(&keeper, r.first, r.second, r.third);
     case KEEPER_JOIN: return keeper_join(&keeper, r.first, r.second);
     case KEEPER_TURN: return keeper_turn(&keeper);
     default: return keeper_easy_apply(&keeper, r);
@@ -127,9 +131,9 @@ static KeeperAnswer by_function(KeeperRequest r)
 static KeeperRequest any_request(void)
 {
     KeeperRequest r;
-    r.kind = 1 + random_below(19);
-    r.first = random_below(r.kind == KEEPER_PAGE_DONE ? F + 1 : r.kind == KEEPER_LIMIT ? Q + 1 : S);
-    r.second = random_below(r.kind == KEEPER_PAGE_DONE || r.kind == KEEPER_MAP_DONE || r.kind == KEEPER_CREATE ? 2 : N + 1);
+    r.kind = 1 + random_below(KEEPER_TURN);
+    r.first = random_below(r.kind == KEEPER_PAGE_DONE ? F + 1 : r.kind == KEEPER_LIMIT || r.kind == KEEPER_MOVE ? Q + 1 : S);
+    r.second = random_below(r.kind == KEEPER_PAGE_DONE || r.kind == KEEPER_MAP_DONE ? 2 : r.kind == KEEPER_CREATE || r.kind == KEEPER_MOVE ? Q : N + 1);
     r.third = r.kind == KEEPER_CREATE ? 1 + random_below(40) : random_below(W);
     r.fourth = random_below(3);
     return r;
@@ -138,7 +142,7 @@ static KeeperRequest any_request(void)
 #define SAME(part, name) (memcmp(keeper.name, part.name, sizeof part.name) == 0)
 static int same_tables(void)
 {
-    return SAME(disk, records) && SAME(disk, numbers) && SAME(disk, accounts) && SAME(disk, maps) && SAME(disk, limits)
+    return SAME(disk, records) && SAME(disk, numbers) && SAME(disk, accounts) && SAME(disk, maps) && SAME(disk, limits) && SAME(disk, parents)
         && SAME(memory, frames) && SAME(memory, frame_words) && SAME(memory, free_queue) && SAME(memory, removal_list)
         && SAME(memory, addresses) && SAME(memory, states) && SAME(memory, owners) && SAME(memory, free_map)
         && SAME(memory, active) && SAME(memory, updating) && SAME(memory, images) && SAME(memory, line) && SAME(memory, used)
@@ -148,15 +152,16 @@ static int same_tables(void)
 static void test_events(void)
 {
     KeeperSizes sizes = sizes_of(W, R, F, S, N, Q);
-    unsigned done[20] = {0}, different = 0;
+    unsigned done[KEEPER_TURN + 1] = {0}, refused[KEEPER_LINE_FULL + 1] = {0}, different = 0;
     set_up(sizes);
-    CHECK(keeper_format(sizes, KEEPER_LEND_DISK(disk)).refusal == KEEPER_DONE);
+    CHECK(keeper_format(sizes, KEEPER_LEND(parents), KEEPER_LEND_DISK(disk)).refusal == KEEPER_DONE);
     CHECK(keeper_restart(sizes, EVERYTHING).refusal == KEEPER_DONE);
     for (unsigned call = 0; call < 60000; call++) {
         KeeperRequest r = any_request();
         KeeperAnswer easy = by_function(r), plain = keeper_apply(sizes, r, EVERYTHING);
         different += easy.refusal != plain.refusal || easy.result != plain.result || !same_tables();
         done[r.kind] += easy.refusal == KEEPER_DONE;
+        refused[easy.refusal]++;
         KeeperPart part = keeper_easy_page_look(&keeper, r.first, r.second);
         KeeperPart beside = keeper_page_look(sizes, r.first, r.second, KEEPER_LEND(memory.frames), memory.pool, KEEPER_LEND_DISK(disk), KEEPER_LEND_MEMORY(memory));
         different += part.refusal != beside.refusal || part.start != beside.start || part.count != beside.count;
@@ -164,8 +169,59 @@ static void test_events(void)
         different += part.refusal == KEEPER_DONE ? words != keeper.frame_words + part.start : words != NULL;
     }
     CHECK(different == 0);
-    for (unsigned kind = 1; kind <= 19; kind++)
-        CHECK(kind == 16 || kind == 17 ? done[kind] == 0 : done[kind] > 20);
+    for (unsigned kind = 1; kind <= KEEPER_TURN; kind++)
+        CHECK(kind == 16 ? done[kind] == 0 : done[kind] > 20);
+    CHECK(refused[KEEPER_NO_MOVE] > 20 && refused[KEEPER_OVER_LIMIT] > 5);
+}
+
+/* ── the parents of a format ── */
+static void test_format(void)
+{
+    static const uint16_t equal[Q] = {0, 1, 0}, higher[Q] = {0, 0, 3};
+    set_up(sizes_of(W, R, F, S, N, Q));
+    CHECK(keeper.parents[0] == 0 && keeper.parents[1] == 0 && keeper.parents[2] == 1);
+    CHECK(keeper_easy_format(&keeper, equal).refusal == KEEPER_NO_RANGE && keeper_easy_format(&keeper, higher).refusal == KEEPER_NO_RANGE);
+    CHECK(keeper.parents[1] == 0 && keeper.parents[2] == 1);
+    CHECK(keeper_easy_format(&keeper, NULL).refusal == KEEPER_DONE && keeper.parents[2] == 0);
+}
+
+/* ── mend beside keeper.h ── */
+enum { PLACES = S * (N + 2) };
+
+/* Slot 2 doubles slot 0's number, slot 1 is empty with an entry, slot 0 names no record and has no such account. */
+static void hurt(void)
+{
+    keeper.numbers[0] = disk.numbers[0] = keeper.numbers[2] = disk.numbers[2] = 5;
+    keeper.accounts[0] = disk.accounts[0] = Q;
+    keeper.maps[1] = disk.maps[1] = R + 1;
+    keeper.maps[N] = disk.maps[N] = 3;
+}
+
+static void test_mend(void)
+{
+    static const KeeperChange wanted[4] = {{2, N, 5, KEEPER_SAME_NUMBER}, {1, 0, 3, KEEPER_EMPTY_SLOT}, {0, N, Q, KEEPER_WRONG_ACCOUNT}, {0, 1, R + 1, KEEPER_WRONG_ENTRY}};
+    KeeperSizes sizes = sizes_of(W, R, F, S, N, Q);
+    KeeperChange easy[PLACES], plain[PLACES];
+    set_up(sizes);
+    CHECK(keeper_format(sizes, KEEPER_LEND(parents), KEEPER_LEND_DISK(disk)).refusal == KEEPER_DONE);
+    CHECK(keeper_restart(sizes, EVERYTHING).refusal == KEEPER_DONE);
+    hurt();
+    memset(easy, 0x5A, sizeof easy);
+    memset(plain, 0x5A, sizeof plain);
+    CHECK(keeper_easy_restart(&keeper).refusal == KEEPER_NO_RULE);
+    KeeperAnswer answer = keeper_easy_mend(&keeper, easy, PLACES - 1);
+    CHECK(answer.refusal == KEEPER_LIST_SHORT && answer.result == 0 && memcmp(easy, plain, sizeof easy) == 0 && same_tables());
+    answer = keeper_easy_mend(&keeper, easy, PLACES);
+    CHECK(answer.refusal == KEEPER_DONE && answer.result == 4 && memcmp(easy, wanted, sizeof wanted) == 0);
+    CHECK(memcmp(easy + 4, plain + 4, sizeof easy - sizeof wanted) == 0); /* later places are untouched */
+    CHECK(keeper_mend(sizes, KEEPER_LEND_DISK(disk), KEEPER_LEND_CHANGES(plain)).result == 4);
+    CHECK(memcmp(easy, plain, sizeof easy) == 0 && same_tables());
+    CHECK(keeper_easy_mend(&keeper, easy, PLACES).result == 0 && keeper_easy_restart(&keeper).refusal == KEEPER_DONE);
+    for (uint32_t reason = KEEPER_SAME_NUMBER; reason <= KEEPER_SHARED_RECORD; reason++)
+        CHECK(strcmp(keeper_reason(reason), keeper_reason(0)) != 0);
+    keeper.parents[2] = 2; /* mending changes no parent */
+    CHECK(keeper_easy_mend(&keeper, easy, PLACES).result == 0 && keeper_easy_restart(&keeper).refusal == KEEPER_NO_RULE);
+    CHECK(keeper.parents[2] == 2);
 }
 
 /* ── many requests in one call ── */
@@ -175,7 +231,7 @@ static void test_lists(void)
     KeeperSizes sizes = sizes_of(W, R, F, S, N, Q);
     unsigned different = 0, refused = 0, done = 0;
     set_up(sizes);
-    CHECK(keeper_format(sizes, KEEPER_LEND_DISK(disk)).refusal == KEEPER_DONE);
+    CHECK(keeper_format(sizes, KEEPER_LEND(parents), KEEPER_LEND_DISK(disk)).refusal == KEEPER_DONE);
     CHECK(keeper_restart(sizes, EVERYTHING).refusal == KEEPER_DONE);
     for (unsigned call = 0; call < 5000; call++) {
         KeeperRequest requests[MOST_LISTED];
@@ -266,7 +322,11 @@ static void test_line(void)
 static void test_text(void)
 {
     CHECK(strcmp(keeper_text(KEEPER_LINE_FULL), "join: 32 pages are waiting") == 0);
-    for (uint32_t a = 0; a <= KEEPER_NO_TRANSFER; a++) {
+    for (uint32_t a = 0; a <= KEEPER_LINE_FULL; a++) {
+        if (a == 23) { /* no call answers it */
+            CHECK(strcmp(keeper_text(a), keeper_text(1000)) == 0);
+            continue;
+        }
         CHECK(keeper_text(a)[0] != 0 && strcmp(keeper_text(a), keeper_text(1000)) != 0);
         for (uint32_t b = 0; b < a; b++)
             if (strcmp(keeper_text(a), keeper_text(b)) == 0)
@@ -473,6 +533,8 @@ int main(void)
 {
     test_place();
     test_events();
+    test_format();
+    test_mend();
     test_lists();
     test_transfers();
     test_line();

@@ -16,8 +16,9 @@ static void check(int holds, const char *what, int line)
         printf("tests/filedisk.c:%d: %s\n", line, what);
 }
 
-static const KeeperSizes sizes = {.words = 16, .records = 8, .frames = 3, .slots = 2, .pages = 4, .accounts = 2};
-static const KeeperSizes alike = {.words = 8, .records = 16, .frames = 3, .slots = 2, .pages = 4, .accounts = 2};
+static const KeeperSizes sizes = {.words = 16, .records = 8, .frames = 3, .slots = 2, .pages = 4, .accounts = 3};
+static const KeeperSizes alike = {.words = 8, .records = 16, .frames = 3, .slots = 2, .pages = 4, .accounts = 3};
+static const uint16_t chain[3] = {9, 0, 1}, higher[3] = {0, 0, 2};
 
 static Keeper placed(KeeperSizes wanted)
 {
@@ -80,11 +81,11 @@ static void test_header(FileBlocks blocks)
     char line[240];
     CHECK(opened_with(blocks, sizes, line) == FILEDISK_GOOD);
     CHECK(opened_with(blocks, alike, line) == FILEDISK_OTHER_SIZES);
-    CHECK(strcmp(line, "the disk was formatted with W 16 R 8 F 3 S 2 N 4 Q 2, this keeper has W 8 R 16 F 3 S 2 N 4 Q 2") == 0);
+    CHECK(strcmp(line, "the disk was formatted with W 16 R 8 F 3 S 2 N 4 Q 3, this keeper has W 8 R 16 F 3 S 2 N 4 Q 3") == 0);
     CHECK(opened_with_byte(blocks, 0, line) == FILEDISK_NO_DISK);
     CHECK(opened_with_byte(blocks, 20, line) == FILEDISK_NO_DISK && strstr(line, "checksum"));
-    reseal(blocks, 2);
-    CHECK(opened_with(blocks, sizes, line) == FILEDISK_OTHER_VERSION && strstr(line, "version 2"));
+    reseal(blocks, 1); /* without parents */
+    CHECK(opened_with(blocks, sizes, line) == FILEDISK_OTHER_VERSION && strstr(line, "version 1"));
     reseal(blocks, FILEDISK_VERSION);
     CHECK(opened_with(blocks, sizes, line) == FILEDISK_GOOD);
 }
@@ -108,6 +109,38 @@ static void test_journal(FileBlocks blocks, FileDisk *disk, Keeper *keeper)
     CHECK(blocks.read(blocks.self, limits, entry, 4) == 0 && entry[2] == 0);
     CHECK(opened_with(blocks, sizes, line) == FILEDISK_GOOD);
     CHECK(blocks.read(blocks.self, limits, entry, 4) == 0 && entry[2] == 3);
+}
+
+/* A move is one store of the whole limits table: the journal's brings both limits back, and a broken one neither. */
+static void test_move(FileBlocks blocks, FileDisk *disk, Keeper *keeper)
+{
+    const uint64_t limits = disk->table_at[KEEPER_TABLE_LIMITS];
+    unsigned char old[6], new[6], found[6];
+    char line[240];
+    CHECK(filedisk_limit(disk, keeper, 1, 5).refusal == KEEPER_DONE && blocks.read(blocks.self, limits, old, 6) == 0);
+    CHECK(filedisk_move(disk, keeper, 2, 1, 1).refusal == KEEPER_NO_MOVE && filedisk_move(disk, keeper, 0, 2, 1).refusal == KEEPER_NO_MOVE);
+    CHECK(blocks.read(blocks.self, limits, found, 6) == 0 && memcmp(found, old, 6) == 0);
+    CHECK(filedisk_move(disk, keeper, 1, 2, 3).refusal == KEEPER_DONE && keeper->limits[1] == 2 && keeper->limits[2] == 3);
+    CHECK(blocks.read(blocks.self, limits, new, 6) == 0 && new[2] == 2 && new[4] == 3);
+    CHECK(blocks.write(blocks.self, limits, old, 6) == 0); /* as if the cut had come before the place was written */
+    CHECK(opened_with_byte(blocks, FILEDISK_BLOCK + 4, line) == FILEDISK_GOOD);
+    CHECK(blocks.read(blocks.self, limits, found, 6) == 0 && memcmp(found, old, 6) == 0);
+    CHECK(opened_with(blocks, sizes, line) == FILEDISK_GOOD);
+    CHECK(blocks.read(blocks.self, limits, found, 6) == 0 && memcmp(found, new, 6) == 0);
+}
+
+/* A file that was cut short is refused and left as it is, though the journal's store would lengthen it. */
+static void test_short(FileBlocks blocks, const char *path, uint64_t end)
+{
+    static const unsigned cuts[] = {1, 600, 1500, 5000};
+    char line[240];
+    for (size_t at = 0; at < sizeof cuts / sizeof *cuts; at++) {
+        const long length = (long)end - (long)cuts[at];
+        FILE *file;
+        CHECK(truncate(path, length) == 0 && opened_with(blocks, sizes, line) == FILEDISK_DEVICE && strstr(line, "shorter than its tables"));
+        CHECK((file = fopen(path, "rb")) != NULL && fseek(file, 0, SEEK_END) == 0 && ftell(file) == length && fclose(file) == 0);
+    }
+    CHECK(truncate(path, 100) == 0 && opened_with(blocks, sizes, line) == FILEDISK_NO_DISK);
 }
 
 static void test_pieces(FileDisk *disk, Keeper *keeper)
@@ -137,7 +170,10 @@ int main(int count, char **words)
     CHECK(filedisk_file(&blocks, words[1], 0) != 0);
     CHECK(filedisk_file(&blocks, words[1], 1) == 0);
     CHECK(filedisk_open(&disk, blocks, &keeper) == FILEDISK_NO_DISK && disk.dead);
-    CHECK(filedisk_format(&disk, blocks, &keeper) == FILEDISK_GOOD && !disk.dead);
+    CHECK(filedisk_format(&disk, blocks, &keeper, higher) == FILEDISK_PARENTS && disk.dead && strstr(disk.line, "lower account"));
+    CHECK(filedisk_open(&disk, blocks, &keeper) == FILEDISK_NO_DISK); /* refused, it has written nothing */
+    CHECK(filedisk_format(&disk, blocks, &keeper, chain) == FILEDISK_GOOD && !disk.dead);
+    CHECK(filedisk_open(&disk, blocks, &keeper) == FILEDISK_GOOD && keeper.parents[0] == 0 && keeper.parents[1] == 0 && keeper.parents[2] == 1);
     test_header(blocks);
     for (uint32_t slot = 0; slot < 2; slot++) {
         CHECK(filedisk_limit(&disk, &keeper, slot, 4).refusal == KEEPER_DONE);
@@ -154,6 +190,7 @@ int main(int count, char **words)
     for (uint32_t page = 0; page < 4; page++)
         CHECK(word_of(&disk, &keeper, page % 2, page) == 50 + page && word_of(&disk, &keeper, (page + 1) % 2, page) == 0);
     test_journal(blocks, &disk, &keeper);
+    test_move(blocks, &disk, &keeper);
     CHECK(filedisk_open(&disk, blocks, &keeper) == FILEDISK_GOOD && keeper_activate(&keeper, 0).refusal == KEEPER_DONE);
     CHECK(keeper_truncate(&keeper, 0, 0).refusal == KEEPER_DONE && keeper_update(&keeper, 0).refusal == KEEPER_DONE);
     CHECK(filedisk_map(&disk, &keeper, 0) == 0 && keeper_deactivate(&keeper, 0).refusal == KEEPER_DONE);
@@ -162,10 +199,8 @@ int main(int count, char **words)
     disk.blocks.write = fails;
     filedisk_limit(&disk, &keeper, 0, 1);
     CHECK(disk.dead && strstr(disk.line, "device failed"));
-    /* a file that was cut off is refused, not read as zeros */
-    char line[240];
-    CHECK(truncate(words[1], (off_t)disk.end - 600) == 0 && opened_with(blocks, sizes, line) == FILEDISK_DEVICE);
-    CHECK(truncate(words[1], 100) == 0 && opened_with(blocks, sizes, line) == FILEDISK_NO_DISK);
+    CHECK(filedisk_open(&disk, blocks, &keeper) == FILEDISK_GOOD && filedisk_limit(&disk, &keeper, 2, 4).refusal == KEEPER_DONE);
+    test_short(blocks, words[1], disk.end);
     filedisk_close(&blocks);
     free(keeper.records);
     printf("%u passed, %u failed\n", passed, failed);

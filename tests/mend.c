@@ -41,7 +41,7 @@ static int make(const char *path, const char *kind)
     const size_t bytes = keeper_workspace(sizes);
     if (filedisk_file(&blocks, path, 1) != 0 || keeper_place(&keeper, sizes, malloc(bytes), bytes) != KEEPER_PLACED)
         return failed("no file or no memory");
-    if (filedisk_format(&disk, blocks, &keeper) != FILEDISK_GOOD || filedisk_limit(&disk, &keeper, 1, 8).refusal)
+    if (filedisk_format(&disk, blocks, &keeper, NULL) != FILEDISK_GOOD || filedisk_limit(&disk, &keeper, 1, 8).refusal)
         return failed("no format");
     if (weave(&disk, &keeper, 0, 101, 10) != 0 || weave(&disk, &keeper, 2, 102, 20) != 0)
         return failed("no design");
@@ -54,6 +54,10 @@ static int make(const char *path, const char *kind)
         put(&disk, KEEPER_TABLE_ACCOUNTS, 2, 9);
         put(&disk, KEEPER_TABLE_ACCOUNTS, 3, 1);
         put(&disk, KEEPER_TABLE_MAPS, 8, keeper.maps[7]); /* page 2 of slot 2 names the record of its page 1 */
+    }
+    if (strcmp(kind, "parents") == 0) { /* account 1 is its own parent, and one entry is wrong too */
+        put(&disk, KEEPER_TABLE_MAPS, 2, 60000);
+        put(&disk, KEEPER_TABLE_PARENTS, 1, 1);
     }
     filedisk_close(&blocks);
     free(keeper.records);

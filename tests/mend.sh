@@ -52,6 +52,10 @@ target/mend/packs make "$folder/sound" sound
 same "a sound pack" "$(target/mend/mend "$folder/sound" "$folder/none")" "$folder/sound is sound: restart takes it as it is, nothing is written"
 same "no file of it" "$(ls "$folder" | grep -c "none\|part" || true)" "0"
 
+# a parent that is not a lower account: no mending helps
+target/mend/packs make "$folder/parents" parents
+refused "a wrong parent" "$folder/parents" "restart turns it away still: an account's parent is not a lower account, and mending changes no parent"
+
 # what is no pack, or not whole
 refused "no file" "$folder/nothing" "it cannot be read"
 echo "a letter" >"$folder/letter"

@@ -108,8 +108,9 @@ def lend(table, call):
     return f"keeper->{table.name}, {length(table)}"
 
 
-# a list of requests is taken as arrays of structs
+# a list of requests is taken as arrays of structs, the wanted parents as an array alone
 LISTS = {
+    "format": (["const uint16_t *wanted"], ["sizes", "keeper_wanted(wanted), sizes.accounts"]),
     "apply_all": (
         ["const KeeperRequest *requests", "KeeperAnswer *answers", "size_t count"],
         ["sizes", "KEEPER_REQUESTS(requests, count)", "KEEPER_ANSWERS(answers, count)"],

@@ -9,7 +9,8 @@ C_TYPES = {"u8": "uint8_t", "u16": "uint16_t", "u32": "uint32_t", "Frame": "Keep
 # how the C port calls a slice of such elements
 SLICES = {"u8": "bytes", "u16": "halves", "u32": "words", "Frame": "frames"}
 RUST_TYPES = {
-    "KeeperSizes": "Sizes", "KeeperRequest": "Request", "size_t": "usize", "const uint32_t *": "*const u32", "uint32_t *": "*mut u32",
+    "KeeperSizes": "Sizes", "KeeperRequest": "Request", "size_t": "usize", "const uint16_t *": "*const u16", "const uint32_t *": "*const u32",
+    "uint32_t *": "*mut u32",
 }
 
 # each call's name, its answer, what it takes before the tables, and what the header says of it
@@ -19,7 +20,7 @@ NAMES = {
 }
 ANSWERS = {"format": "Answer", "restart": "Answer", "apply": "Answer", "apply_all": "Answer", "look": "Part", "mend": "Answer"}
 FIRST = {
-    "format": ["KeeperSizes sizes"],
+    "format": ["KeeperSizes sizes", "const uint16_t *wanted, size_t wanted_count"],
     "restart": ["KeeperSizes sizes"],
     "apply": ["KeeperSizes sizes", "KeeperRequest request"],
     "apply_all": ["KeeperSizes sizes", "const uint32_t *requests, size_t requests_count", "uint32_t *answers, size_t answers_count"],
@@ -29,9 +30,12 @@ FIRST = {
 # what a call takes behind the tables, and its count
 LAST = {"mend": [("uint32_t *changes, size_t changes_count", "4 * S * (N + 2), or more")]}
 # how many numbers a list beside the tables has
-COUNTS = {"requests": "5 a request", "answers": "2 an answer"}
+COUNTS = {"wanted": "Q", "requests": "5 a request", "answers": "2 an answer"}
 COMMENTS = {
-    "format": ["Zeroes the disk part, once for a new disk. Lent: the disk part. Answers 0 or 1."],
+    "format": [
+        "Zeroes the disk part, once for a new disk, and stores the wanted parents, one an account: a lower account each. Account 0's",
+        "is not looked at, and stored as 0. Lent: the disk part. Answers 0, 1, or 3 for a parent that is not lower.",
+    ],
     "restart": [
         "Sets up the memory part from the disk part alone: the first call after a format or a cut, made again while it is",
         "refused. Lent: everything. Answers 0, 1 or 2.",
@@ -49,7 +53,8 @@ COMMENTS = {
     ],
     "mend": [
         "Mends a disk part that restart answers 2, before restart is called again; docs/USING.md says what is lost. Lent: the disk",
-        "part, of which records and limits are only read, and a list for the changes, four numbers a place (KEEPER_LEND_CHANGES).",
+        "part, of which records, limits and parents are only read, and a list for the changes, four numbers a place",
+        "(KEEPER_LEND_CHANGES). A parent that is not lower stays, and restart answers 2 still.",
         "Answers 0, 1 or 24. The result is how many changes are listed; the list's later places are untouched.",
     ],
 }
@@ -119,7 +124,7 @@ def header():
         + "\n/* A table as arguments, a pointer and a count of elements; and a struct's tables of numbers, in the order of the calls. */\n"
         + "#define KEEPER_LEND(table) (table), sizeof(table) / sizeof *(table)\n"
         + "".join(map(arguments, PARTS))
-        + "#define KEEPER_LEND_CHANGES(changes) &(changes)->slot, sizeof(changes) / sizeof(uint32_t) /* an array of KeeperChange */\n"
+        + "#define KEEPER_LEND_CHANGES(changes) (uint32_t *)(changes), sizeof(changes) / (sizeof(uint32_t)) /* an array of KeeperChange */\n"
         + "\n/* The calls; beside each table the count that is asked for. */\n\n"
         + "\n".join(map(prototype, CALLS))
     )
@@ -198,11 +203,10 @@ def linked_lends():
         at = f"$keeper.{table.part}.{table.name}"
         return "                $pool,\n" if table.is_one() else f"                {at}.$at(),\n                {at}.len(),\n"
 
-    def lend(pattern, first, call, last=""):
-        body = "                $keeper.sizes,\n" + first + "".join(map(argument, in_call(call))) + last
+    def lend(pattern, call, last=""):
+        body = "                $keeper.sizes,\n                $($first,)*\n" + "".join(map(argument, in_call(call))) + last
         return f"    ({pattern}) => {{\n        unsafe {{\n            $name(\n{body}            )\n        }}\n    }};\n"
 
-    everything = lend("$name:ident($keeper:ident; $($first:expr),*; $pool:expr; $at:ident)", "                $($first,)*\n", "apply")
-    return "macro_rules! lend {\n" + everything + lend(
-        "$name:ident($keeper:ident; disk; $at:ident$(; $last:expr)*)", "", "format", "                $($last,)*\n"
-    ) + "}\n"
+    everything = lend("$name:ident($keeper:ident; $($first:expr),*; $pool:expr; $at:ident)", "apply")
+    disk = lend("$name:ident($keeper:ident; disk$(, $first:expr)*; $at:ident$(; $last:expr)*)", "format", "                $($last,)*\n")
+    return "macro_rules! lend {\n" + disk + everything + "}\n"

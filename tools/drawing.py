@@ -85,3 +85,9 @@ def arrow(start, end, bend=0):
     path = "M{} {}Q{} {} {} {}".format(*points)
     style = f'fill="none" stroke="{INK}" stroke-width="1.4" marker-end="url(#tip)"'
     return f'<path d="{path}" {style}/>\n', middle
+
+
+def link(start, end):
+    """A dashed line between two boxes, and the middle of it."""
+    path, middle = arrow(start, end)
+    return path.replace('marker-end="url(#tip)"', 'stroke-dasharray="5 5"'), middle

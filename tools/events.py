@@ -34,6 +34,7 @@ EVENTS = [
 ]
 # The library's own kinds: no fields of the event program, so only lists that go to the library have them.
 LIBRARY = [
+    ("move", 17, [("giver", 2), ("taker", 2), ("pages", 2)]),
     ("join", 18, [("slot", 2), ("page", 2)]),
     ("turn", 19, []),
 ]

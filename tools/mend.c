@@ -1,6 +1,7 @@
 /* mend PACK NEW: mends a pack of the form of examples/filedisk.h that restart turns away. Not proved but for the keeper's own calls;
  * tested by tests/mend.sh. The list of changes goes to standard output; the mended pack is written to NEW, and PACK is left alone.
- * A sound pack is said to be sound, and nothing is written. On a refusal, or a file that is no pack: a line, and status 1. */
+ * A sound pack is said to be sound, and nothing is written. On a refusal, a pack that mending does not help (a parent that is not a lower
+ * account), or a file that is no pack: a line, and status 1. */
 #define _POSIX_C_SOURCE 200809L
 #include <stdio.h>
 #include <stdlib.h>
@@ -50,6 +51,8 @@ static int mend(FileDisk *disk, Keeper *keeper, const char *pack, const char *ma
         return complain(pack, "no memory for the list of changes");
     const KeeperAnswer answer = keeper_easy_mend(keeper, changes, places);
     int failed = answer.refusal != KEEPER_DONE ? complain(pack, keeper_text(answer.refusal)) : 0;
+    if (!failed && keeper_easy_restart(keeper).refusal != KEEPER_DONE)
+        failed = complain(pack, "restart turns it away still: an account's parent is not a lower account, and mending changes no parent");
     if (!failed && filedisk_replace(disk, keeper) != 0)
         failed = complain(made, disk->line);
     if (!failed) {

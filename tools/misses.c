@@ -19,7 +19,7 @@ static int done(KeeperAnswer answer, const char *what)
 /* A keeper of one design a slot, all active, with a record for every page. */
 static int set_up(Keeper *keeper)
 {
-    if (!done(keeper_easy_format(keeper), "format") || !done(keeper_easy_restart(keeper), "restart"))
+    if (!done(keeper_easy_format(keeper, NULL), "format") || !done(keeper_easy_restart(keeper), "restart"))
         return 0;
     if (!done(keeper_limit(keeper, 0, 65535), "limit"))
         return 0;

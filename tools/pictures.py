@@ -1,7 +1,7 @@
 #!/usr/bin/env python3
-"""The pictures of docs/USING.md: the states of a record and the lines between them; a page's life.
+"""The pictures of docs/USING.md: the states of a record and the lines between them; a page's life; a mill and its studios.
 
-    pictures.py --write    makes docs/record-states.svg and docs/page-life.svg
+    pictures.py --write    makes docs/record-states.svg, docs/page-life.svg and docs/accounts.svg
     pictures.py --check    fails if they are not what --write would make
 
 States, lines, transfers and the names of events come from the code's own tables. What an arrow says and where it is
@@ -13,6 +13,7 @@ import pathlib
 import re
 import sys
 
+import studios
 from drawing import arrow, box, corner, head, lines, section, tail
 
 ROOT = pathlib.Path(__file__).resolve().parent.parent
@@ -96,7 +97,7 @@ PAGE_NOTES = [
 ]
 CUT_NOTE = "truncate leads from here to no address: the record is released, the frame freed"
 # Kinds that move no page from box to box, or move it by a fault or a claim.
-PAGE_OTHERS = {"CREATE", "DELETE", "LIMIT", "READ", "JOIN", "TURN"}
+PAGE_OTHERS = {"CREATE", "DELETE", "LIMIT", "MOVE", "READ", "JOIN", "TURN"}
 
 
 class Bad(Exception):
@@ -196,14 +197,15 @@ def page_life(state_source, header):
 
 
 def made():
-    """Both pictures, by the file that each stands in."""
+    """The pictures, by the file that each stands in."""
     header = (ROOT / "include" / "keeper.h").read_text()
     states, table, transfers = (
         (MODEL / name).read_text() for name in ("specs/Lines.antt", "src/lines.rt", "specs/State.antt")
     )
     states = record_states(states, table, header)
     pages = page_life(transfers, header)
-    return {DOCS / "record-states.svg": states, DOCS / "page-life.svg": pages}
+    accounts = studios.picture((ROOT / "examples" / "studios.out").read_text())
+    return {DOCS / "record-states.svg": states, DOCS / "page-life.svg": pages, DOCS / "accounts.svg": accounts}
 
 
 def stale(path, picture):
@@ -229,5 +231,5 @@ def main(words):
 if __name__ == "__main__":
     try:
         sys.exit(main(sys.argv[1:]))
-    except Bad as bad:
+    except (Bad, studios.Bad) as bad:
         sys.exit(f"pictures.py: {bad}")

@@ -6,11 +6,13 @@ import unittest
 import xml.etree.ElementTree as xml
 
 import pictures
+import studios
 
 HEADER = (pictures.ROOT / "include" / "keeper.h").read_text()
 STATES = (pictures.MODEL / "specs" / "Lines.antt").read_text()
 TABLE = (pictures.MODEL / "src" / "lines.rt").read_text()
 TRANSFERS = (pictures.MODEL / "specs" / "State.antt").read_text()
+STUDIOS = (pictures.ROOT / "examples" / "studios.out").read_text()
 ARROW = "{http://www.w3.org/2000/svg}path[@marker-end]"
 
 
@@ -31,9 +33,26 @@ class Made(unittest.TestCase):
                 self.assertEqual(path.read_text(), picture)
 
     def test_an_arrow_for_each_line(self):
-        drawn, pages = pictures.made().values()
+        drawn, pages, _ = pictures.made().values()
         self.assertEqual(arrows(drawn), 11)
         self.assertEqual(arrows(pages), len(pictures.PAGE_ARROWS))
+
+    def test_an_arrow_for_each_account_that_passes_its_charges_up(self):
+        accounts = xml.fromstring(list(pictures.made().values())[2])
+        shown = [element.text for element in accounts.iter("{http://www.w3.org/2000/svg}text")]
+        _, parents, limits, used = studios.read(STUDIOS)
+        up = [account for account in range(1, len(limits)) if limits[account] == 0]
+        self.assertTrue(up)
+        self.assertEqual(len(accounts.findall(".//" + ARROW)), len(up))
+        self.assertEqual(shown.count("mill pays"), len(up))
+        for limit, count in zip(limits, used):
+            self.assertIn(f"limit {limit}, used {count}", shown)
+
+    def test_the_sum_of_the_limits_stays(self):
+        """Every line of the example after its limit event: a move moves, and no more."""
+        rows = re.findall(r"; limits((?: \d+)+); used", STUDIOS)
+        self.assertGreater(len(rows), 10)
+        self.assertEqual({sum(map(int, row.split())) for row in rows}, {10})
 
     def test_the_table_is_the_definition(self):
         pairs = re.findall(r"line ([A-Z]+) ([A-Z]+)\n", STATES)
@@ -55,6 +74,12 @@ class Refused(unittest.TestCase):
     def test_a_line_less(self):
         table = changed(TABLE, "[true,", "[false,")
         self.refused("('LEAVING', 'FREE')", pictures.record_states, STATES, table, HEADER)
+
+    def test_no_accounts(self):
+        for text, words in ((STUDIOS.replace("; used", "; kept"), "no used"), (STUDIOS.replace("; parents 0", "; parents"), "places for 5")):
+            with self.assertRaises(studios.Bad) as caught:
+                studios.picture(text)
+            self.assertIn(words, str(caught.exception))
 
     def test_no_table(self):
         self.refused("LINES is no table", pictures.record_states, STATES, "", HEADER)

@@ -81,7 +81,7 @@ class Whole(unittest.TestCase):
 
     def test_events(self):
         self.assertGreater(len(events()), 10)
-        for file in ("Designs", "Pages", "Writeback", "Line"):
+        for file in ("Designs", "Accounts", "Pages", "Writeback", "Line"):
             self.all_said(file, {name for where, name in events() if where == file})
 
     def test_kinds(self):
@@ -120,6 +120,10 @@ class Whole(unittest.TestCase):
         rules = set(re.search(r"fromPack = (.*)", text).group(1).replace(" z w", "").split(" and "))
         self.all_said("Demand3", rules - defined(text))
         self.all_said("FromPack", rules & defined(text))
+
+    def test_payer(self):
+        self.all_said("Payer", {name for name in defined(source("", "Payer")) if name.startswith("pay")})
+        self.all_said("Accounts", {"shifted"})
 
     def test_edges(self):
         text = source("", "Edges")

@@ -25,7 +25,7 @@ CODE_CALLS = {
     "page_look": "look", "keeper_page_look": "look", "keeper_mend": "mend",
 }
 # what a call takes beside the tables
-BESIDE = {"sizes", "request", "requests", "answers", "slot", "page", "refusal", "changes"}
+BESIDE = {"sizes", "wanted", "request", "requests", "answers", "slot", "page", "refusal", "changes"}
 
 
 def parameters(name):
@@ -76,7 +76,7 @@ class Code(unittest.TestCase):
 
     def test_state_of(self):
         for name, tables_ in (("allOf", lent.in_call("apply")), ("diskOf", lent.in_call("format"))):
-            taken = re.search(rf"^{name} (.*?) = ", LENT, re.M).group(1).split()
+            taken = re.search(rf"^{name} (.*?) =(?: |$)", LENT, re.M).group(1).split()
             self.assertEqual(taken, [table.field for table in tables_])
 
     def test_lengths(self):
@@ -113,7 +113,7 @@ class NewTable(unittest.TestCase):
     """One more line of the list is all that the files made from it need."""
 
     ROWS = """
-        parents | disk | u16 | Q | parents | mut | ref | mut | ref | the account's parent
+        sisters | disk | u16 | Q | sisters | mut | ref | mut | ref | the account's sister
         highest | disk | u32 | 1 | highest | mut | mut | mut | ref | the highest number given
         chip | memory | u16 | 32 | chip | - | mut | mut | ref | the records that are held in between
     """
@@ -127,21 +127,21 @@ class NewTable(unittest.TestCase):
 
     def test_everywhere(self):
         for _, name, make in tables.MADE:
-            for table in ("parents", "highest", "chip"):
+            for table in ("sisters", "highest", "chip"):
                 self.assertIn(table, make(), name)
 
     def test_order(self):
         self.assertEqual([table.name for table in lent.in_call("restart")][:2], ["frames", "pool"])
-        self.assertEqual([table.name for table in lent.in_call("format")][-2:], ["parents", "highest"])
+        self.assertEqual([table.name for table in lent.in_call("format")][-2:], ["sisters", "highest"])
         self.assertEqual([table.name for table in lent.in_call("apply")][-2:], ["used", "chip"])
-        self.assertEqual([(table.name, table.lent["mend"]) for table in lent.in_call("mend")][-2:], [("parents", "ref"), ("highest", "ref")])
+        self.assertEqual([(table.name, table.lent["mend"]) for table in lent.in_call("mend")][-2:], [("sisters", "ref"), ("highest", "ref")])
 
     def test_the_header_compiles(self):
         text = (lent.ROOT / "include" / "keeper.h").read_text()
         before, _, after = tables.parts(text, *tables.marks("keeper.h", "tables and calls"), "keeper.h")
         use = (
             "static struct { KEEPER_DISK_TABLES(2, 33, 2, 2, 3, 1) } disk;\nstatic struct { KEEPER_MEMORY_TABLES(2, 33, 2, 2, 3, 1) } memory;\n"
-            "_Static_assert(sizeof disk.parents == 2 && sizeof disk.highest == 4 && sizeof memory.chip == 64 && sizeof memory.free_map == 8, \"\");\n"
+            "_Static_assert(sizeof disk.sisters == 2 && sizeof disk.highest == 4 && sizeof memory.chip == 64 && sizeof memory.free_map == 8, \"\");\n"
             "KeeperAnswer call(KeeperSizes sizes);\nKeeperAnswer call(KeeperSizes sizes)\n{\n    return keeper_restart(sizes, KEEPER_LEND(memory.frames),"
             " &memory.pool, KEEPER_LEND_DISK(disk), KEEPER_LEND_MEMORY(memory));\n}\n"
         )
@@ -151,12 +151,12 @@ class NewTable(unittest.TestCase):
 
     def test_the_easy_header_compiles(self):
         """The struct, the block and the calls follow; a new kind of request gets its function, and what a call takes beside the tables stays."""
-        first = {"format": ctext.FIRST["format"] + ["const uint16_t *wanted", "size_t wanted_count"]}
+        first = {"restart": ctext.FIRST["restart"] + ["const uint16_t *guests", "size_t guests_count"]}
         patch = mock.patch.dict(ctext.FIRST, first)
         patch.start()
         self.addCleanup(patch.stop)
         plain, easy = ((lent.ROOT / "include" / name).read_text() for name in ("keeper.h", "keeper_easy.h"))
-        plain = plain.replace("KEEPER_LIMIT = 15,", "KEEPER_MOVE = 17, /* giver, taker, amount */\n    KEEPER_LIMIT = 15,")
+        plain = plain.replace("KEEPER_LIMIT = 15,", "KEEPER_GREET = 99, /* host, guest, times */\n    KEEPER_LIMIT = 15,")
         plain = "".join(tables.parts(plain, *tables.marks("keeper.h", "tables and calls"), "keeper.h")[::2]).replace(
             tables.marks("keeper.h", "tables and calls")[0], tables.marks("keeper.h", "tables and calls")[0] + ctext.header()
         )
@@ -166,8 +166,8 @@ class NewTable(unittest.TestCase):
             made = ceasy.easy()
         text = plain + before.replace('#include "keeper.h"', "") + made + after
         use = (
-            "KeeperAnswer call(Keeper *keeper);\nKeeperAnswer call(Keeper *keeper)\n{\n    keeper->parents[0] = keeper->highest[0] > keeper->chip[31];\n"
-            "    keeper_move(keeper, 1, 0, 2);\n    keeper_easy_format(keeper, keeper->parents, 1);\n    return keeper_easy_restart(keeper);\n}\n"
+            "KeeperAnswer call(Keeper *keeper);\nKeeperAnswer call(Keeper *keeper)\n{\n    keeper->sisters[0] = keeper->highest[0] > keeper->chip[31];\n"
+            "    keeper_greet(keeper, 1, 0, 2);\n    keeper_easy_format(keeper, keeper->parents);\n    return keeper_easy_restart(keeper, keeper->sisters, 1);\n}\n"
         )
         for words in (["gcc", "-std=c99", "-x", "c"], ["g++", "-std=c++11", "-x", "c++"]):
             command = [*words, "-Wall", "-Wextra", "-Werror", "-pedantic", "-fsyntax-only", "-"]

@@ -10,6 +10,7 @@ USING = (ROOT / "docs" / "USING.md").read_text()
 HEADER = (ROOT / "include" / "keeper.h").read_text()
 QUESTIONS = (ROOT / "crates" / "model" / "specs" / "Questions.antt").read_text()
 PRINTED = (ROOT / "examples" / "firmware.out").read_text()
+STUDIOS = (ROOT / "examples" / "studios.out").read_text()
 
 
 def rows(start):
@@ -101,7 +102,7 @@ class Requests(unittest.TestCase):
         self.assertEqual([row[1] for row in table], values)
 
     def test_refusals(self):
-        asked = dict(re.findall(r"^  (?:design|page|writeback|waiting)Questions \(?([A-Za-z]+).*? = (.*)$", QUESTIONS, re.M))
+        asked = dict(re.findall(r"^  (?:design|account|page|writeback|waiting)Questions \(?([A-Za-z]+).*? = (.*)$", QUESTIONS, re.M))
         turns = " ".join(re.findall(r"^  turnQuestions .*? = (.*)$", QUESTIONS, re.M))
         served = re.search(r"^  served range quiet s p = (.*)$", QUESTIONS, re.M).group(1)
         for name, _, _, refusals in rows("kind")[1:]:
@@ -115,7 +116,7 @@ class Answers(unittest.TestCase):
     def test_numbers_and_names(self):
         table = [(row[1].strip("`").replace("KEEPER_", ""), row[0]) for row in rows("number")[1:]]
         self.assertEqual(table, enum("/* The refusals.")[1:])
-        self.assertEqual([number for _, number in table], [str(n) for n in [*range(1, 23), 24, 27]])
+        self.assertEqual([number for _, number in table], [str(n) for n in [*range(1, 23), 24, 25, 26, 27]])
 
 
 class Example(unittest.TestCase):
@@ -125,6 +126,12 @@ class Example(unittest.TestCase):
         self.assertEqual(len(quoted), 12)
         for line in quoted:
             self.assertIn(line + "\n", PRINTED)
+
+    def test_studios(self):
+        """Every line that the mill and its studios print, but the first, with its reason."""
+        section = USING[USING.index("## A mill and its studios") : USING.index("## The short way in C")]
+        quoted = re.findall(r"^\| `(.*?)` \|", section, re.M)
+        self.assertEqual(quoted, STUDIOS.splitlines()[1:])
 
     def test_pictures(self):
         for name in re.findall(r"\]\((.*?\.svg)\)", USING):

@@ -43,8 +43,8 @@ class Walks(unittest.TestCase):
     def test_groups(self):
         """The paths to the last lists: those of a group start from its name."""
         after = walks.Change("restart", 1, 1).marks()["AFTER"]
-        self.assertIn("let m = ms .1 .1 .1 .1 .1 .1 .1 .1 .1 in\n", after)
-        self.assertIn("(now x4) (m .0)", after)
+        self.assertIn("let m = ms .1 .1 .1 .1 .1 .1 .1 .1 .1 .1 in\n", after)
+        self.assertIn("(now x5) (m .0)", after)
         with with_one_more():
             self.assertTrue(walks.Change("restart", 1, 1).marks()["AFTER"].endswith("(s .1 .1 .1 .1 .0) (s .1 .1 .1 .1 .1 .0)"))
 

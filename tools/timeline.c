@@ -189,7 +189,7 @@ int main(int count, char **words)
     KeeperAnswer answer = {0, 0};
     keeper = new_keeper();
     Keeper copy = new_keeper();
-    if (keeper_easy_format(&keeper).refusal != KEEPER_DONE || keeper_easy_restart(&keeper).refusal != KEEPER_DONE)
+    if (keeper_easy_format(&keeper, NULL).refusal != KEEPER_DONE || keeper_easy_restart(&keeper).refusal != KEEPER_DONE)
         return 1;
     for (unsigned long row = 0;; row++) {
         if (count != 3)

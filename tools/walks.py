@@ -157,9 +157,18 @@ class Change(Walk):
             "PUTS": " ".join(puts),
             "CHECK": nested([f"n{j}" for j in self.muts]) + "))" + " $ done !" + ")" * (len(self.muts) + 2),
             "READ": "nothing ! $ fjoin ! $ " * (0 if self.before else self.lead),
-            "READT": "(tt, " * (0 if self.before else self.lead) + "e₁ .1" + ")" * (0 if self.before else self.lead),
+            "READT": self.lengths(f"e₁ .1{ones(sum(mut for _, _, mut in self.before))}"),
             **self.after(),
         }
+
+    def lengths(self, base):
+        """What is known of the call's own tables, of those only read too: up to the last of these one by one."""
+        read = [j for j, (_, _, mut) in enumerate(self.own) if not mut]
+        items, changed = [], 0
+        for _, _, mut in self.own[: read[-1] + 1 if read else 0]:
+            items.append(f"{base}{ones(changed)} .0" if mut else "tt")
+            changed += mut
+        return "".join(f"({item}, " for item in items) + base + ones(changed) + ")" * len(items)
 
     def later(self):
         return list(enumerate(self.all))[self.lead :]

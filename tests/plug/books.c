@@ -28,7 +28,7 @@ typedef struct {
 } Slot;
 
 typedef struct {
-    uint32_t value, next, found;
+    uint32_t value, next, found, parent;
     int storing;
 } Limit;
 
@@ -42,6 +42,8 @@ struct Books {
     Version *version;
     Slot slots[PLUG_MOST_SLOTS];
     Limit limits[PLUG_MOST_ACCOUNTS];
+    int moving; /* the store of a move is open: both limits land, or neither */
+    uint32_t giver, taker;
 };
 
 static void broken(const char *promise, uint32_t slot, uint32_t page, uint32_t found)
@@ -146,6 +148,21 @@ static void judge_slot(Books *books, Slot *slot, uint32_t at)
     judge_pages(books, slot, at);
 }
 
+static void judge_limits(Books *books)
+{
+    const Limit *giver = books->limits + books->giver, *taker = books->limits + books->taker;
+    for (uint32_t at = 0; at < books->sizes.accounts; at++) {
+        const Limit *limit = books->limits + at;
+        if (limit->found != limit->value && !(limit->storing && limit->found == limit->next))
+            broken("an account has another limit than was stored", 0, at, limit->found);
+        if (limit->parent != plug_parent(at))
+            broken("an account has another parent than was formatted", 0, at, limit->parent);
+    }
+    if (books->moving && giver->value + taker->value != giver->found + taker->found)
+        broken("a move has landed in part", 0, books->giver, giver->found);
+    books->moving = 0;
+}
+
 static void opened(Books *books)
 {
     books->formatted = 1;
@@ -161,12 +178,10 @@ static void opened(Books *books)
             slot->pages[page].text = slot->pages[page].listed = found;
         }
     }
+    judge_limits(books);
     for (uint32_t at = 0; at < books->sizes.accounts; at++) {
-        Limit *limit = books->limits + at;
-        if (limit->found != limit->value && !(limit->storing && limit->found == limit->next))
-            broken("an account has another limit than was stored", 0, at, limit->found);
-        limit->value = limit->found;
-        limit->storing = 0;
+        books->limits[at].value = books->limits[at].found;
+        books->limits[at].storing = 0;
     }
 }
 
@@ -243,6 +258,26 @@ static void stored_slot(Books *books, Slot *slot)
         books->numbers = slot->number + 1;
 }
 
+static void moves(Books *books, const Note *note)
+{
+    Limit *giver = books->limits + note->a % PLUG_MOST_ACCOUNTS, *taker = books->limits + note->b % PLUG_MOST_ACCOUNTS;
+    giver->next = giver->value - note->c;
+    taker->next = taker->value + note->c;
+    giver->storing = taker->storing = books->moving = 1;
+    books->giver = note->a % PLUG_MOST_ACCOUNTS, books->taker = note->b % PLUG_MOST_ACCOUNTS;
+}
+
+static void moved(Books *books, int good)
+{
+    Limit *both[2] = {books->limits + books->giver, books->limits + books->taker};
+    for (int at = 0; at < 2; at++) {
+        both[at]->value = good ? both[at]->next : both[at]->value;
+        both[at]->storing = 0;
+    }
+    totals.moves += (unsigned long)good;
+    books->moving = 0;
+}
+
 void books_note(Books *books, const Note *note)
 {
     Slot *slot = books->slots + note->a % PLUG_MOST_SLOTS;
@@ -252,7 +287,7 @@ void books_note(Books *books, const Note *note)
     switch (note->type) {
     case NOTE_FORMATTED: books->formatted = 1; break;
     case NOTE_LOST: broken("the disk does not open", note->a, 0, 0); break;
-    case NOTE_FOUND_LIMIT: limit->found = note->b; break;
+    case NOTE_FOUND_LIMIT: limit->found = note->b, limit->parent = note->c; break;
     case NOTE_FOUND_SLOT:
         slot->found_number = note->b, slot->found_account = note->c;
         if (slot->storing && slot->found_number == slot->next_number && slot->found_account == slot->next_account)
@@ -262,6 +297,8 @@ void books_note(Books *books, const Note *note)
     case NOTE_OPENED: opened(books); break;
     case NOTE_LIMIT: limit->next = note->b, limit->storing = 1; break;
     case NOTE_LIMIT_END: limit->value = limit->next, limit->storing = 0; break;
+    case NOTE_MOVE: moves(books, note); break;
+    case NOTE_MOVE_END: moved(books, (int)note->a); break;
     case NOTE_SLOT:
         slot->next_number = note->b, slot->next_account = note->c, slot->storing = 1;
         if (note->b >= books->numbers)

@@ -11,12 +11,14 @@ enum { PLUG_MOST_WORDS = 256, PLUG_MOST_SLOTS = 4, PLUG_MOST_PAGES = 16, PLUG_MO
 enum {
     NOTE_FORMATTED = 1,
     NOTE_LOST,        /* the disk was formatted, and does not open */
-    NOTE_FOUND_LIMIT, /* at an open: account, limit */
+    NOTE_FOUND_LIMIT, /* at an open: account, limit, parent */
     NOTE_FOUND_SLOT,  /* at an open: slot, number, account */
     NOTE_FOUND_PAGE,  /* at an open: slot, page, and the words that it reads */
     NOTE_OPENED,      /* all of these were told */
     NOTE_LIMIT,       /* account, pages: the store begins */
     NOTE_LIMIT_END,   /* account */
+    NOTE_MOVE,        /* giver, taker, pages: the store begins, if the move is not refused */
+    NOTE_MOVE_END,    /* whether it was carried out */
     NOTE_SLOT,        /* slot, number, account: the store of a create or delete begins */
     NOTE_SLOT_END,    /* slot */
     NOTE_ACTIVATE,    /* slot */
@@ -39,10 +41,13 @@ typedef struct {
 } Note;
 
 /* Wrong drivers: each must be caught. */
-enum { WRONG_NONE = 0, WRONG_NO_JOURNAL = 1, WRONG_PAGE_EARLY = 2, WRONG_MAP_EARLY = 3, WRONG_NO_SLOT = 4, WRONG_NO_SYNC = 5, WRONG_COUNT = 6 };
+enum { WRONG_NONE = 0, WRONG_NO_JOURNAL = 1, WRONG_PAGE_EARLY = 2, WRONG_MAP_EARLY = 3, WRONG_NO_SLOT = 4, WRONG_NO_SYNC = 5, WRONG_TWO_STORES = 6, WRONG_COUNT = 7 };
 
 /* ── random numbers ── */
 uint32_t plug_random(uint64_t *state, uint32_t below);
+
+/* ── the parent that every disk is formatted with: account 1 is under account 0, 2 and 3 under 1 ── */
+uint16_t plug_parent(size_t account);
 
 /* ── the words of a version: the first is its number ── */
 uint32_t plug_word(uint32_t version, size_t word);
@@ -74,7 +79,7 @@ uint32_t books_next_version(const Books *books);
 uint32_t books_next_number(const Books *books);
 
 typedef struct {
-    unsigned long kills, calls, reads, broken;
+    unsigned long kills, calls, reads, moves, broken;
     int quiet; /* print no broken promise */
 } Totals;
 extern Totals totals;

@@ -1,5 +1,5 @@
 /* Not proved: the weaver of the plug test. It opens the disk, tells what it finds, and then does what the tables allow, at random, until the
- * device is dead. It tells of each store before it begins and after it was reported. Four wrong drivers are in it, to be caught. */
+ * device is dead. It tells of each store before it begins and after it was reported. Wrong drivers are in it, to be caught. */
 #include "plug.h"
 
 unsigned long plug_calls;
@@ -8,6 +8,11 @@ uint32_t plug_random(uint64_t *state, uint32_t below)
 {
     *state = *state * 6364136223846793005u + 1442695040888963407u;
     return (uint32_t)(*state >> 33) % below;
+}
+
+uint16_t plug_parent(size_t account)
+{
+    return (uint16_t)(account / 2);
 }
 
 uint32_t plug_word(uint32_t version, size_t word)
@@ -221,6 +226,33 @@ static void set_limit(Run *run, uint32_t account, uint32_t pages)
         tell(run, NOTE_LIMIT_END, account, 0, 0);
 }
 
+/* The move of a driver that stores each limit by itself. */
+static KeeperAnswer move_in_two(Run *run, uint32_t giver, uint32_t taker, uint32_t pages)
+{
+    Keeper *keeper = run->own->keeper;
+    const FilePiece less = {KEEPER_TABLE_LIMITS, giver, 1, keeper->limits + giver}, more = {KEEPER_TABLE_LIMITS, taker, 1, keeper->limits + taker};
+    KeeperAnswer answer = keeper_move(keeper, giver, taker, pages);
+    if (answer.refusal == KEEPER_DONE && filedisk_store(&run->disk, &less, 1) == 0)
+        filedisk_store(&run->disk, &more, 1);
+    return answer;
+}
+
+/* Pages of limit go from an account to its parent, or back; all that the giver has, now and then, so that its parent pays. */
+static void move(Run *run)
+{
+    Keeper *keeper = run->own->keeper;
+    const uint32_t child = 1 + chance(run, (uint32_t)keeper->sizes.accounts - 1), up = chance(run, 2);
+    const uint32_t giver = up ? child : keeper->parents[child], taker = up ? keeper->parents[child] : child;
+    const uint32_t has = keeper->limits[giver], pages = chance(run, 3) == 0 ? has : 1 + chance(run, has + 1);
+    tell(run, NOTE_MOVE, giver, taker, pages);
+    KeeperAnswer answer = run->own->wrong == WRONG_TWO_STORES ? move_in_two(run, giver, taker, pages)
+                                                              : filedisk_move(&run->disk, keeper, giver, taker, pages);
+    if (answer.refusal != KEEPER_DONE && answer.refusal != KEEPER_NO_MOVE && answer.refusal != KEEPER_OVER_LIMIT)
+        tell(run, NOTE_REFUSED, giver, taker, answer.refusal);
+    if (!run->disk.dead)
+        tell(run, NOTE_MOVE_END, answer.refusal == KEEPER_DONE, 0, 0);
+}
+
 static void set_active(Run *run, uint32_t slot, int active)
 {
     Keeper *keeper = run->own->keeper;
@@ -293,7 +325,12 @@ static void one_act(Run *run)
     }
     switch (chance(run, 24)) {
     case 0: truncate_at(run, slot, page); break;
-    case 1: set_limit(run, chance(run, (uint32_t)keeper->sizes.accounts), 1 + chance(run, 2 * (uint32_t)keeper->sizes.pages)); break;
+    case 1:
+        if (chance(run, 3) == 0)
+            set_limit(run, chance(run, (uint32_t)keeper->sizes.accounts), chance(run, 2 * (uint32_t)keeper->sizes.pages));
+        else
+            move(run);
+        break;
     case 2: put_to_rest(run, slot, chance(run, 3) == 0); break;
     case 3: keeper_wire(keeper, slot, page); remember(run); break;
     case 4: keeper_unwire(keeper, slot, page); remember(run); break;
@@ -313,7 +350,10 @@ static int opens(Run *run)
     Weaver *own = run->own;
     int answer = filedisk_open(&run->disk, own->blocks, own->keeper);
     if (answer == FILEDISK_NO_DISK && !own->formatted) {
-        answer = filedisk_format(&run->disk, own->blocks, own->keeper);
+        uint16_t parents[KEEPER_MOST_ACCOUNTS];
+        for (size_t account = 0; account < KEEPER_MOST_ACCOUNTS; account++)
+            parents[account] = plug_parent(account);
+        answer = filedisk_format(&run->disk, own->blocks, own->keeper, parents);
         if (answer == FILEDISK_GOOD)
             tell(run, NOTE_FORMATTED, 0, 0, 0);
     }
@@ -341,7 +381,7 @@ static void tell_disk(Run *run)
 {
     Keeper *keeper = run->own->keeper;
     for (uint32_t account = 0; account < keeper->sizes.accounts; account++)
-        tell(run, NOTE_FOUND_LIMIT, account, keeper->limits[account], 0);
+        tell(run, NOTE_FOUND_LIMIT, account, keeper->limits[account], keeper->parents[account]);
     for (uint32_t slot = 0; slot < keeper->sizes.slots; slot++)
         tell(run, NOTE_FOUND_SLOT, slot, keeper->numbers[slot], keeper->accounts[slot]);
     for (uint32_t slot = 0; slot < keeper->sizes.slots; slot++)
@@ -363,8 +403,9 @@ void weaver_run(Weaver *weaver)
     /* opened again: nothing of the reading stays */
     if (run.disk.dead || !opens(&run))
         return;
+    /* account 0 pays for all that have none */
     for (uint32_t account = 0; account < weaver->keeper->sizes.accounts && !run.disk.dead; account++)
-        if (weaver->keeper->limits[account] == 0)
+        if (weaver->keeper->limits[account] == 0 && (account == 0 || chance(&run, 3) == 0))
             set_limit(&run, account, (uint32_t)weaver->keeper->sizes.pages);
     while (!run.disk.dead)
         one_act(&run);

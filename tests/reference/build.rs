@@ -3,7 +3,7 @@
 use std::path::Path;
 use std::process::Command;
 
-const FILES: [&str; 5] = ["keeper", "mend", "rules", "questions", "events"];
+const FILES: [&str; 6] = ["keeper", "accounts", "mend", "rules", "questions", "events"];
 
 /// The proved keeper's calls have these names too: here they become c_port_*.
 const CALLS: [&str; 6] = ["format", "restart", "apply", "apply_all", "mend", "page_look"];

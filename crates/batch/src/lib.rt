@@ -33,6 +33,7 @@ pub fn in_turn(
     accounts: &mut [u16],
     maps: &mut [u16],
     limits: &mut [u16],
+    parents: &[u16],
     frame_words: &mut [u32],
     free_queue: &mut [u16],
     removal_list: &mut [u16],
@@ -47,16 +48,16 @@ pub fn in_turn(
     used: &mut [u16],
 ) -> Pooled
     requires { ⌜ (5 * n ≤ length (now requests)) × (2 * n ≤ length (now answers)) × Kept sizes
-        (allGiven (take (sizes .frames) frames) pool records numbers accounts maps limits
+        (allGiven (take (sizes .frames) frames) pool records numbers accounts maps limits parents
         «frame_words» «free_queue» «removal_list» addresses states owners «free_map» active updating images line used) ⌝ }
     ensures { λ r. ⌜ record {
       answer = r .answer;
       answers = now (answers .exit);
-      left = allLeft (take (sizes .frames) (r .frames)) (r .pool) records numbers accounts maps limits
+      left = allLeft (take (sizes .frames) (r .frames)) (r .pool) records numbers accounts maps limits parents
           «frame_words» «free_queue» «removal_list» addresses states owners «free_map» active updating images line used;
     }
         ≡ after sizes (now (requests .entry)) (now (answers .entry))
-        (allEntered (take (sizes .frames) frames) pool records numbers accounts maps limits
+        (allEntered (take (sizes .frames) frames) pool records numbers accounts maps limits parents
         «frame_words» «free_queue» «removal_list» addresses states owners «free_map» active updating images line used) n ⌝ }
 {
     let answer = Answer {
@@ -81,6 +82,7 @@ pub fn in_turn(
             accounts,
             maps,
             limits,
+            parents,
             frame_words,
             free_queue,
             removal_list,
@@ -113,6 +115,7 @@ pub fn apply_all(
     accounts: &mut [u16],
     maps: &mut [u16],
     limits: &mut [u16],
+    parents: &[u16],
     frame_words: &mut [u32],
     free_queue: &mut [u16],
     removal_list: &mut [u16],
@@ -129,11 +132,11 @@ pub fn apply_all(
     ensures { λ r. ⌜ record {
       answer = r .answer;
       answers = now (answers .exit);
-      left = allLeft (framesOf (r .frames) lent) (r .pool) records numbers accounts maps limits
+      left = allLeft (framesOf (r .frames) lent) (r .pool) records numbers accounts maps limits parents
           «frame_words» «free_queue» «removal_list» addresses states owners «free_map» active updating images line used;
     }
         ≡ applyAll sizes (now (requests .entry)) (now (answers .entry))
-        (allEntered (framesOf frames lent) pool records numbers accounts maps limits
+        (allEntered (framesOf frames lent) pool records numbers accounts maps limits parents
         «frame_words» «free_queue» «removal_list» addresses states owners «free_map» active updating images line used) ⌝ }
 {
     let n = request_count(requests.len(), answers.len());
@@ -147,6 +150,7 @@ pub fn apply_all(
         accounts,
         maps,
         limits,
+        parents,
         frame_words,
         free_queue,
         removal_list,
@@ -180,6 +184,7 @@ pub fn apply_all(
         accounts,
         maps,
         limits,
+        parents,
         frame_words,
         free_queue,
         removal_list,

@@ -27,6 +27,7 @@ pub fn turn(
     accounts: &mut [u16],
     maps: &mut [u16],
     limits: &mut [u16],
+    parents: &[u16],
     frame_words: &mut [u32],
     free_queue: &mut [u16],
     removal_list: &mut [u16],
@@ -41,18 +42,18 @@ pub fn turn(
     used: &mut [u16],
 ) -> Pooled
     requires { ⌜ (5 * k + 4 < length (now requests)) × (2 * k + 1 < length (now answers)) × Kept sizes
-        (allGiven (take (sizes .frames) (held .frames)) (held .pool) records numbers accounts maps limits
+        (allGiven (take (sizes .frames) (held .frames)) (held .pool) records numbers accounts maps limits parents
         «frame_words» «free_queue» «removal_list» addresses states owners «free_map» active updating images line used) ⌝ }
     ensures { λ r. ⌜ record {
       answer = r .answer;
       answers = now (answers .exit);
-      left = allLeft (take (sizes .frames) (r .frames)) (r .pool) records numbers accounts maps limits
+      left = allLeft (take (sizes .frames) (r .frames)) (r .pool) records numbers accounts maps limits parents
           «frame_words» «free_queue» «removal_list» addresses states owners «free_map» active updating images line used;
     }
         ≡ turned sizes (now (requests .entry)) k (record {
           answer = held .answer;
           answers = now (answers .entry);
-          left = allEntered (take (sizes .frames) (held .frames)) (held .pool) records numbers accounts maps limits
+          left = allEntered (take (sizes .frames) (held .frames)) (held .pool) records numbers accounts maps limits parents
               «frame_words» «free_queue» «removal_list» addresses states owners «free_map» active updating images line used;
         }) ⌝ }
 {
@@ -81,6 +82,7 @@ pub fn turn(
         accounts,
         maps,
         limits,
+        parents,
         frame_words,
         free_queue,
         removal_list,

@@ -5,6 +5,7 @@ ghost use Rattle.model.specs.Lent.{allGiven, allEntered, allLeft};
 ghost use Rattle.model.specs.Own.{own, leaves};
 ghost use Rattle.model.specs.Pool.{taken, deposited};
 ghost use Rattle.dispatch.specs.Kept.{Kept};
+use dispatch::account_event::account_event;
 use dispatch::design_event::design_event;
 use dispatch::page_event::page_event;
 use dispatch::writeback_event::writeback_event;
@@ -26,6 +27,7 @@ pub fn carry(
     accounts: &mut [u16],
     maps: &mut [u16],
     limits: &mut [u16],
+    parents: &[u16],
     frame_words: &mut [u32],
     free_queue: &mut [u16],
     removal_list: &mut [u16],
@@ -40,13 +42,13 @@ pub fn carry(
     used: &mut [u16],
 ) -> Applied
     requires { ⌜ Kept sizes
-        (allGiven (take (sizes .frames) frames) pool records numbers accounts maps limits
+        (allGiven (take (sizes .frames) frames) pool records numbers accounts maps limits parents
         «frame_words» «free_queue» «removal_list» addresses states owners «free_map» active updating images line used) ⌝ }
     ensures { λ r. ⌜ leaves (r .answer)
-        (allLeft (take (sizes .frames) (r .frames)) (deposited (r .deposited) (taken sizes (r .taken) pool)) records numbers accounts maps limits
+        (allLeft (take (sizes .frames) (r .frames)) (deposited (r .deposited) (taken sizes (r .taken) pool)) records numbers accounts maps limits parents
         «frame_words» «free_queue» «removal_list» addresses states owners «free_map» active updating images line used)
         ≡ own sizes
-        (allEntered (take (sizes .frames) frames) pool records numbers accounts maps limits
+        (allEntered (take (sizes .frames) frames) pool records numbers accounts maps limits parents
         «frame_words» «free_queue» «removal_list» addresses states owners «free_map» active updating images line used) event ⌝ }
 {
     match event {
@@ -61,6 +63,38 @@ pub fn carry(
                 accounts,
                 maps,
                 limits,
+                parents,
+                frame_words,
+                free_queue,
+                removal_list,
+                addresses,
+                states,
+                owners,
+                free_map,
+                active,
+                updating,
+                images,
+                used,
+            );
+            Applied {
+                frames,
+                taken: 0,
+                deposited: 0,
+                answer,
+            }
+        }
+        Event::Account(e) => {
+            let answer = account_event(
+                sizes,
+                e,
+                frames,
+                pool,
+                records,
+                numbers,
+                accounts,
+                maps,
+                limits,
+                parents,
                 frame_words,
                 free_queue,
                 removal_list,
@@ -90,6 +124,7 @@ pub fn carry(
             accounts,
             maps,
             limits,
+            parents,
             frame_words,
             free_queue,
             removal_list,
@@ -112,6 +147,7 @@ pub fn carry(
             accounts,
             maps,
             limits,
+            parents,
             frame_words,
             free_queue,
             removal_list,
@@ -134,6 +170,7 @@ pub fn carry(
             accounts,
             maps,
             limits,
+            parents,
             frame_words,
             free_queue,
             removal_list,

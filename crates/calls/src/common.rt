@@ -20,6 +20,7 @@ pub fn common(
     accounts: &[u16],
     maps: &[u16],
     limits: &[u16],
+    parents: &[u16],
     frame_words: &[u32],
     free_queue: &[u16],
     removal_list: &[u16],
@@ -34,7 +35,7 @@ pub fn common(
     used: &[u16],
 ) -> u32
     ensures { λ r. ⌜ r ≡ common sizes
-        (allEntered (framesOf frames lent) pool records numbers accounts maps limits
+        (allEntered (framesOf frames lent) pool records numbers accounts maps limits parents
         «frame_words» «free_queue» «removal_list» addresses states owners «free_map» active updating images line used) ⌝ }
 {
     if lent_fit(
@@ -45,6 +46,7 @@ pub fn common(
         accounts,
         maps,
         limits,
+        parents,
         frame_words,
         free_queue,
         removal_list,
@@ -70,6 +72,7 @@ pub fn common(
         accounts,
         maps,
         limits,
+        parents,
         frame_words,
         free_queue,
         removal_list,

@@ -25,6 +25,7 @@ pub fn lent_fit(
     accounts: &[u16],
     maps: &[u16],
     limits: &[u16],
+    parents: &[u16],
     frame_words: &[u32],
     free_queue: &[u16],
     removal_list: &[u16],
@@ -39,7 +40,7 @@ pub fn lent_fit(
     used: &[u16],
 ) -> bool
     ensures { λ r. ⌜ ((frames : List Frame) (pool : Pool) → length frames ≡ lent → r ≡ test (allFit sizes
-        (allEntered frames pool records numbers accounts maps limits
+        (allEntered frames pool records numbers accounts maps limits parents
         «frame_words» «free_queue» «removal_list» addresses states owners «free_map» active updating images line used))) ⌝ }
 {
     all_fit(
@@ -50,6 +51,7 @@ pub fn lent_fit(
         accounts,
         maps,
         limits,
+        parents,
         frame_words,
         free_queue,
         removal_list,
@@ -76,6 +78,7 @@ pub fn lent_rules(
     accounts: &[u16],
     maps: &[u16],
     limits: &[u16],
+    parents: &[u16],
     frame_words: &[u32],
     free_queue: &[u16],
     removal_list: &[u16],
@@ -90,10 +93,10 @@ pub fn lent_rules(
     used: &[u16],
 ) -> bool
     requires { ⌜ Holds (allFit sizes
-        (allGiven (take lent frames) pool records numbers accounts maps limits
+        (allGiven (take lent frames) pool records numbers accounts maps limits parents
         «frame_words» «free_queue» «removal_list» addresses states owners «free_map» active updating images line used)) ⌝ }
     ensures { λ r. ⌜ r ≡ test (allRules sizes
-        (allEntered (take lent frames) pool records numbers accounts maps limits
+        (allEntered (take lent frames) pool records numbers accounts maps limits parents
         «frame_words» «free_queue» «removal_list» addresses states owners «free_map» active updating images line used)) ⌝ }
 {
     let pages = sizes.slots * sizes.pages;
@@ -107,6 +110,7 @@ pub fn lent_rules(
         accounts,
         maps,
         limits,
+        parents,
         frame_words,
         free_queue,
         removal_list,

@@ -22,6 +22,7 @@ use questions::question2::disk_rules;
 use restarts::format::format_tables;
 use restarts::restart::restart_tables;
 use restarts::zero::zero16;
+use rules::slots::parents_ok;
 
 pub mod lent; // questions 1 and 2 with the line
 pub mod common; // questions 1 and 2, as a number
@@ -40,6 +41,7 @@ pub fn apply_core(
     accounts: &mut [u16],
     maps: &mut [u16],
     limits: &mut [u16],
+    parents: &[u16],
     frame_words: &mut [u32],
     free_queue: &mut [u16],
     removal_list: &mut [u16],
@@ -54,10 +56,10 @@ pub fn apply_core(
     used: &mut [u16],
 ) -> Applied
     ensures { λ r. ⌜ leaves (r .answer)
-        (allLeft (framesOf (r .frames) lent) (deposited (r .deposited) (taken sizes (r .taken) pool)) records numbers accounts maps limits
+        (allLeft (framesOf (r .frames) lent) (deposited (r .deposited) (taken sizes (r .taken) pool)) records numbers accounts maps limits parents
         «frame_words» «free_queue» «removal_list» addresses states owners «free_map» active updating images line used)
         ≡ apply sizes
-        (allEntered (framesOf frames lent) pool records numbers accounts maps limits
+        (allEntered (framesOf frames lent) pool records numbers accounts maps limits parents
         «frame_words» «free_queue» «removal_list» addresses states owners «free_map» active updating images line used) request ⌝ }
 {
     let refusal = common(
@@ -70,6 +72,7 @@ pub fn apply_core(
         accounts,
         maps,
         limits,
+        parents,
         frame_words,
         free_queue,
         removal_list,
@@ -115,6 +118,7 @@ pub fn apply_core(
         accounts,
         maps,
         limits,
+        parents,
         frame_words,
         free_queue,
         removal_list,
@@ -141,6 +145,7 @@ pub fn restart_core(
     accounts: &[u16],
     maps: &[u16],
     limits: &[u16],
+    parents: &[u16],
     frame_words: &mut [u32],
     free_queue: &mut [u16],
     removal_list: &mut [u16],
@@ -155,10 +160,10 @@ pub fn restart_core(
     used: &mut [u16],
 ) -> Pooled
     ensures { λ r. ⌜ leaves (r .answer)
-        (allLeft (framesOf (r .frames) lent) (r .pool) records numbers accounts maps limits
+        (allLeft (framesOf (r .frames) lent) (r .pool) records numbers accounts maps limits parents
         «frame_words» «free_queue» «removal_list» addresses states owners «free_map» active updating images line used)
         ≡ restart sizes
-        (allEntered (framesOf frames lent) pool records numbers accounts maps limits
+        (allEntered (framesOf frames lent) pool records numbers accounts maps limits parents
         «frame_words» «free_queue» «removal_list» addresses states owners «free_map» active updating images line used) ⌝ }
 {
     if lent_fit(
@@ -169,6 +174,7 @@ pub fn restart_core(
         accounts,
         maps,
         limits,
+        parents,
         frame_words,
         free_queue,
         removal_list,
@@ -192,7 +198,7 @@ pub fn restart_core(
             answer,
         };
     }
-    if disk_rules(sizes, records, numbers, accounts, maps, limits) {} else {
+    if disk_rules(sizes, records, numbers, accounts, maps, limits, parents) {} else {
         let answer = Answer {
             refusal: 2,
             result: 0,
@@ -208,6 +214,8 @@ pub fn restart_core(
         sizes,
         accounts,
         maps,
+        limits,
+        parents,
         frame_words,
         free_queue,
         removal_list,
@@ -222,25 +230,35 @@ pub fn restart_core(
     )
 }
 
-// Question 1, then all of the disk part zeroed.
+// Question 1, then 3 of the wanted parents; then all of the disk part zeroed but the parents, and these stored.
 pub fn format(
     sizes: Sizes,
+    wanted: &[u16],
     records: &mut [u32],
     numbers: &mut [u32],
     accounts: &mut [u16],
     maps: &mut [u16],
     limits: &mut [u16],
+    parents: &mut [u16],
 ) -> Answer
-    ensures { λ r. ⌜ record { answer = r; left = diskOf (now (records .exit)) (now (numbers .exit)) (now (accounts .exit)) (now (maps .exit)) (now (limits .exit)) }
-        ≡ format sizes (diskOf (now (records .entry)) (now (numbers .entry)) (now (accounts .entry)) (now (maps .entry)) (now (limits .entry))) ⌝ }
+    ensures { λ r. ⌜ record { answer = r; left = diskOf (now (records .exit)) (now (numbers .exit)) (now (accounts .exit)) (now (maps .exit)) (now (limits .exit)) (now (parents .exit)) }
+        ≡ format sizes (now (wanted .entry)) (diskOf (now (records .entry)) (now (numbers .entry)) (now (accounts .entry)) (now (maps .entry)) (now (limits .entry)) (now (parents .entry))) ⌝ }
 {
-    if disk_fit(sizes, records, numbers, accounts, maps, limits) {} else {
+    if disk_fit(sizes, records, numbers, accounts, maps, limits, parents)
+        & (wanted.len() == sizes.accounts)
+    {} else {
         return Answer {
             refusal: 1,
             result: 0,
         };
     }
-    format_tables(records, numbers, accounts, maps, limits);
+    if parents_ok(sizes.accounts, wanted) {} else {
+        return Answer {
+            refusal: 3,
+            result: 0,
+        };
+    }
+    format_tables(records, numbers, accounts, maps, limits, wanted, parents);
     Answer {
         refusal: 0,
         result: 0,

@@ -27,6 +27,7 @@ pub fn place_core(
     accounts: &[u16],
     maps: &[u16],
     limits: &[u16],
+    parents: &[u16],
     frame_words: &[u32],
     free_queue: &[u16],
     removal_list: &[u16],
@@ -41,7 +42,7 @@ pub fn place_core(
     used: &[u16],
 ) -> Part
     ensures { λ r. ⌜ (r ≡ partOf sizes
-        (allEntered (framesOf frames lent) pool records numbers accounts maps limits
+        (allEntered (framesOf frames lent) pool records numbers accounts maps limits parents
         «frame_words» «free_queue» «removal_list» addresses states owners «free_map» active updating images line used) slot page)
         × (r .start + r .count ≤ length (now («frame_words» .entry))) ⌝ }
 {
@@ -55,6 +56,7 @@ pub fn place_core(
         accounts,
         maps,
         limits,
+        parents,
         frame_words,
         free_queue,
         removal_list,
@@ -92,6 +94,7 @@ pub fn look_core<'a>(
     accounts: &[u16],
     maps: &[u16],
     limits: &[u16],
+    parents: &[u16],
     frame_words: &'a [u32],
     free_queue: &[u16],
     removal_list: &[u16],
@@ -105,7 +108,7 @@ pub fn look_core<'a>(
     line: &[u16],
     used: &[u16],
 ) -> &'a [u32]
-    ensures { λ r. ⌜ (let st = allEntered (framesOf frames lent) pool records numbers accounts maps limits
+    ensures { λ r. ⌜ (let st = allEntered (framesOf frames lent) pool records numbers accounts maps limits parents
         «frame_words» «free_queue» «removal_list» addresses states owners «free_map» active updating images line used in
         (now r ≡ look sizes st slot page .left)
         × ((now (refusal .exit) ≡ look sizes st slot page .answer .refusal)
@@ -123,6 +126,7 @@ pub fn look_core<'a>(
         accounts,
         maps,
         limits,
+        parents,
         frame_words,
         free_queue,
         removal_list,

@@ -59,7 +59,7 @@ lost : (z : Sizes) (st : State) (l : Ledger) (junk : Memory) → Holds (memoryLe
 unfolding lose
 lost z st l junk lengths f r d = record {
   fit = record { sizes = f .sizes; disk = f .disk; memory = memory-fit z junk lengths };
-  rules = record { empty-account = r .empty-account; empty-map = r .empty-map; map-fit = r .map-fit; map-once = r .map-once; number-once = r .number-once; account-fit = r .account-fit };
+  rules = record { empty-account = r .empty-account; empty-map = r .empty-map; map-fit = r .map-fit; map-once = r .map-once; number-once = r .number-once; account-fit = r .account-fit; parent-lower = r .parent-lower };
   disk = record { designs = d .designs; listing = d .listing };
   ruled = λ u. absurd u;
   memory = λ u. absurd u;
@@ -131,5 +131,5 @@ demand3-from-pack z pack junk acts sizes disk lengths rules t =
 -- Demand 3, from a finished format.
 pub demand3 : Demand3
 unfolding start unwritten formatted
-demand3 z junk acts sizes lengths t = let w = start z (formatted z) junk in
-    says z (run z w acts) (run-keeps z acts w t (format-good z junk sizes lengths)) (λ i. ap (λ (d : Disk). at (d .maps) i) (same-pack z acts w) ∙ zero-at (allPages z) i)
+demand3 z parents junk acts sizes low lengths t = let w = start z (formatted z parents) junk in
+    says z (run z w acts) (run-keeps z acts w t (format-good z parents junk sizes low lengths)) (λ i. ap (λ (d : Disk). at (d .maps) i) (same-pack z acts w) ∙ zero-at (allPages z) i)

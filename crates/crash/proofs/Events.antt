@@ -1,13 +1,13 @@
 -- Every event, carried out and noted, keeps the invariant of demand 3.
 use Rattle.model.specs.declared.sizes.Sizes.{Sizes}
-use Rattle.model.specs.declared.event.Design.the-variants.{Limit, Create, Delete, Activate, Deactivate}
+use Rattle.model.specs.declared.event.Design.the-variants.{Create, Delete, Activate, Deactivate}
 use Rattle.model.specs.declared.event.Page.the-variants.{Fault, Read, Write, Wire, Unwire}
 use Rattle.model.specs.declared.event.Writeback.the-variants.{Claim, Truncate, Update, PageDone, MapDone}
 use Rattle.model.specs.declared.event.Waiting.the-variants.{Join, Turn}
 use Rattle.model.specs.declared.event.Event.{Event}
 use Rattle.model.specs.declared.event.Event.the-variants as Event
 use Rattle.crash.proofs.Steps.{Step}
-use Rattle.crash.proofs.Quiet.{limit, read, wire, unwire}
+use Rattle.crash.proofs.Quiet.{account, read, wire, unwire}
 use Rattle.crash.proofs.Created.{create, delete}
 use Rattle.crash.proofs.Activated.{activate}
 use Rattle.crash.proofs.Deactivated.{deactivate}
@@ -21,11 +21,11 @@ use Rattle.crash.proofs.MapDone.{mapDone}
 use Rattle.crash.proofs.Waited.{join, turn}
 
 pub steps : (z : Sizes) (e : Event) → Step z e
-steps z (Event.Design (Limit q n)) = limit z q n
 steps z (Event.Design (Create s q n)) = create z s q n
 steps z (Event.Design (Delete s)) = delete z s
 steps z (Event.Design (Activate s)) = activate z s
 steps z (Event.Design (Deactivate s)) = deactivate z s
+steps z (Event.Account e) = account z e
 steps z (Event.Page (Fault s p)) = fault z s p
 steps z (Event.Page (Read s p n)) = read z s p n
 steps z (Event.Page (Write s p n x)) = write z s p n x

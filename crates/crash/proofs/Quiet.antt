@@ -1,4 +1,4 @@
--- Limit, read, wire and unwire: nothing that the ledger tells of changes.
+-- Limit, move, read, wire and unwire: nothing that the ledger tells of changes.
 use mathlib.Core.Path.{refl}
 use mathlib.Core.List.{List}
 use Prim.Native.Nat.{ℕ, _<_}
@@ -6,14 +6,15 @@ use lib.ListN.{set}
 use lib.Seq.{getD-set-same}
 use Rattle.model.specs.declared.frame.Frame.{Frame}
 use Rattle.model.specs.declared.sizes.Sizes.{Sizes}
-use Rattle.model.specs.declared.event.Design.the-variants.{Limit}
+use Rattle.model.specs.declared.event.Account.{Account}
+use Rattle.model.specs.declared.event.Account.the-variants.{Limit, Move}
 use Rattle.model.specs.declared.event.Page.the-variants.{Read, Wire, Unwire}
 use Rattle.model.specs.declared.event.Event.{Event}
 use Rattle.model.specs.declared.event.Event.the-variants as Event
 use Rattle.model.specs.State.{State, frames, noFrame, frameAt, pageOf}
-use Rattle.model.specs.Setters.{onCore, setFrames, setRemovalList}
+use Rattle.model.specs.Setters.{onDisk, onCore, setLimits, setFrames, setRemovalList, counted}
 use Rattle.model.specs.Parts.{frameOf}
-use Rattle.model.specs.Designs
+use Rattle.model.specs.Accounts
 use Rattle.model.specs.Pages
 use Rattle.model.specs.Step.{carried}
 use Rattle.model.specs.Fit.{Fit}
@@ -24,12 +25,18 @@ use Rattle.crash.proofs.Link.{Tied}
 use Rattle.crash.proofs.Steps.{Step}
 use Rattle.crash.proofs.OneFrame.{Alike, one-frame, in-frame-same, other-frame, away-but}
 
-pub limit : (z : Sizes) (q n : ℕ) → Step z (Event.Design (Limit q n))
-unfolding carried fed note Designs.limit
-limit z q n st l b = let k = b .tied in record {
+-- the limits and the counts are nothing to the ledger
+relimited : (z : Sizes) (st : State) (l : Ledger) (limits : List ℕ) → Tied z st l → Tied z (counted z (onDisk (setLimits limits) st)) l
+unfolding counted
+relimited z st l limits k = record {
   disk = record { designs = k .disk .designs; listing = k .disk .listing };
   memory = let m = k .memory in record { named = m .named; begun = m .begun; lives = m .lives; framed = m .framed; away = m .away; filed = m .filed; kept = m .kept };
 }
+
+pub account : (z : Sizes) (e : Account) → Step z (Event.Account e)
+unfolding carried fed note Accounts.limit Accounts.move
+account z (Limit q n) st l b = relimited z st l _ (b .tied)
+account z (Move g t m) st l b = relimited z st l _ (b .tied)
 
 -- one frame's used, wired or initial switch, and the removal list
 module _ (z : Sizes) (st : State) (l : Ledger) (fit : Fit z st) (k : Tied z st l) (f : ℕ) (hf : f < z .frames) (u b c : ℕ) (list : List ℕ) where

@@ -1,6 +1,7 @@
 -- The invariant holds of a pack that keeps the disk rules, so of a formatted disk, whatever the memory holds.
 use mathlib.Core.Path.{_≡_, refl, ap, sym, _∙_}
 use mathlib.Core.Bool.{Bool, true}
+use mathlib.Core.List.{List}
 use mathlib.Core.Logic.{_⊎_, inl, inr}
 use Prim.Native.Nat.{ℕ, zero, suc, _<_, _≤_}
 use native.Mathlib.Decide.{ℕ-discrete}
@@ -16,6 +17,7 @@ use Rattle.tables.specs.Rule.{Holds}
 use Rattle.model.specs.declared.sizes.Sizes.{Sizes}
 use Rattle.model.specs.Sizes.{sizesFit}
 use Rattle.model.specs.State.{Disk, Memory, files}
+use Rattle.model.specs.Rules.{lower}
 use Rattle.model.specs.Ruled as R
 use Rattle.model.specs.Step.{memoryLengths}
 use Rattle.model.specs.Fit.{DiskFit, within, memory-fit}
@@ -89,13 +91,13 @@ start-good z pack junk sizes disk lengths rules = record {
 }
 
 -- a formatted disk
-pub format-good : (z : Sizes) (junk : Memory) → Holds (sizesFit z) → Holds (memoryLengths z junk) → Good z (start z (formatted z) junk)
-format-good z junk sizes lengths = start-good z (formatted z) junk sizes (formatted-fit z) lengths (format-disk z (within z sizes) junk)
+pub format-good : (z : Sizes) (parents : List ℕ) (junk : Memory) → Holds (sizesFit z) → Holds (lower (z .accounts) (at parents)) → Holds (memoryLengths z junk) → Good z (start z (formatted z parents) junk)
+format-good z parents junk sizes low lengths = start-good z (formatted z parents) junk sizes (formatted-fit z parents) lengths (format-disk z (within z sizes) parents low junk)
 
 -- from a format the ledger starts with no design: none is born, and no slot has one
-pub format-unborn : (z : Sizes) → (unwritten z (formatted z) .births ≡ 0) × ((s : ℕ) → unwritten z (formatted z) .design s ≡ 0)
+pub format-unborn : (z : Sizes) (parents : List ℕ) → (unwritten z (formatted z parents) .births ≡ 0) × ((s : ℕ) → unwritten z (formatted z parents) .design s ≡ 0)
 unfolding unwritten formatted
-format-unborn z = (count-none (z .slots) (filled (formatted z)) (λ s h. empty s), λ s. elim (in-pack (formatted z) s) [ inl x ↦ absurd (empty s (rw (x .0) tt)) | inr x ↦ x .1 ])
+format-unborn z parents = (count-none (z .slots) (filled (formatted z parents)) (λ s h. empty s), λ s. elim (in-pack (formatted z parents) s) [ inl x ↦ absurd (empty s (rw (x .0) tt)) | inr x ↦ x .1 ])
   where
-    empty : (s : ℕ) → ¬ (T (filled (formatted z) s))
+    empty : (s : ℕ) → ¬ (T (filled (formatted z parents) s))
     empty s t = rw (eq-eqb (at (replicate (z .slots) 0) s) 0 (zero-at (z .slots) s)) at t

@@ -10,7 +10,7 @@ use Rattle.tables.specs.Rule.{same, _and_, complete}
 use Rattle.tables.specs.Store.{store}
 use Rattle.model.specs.declared.sizes.Sizes.{Sizes}
 use Rattle.model.specs.declared.event.Design.{Design}
-use Rattle.model.specs.declared.event.Design.the-variants.{Limit, Create, Delete, Activate, Deactivate}
+use Rattle.model.specs.declared.event.Design.the-variants.{Create, Delete, Activate, Deactivate}
 use Rattle.model.specs.declared.event.Event.the-variants as Event
 use Rattle.model.specs.Lines.{FILED, LIVE, led, allowed}
 use Rattle.model.specs.State.{State}
@@ -37,10 +37,6 @@ module _ (z : Sizes) (st : State) where
       → _≡_ {A = Outcome State} (record { answer = record { refusal = 0; result = 0 }; left = carried z st (Event.Design d) }) (own z st (Event.Design d))
   unfolding result
   carried-out d n q e = own-yes z st (Event.Design d) n q e
-
-  pub limit-limits : (q n : ℕ) → set (st .disk .limits) q n ≡ carried z st (Event.Design (Limit q n)) .disk .limits
-  unfolding carried Designs.limit
-  limit-limits q n = refl
 
   pub create-numbers : (s q n : ℕ) → set (st .disk .numbers) s n ≡ carried z st (Event.Design (Create s q n)) .disk .numbers
   unfolding carried Designs.create counted

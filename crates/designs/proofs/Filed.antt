@@ -1,5 +1,5 @@
--- Limit, create and delete over the full state: one disk store, and every count as it was.
-use mathlib.Core.Path.{_≡_, refl, sym, subst}
+-- Create and delete over the full state: one disk store, and every count as it was.
+use mathlib.Core.Path.{_≡_, refl, ap, sym, subst}
 use mathlib.Core.Logic.{_⊎_, inl, inr}
 use Prim.Native.Nat.{ℕ, _<_}
 use native.Mathlib.Omega.{arith}
@@ -13,7 +13,8 @@ use Rattle.tables.specs.Questions.{Asked}
 use Rattle.tables.specs.Rule.{test}
 use Rattle.model.specs.declared.sizes.Sizes.{Sizes}
 use Rattle.model.specs.declared.event.Event.the-variants as Event
-use Rattle.model.specs.declared.event.Design.the-variants.{Limit, Create, Delete}
+use Rattle.model.specs.declared.event.Design.the-variants.{Create, Delete}
+use Rattle.model.specs.Payer
 use Rattle.model.specs.State.{State, Files, Frames, files, frames, allPages, slotOf, charged, payer}
 use Rattle.model.specs.Setters.{counted}
 use Rattle.model.specs.Questions.{questions}
@@ -31,7 +32,7 @@ uncounted z v c i off e t = omega (arith, e, ltb→lt 0 (v .map i) (rw (if-no (v
 
 -- a slot takes number and account
 abbrev filedState : State → ℕ → ℕ → ℕ → State
-filedState st s q n = after st (set (st .disk .numbers) s n) (set (st .disk .accounts) s q) (st .disk .limits) (st .memory .held .addresses) (st .memory .held .states) (st .memory .slots .active)
+filedState st s q n = after st (set (st .disk .numbers) s n) (set (st .disk .accounts) s q) (st .memory .held .addresses) (st .memory .held .states) (st .memory .slots .active)
 
 module _ (z : Sizes) (st : State) (f : Fit z st) (r : Ruled z st) where
   abbrev v : Files
@@ -40,28 +41,23 @@ module _ (z : Sizes) (st : State) (f : Fit z st) (r : Ruled z st) where
   -- the slot is inactive and lists nothing
   filed-left : (s q n : ℕ) → ¬ (v .active s ≡ 1) → ((i : ℕ) → i < allPages z → slotOf z i ≡ s → v .map i ≡ 0) → counted z (filedState st s q n) ≡ filedState st s q n
   unfolding payer charged
-  filed-left s q n off zero = counted-kept z st f (r .counts) (set (st .disk .numbers) s n) (set (st .disk .accounts) s q) (st .disk .limits) (st .memory .held .addresses) (st .memory .held .states) (st .memory .slots .active)
+  filed-left s q n off zero = counted-kept z st f (r .counts) (set (st .disk .numbers) s n) (set (st .disk .accounts) s q) (st .memory .held .addresses) (st .memory .held .states) (st .memory .slots .active)
       (λ m h. refl)
       (counts-kept z v (files (filedState st s q n)) (frames st) (frames st) (λ i h. refl) pays)
     where
       pays : (i : ℕ) → i < allPages z → (payer v (slotOf z i) ≡ payer (files (filedState st s q n)) (slotOf z i)) ⊎ (¬ (T (counts z v (frames st) i)))
       pays i h = elim (ℕ-discrete (slotOf z i) s) [
         | yes e ↦ inr (uncounted z v (frames st) i (λ a. off (subst (λ (t : ℕ). v .active t ≡ 1) e a)) (zero i h e))
-        | no e ↦ inl (sym (getD-set-other (st .disk .accounts) s (slotOf z i) q 0 e))
+        | no e ↦ inl (ap (Payer.payer (v .parent) (v .limit)) (sym (getD-set-other (st .disk .accounts) s (slotOf z i) q 0 e)))
       ]
 
-  pub limit-left : (q n : ℕ) → Asked (questions z st (Event.Design (Limit q n))) → carried z st (Event.Design (Limit q n))
-      ≡ after st (st .disk .numbers) (st .disk .accounts) (set (st .disk .limits) q n) (st .memory .held .addresses) (st .memory .held .states) (st .memory .slots .active)
-  unfolding carried Designs.limit
-  limit-left q n a = refl
-
   pub create-left : (s q n : ℕ) → Asked (questions z st (Event.Design (Create s q n))) → carried z st (Event.Design (Create s q n))
-      ≡ after st (set (st .disk .numbers) s n) (set (st .disk .accounts) s q) (st .disk .limits) (st .memory .held .addresses) (st .memory .held .states) (st .memory .slots .active)
+      ≡ after st (set (st .disk .numbers) s n) (set (st .disk .accounts) s q) (st .memory .held .addresses) (st .memory .held .states) (st .memory .slots .active)
   unfolding carried Designs.create
   create-left s q n a = filed-left s q n (λ e. let p : 0 < v .number s = r .records .active-filled s (a .0 .0) e in omega (arith, p, a .1 .0))
       (λ i h e. r .disk .empty-map i h (subst (λ (t : ℕ). v .number t ≡ 0) (sym e) (a .1 .0)))
 
   pub delete-left : (s : ℕ) → Asked (questions z st (Event.Design (Delete s))) → carried z st (Event.Design (Delete s))
-      ≡ after st (set (st .disk .numbers) s 0) (set (st .disk .accounts) s 0) (st .disk .limits) (st .memory .held .addresses) (st .memory .held .states) (st .memory .slots .active)
+      ≡ after st (set (st .disk .numbers) s 0) (set (st .disk .accounts) s 0) (st .memory .held .addresses) (st .memory .held .states) (st .memory .slots .active)
   unfolding carried Designs.delete
   delete-left s a = filed-left s 0 0 (a .1 .1 .1 .0) (λ i h e. of-pages z (f .sizes .pages) s (λ j. v .map j ≡ 0) (a .1 .1 .0) i e)

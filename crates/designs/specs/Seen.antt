@@ -1,15 +1,15 @@
--- The tables that an event about a design or an account reads, as a state: no definition of the event looks at the others.
+-- The tables that an event about a design reads, as a state: no definition of the event looks at the others.
 use mathlib.Core.List.{List, []}
 use Prim.Native.Nat.{ℕ}
 use Rattle.model.specs.declared.frame.Frame.{Frame}
 use Rattle.model.specs.State.{State}
-use Rattle.model.specs.Setters.{onDisk, onCore, onHeld, onSlots, setNumbers, setAccounts, setMaps, setLimits, setFrames, setAddresses, setStates, setOwners, setActive, setUpdating}
+use Rattle.model.specs.Setters.{onDisk, onCore, onHeld, onSlots, setNumbers, setAccounts, setMaps, setFrames, setAddresses, setStates, setOwners, setActive, setUpdating}
 use Rattle.model.specs.Lent.{Table, noState}
 
--- of a limit, a create and a delete: numbers, accounts, maps, limits, active switches
-abbrev pub seenFiles : List ℕ → List ℕ → List ℕ → List ℕ → List ℕ → State
-seenFiles numbers accounts maps limits active =
-    onDisk (λ d. setNumbers numbers (setAccounts accounts (setMaps maps (setLimits limits d)))) (onSlots (setActive active) noState)
+-- of a create and a delete: numbers, accounts, maps, active switches
+abbrev pub seenFiles : List ℕ → List ℕ → List ℕ → List ℕ → State
+seenFiles numbers accounts maps active =
+    onDisk (λ d. setNumbers numbers (setAccounts accounts (setMaps maps d))) (onSlots (setActive active) noState)
 
 -- of an activate and a deactivate: frames, numbers, maps, addresses, states, owners, active and update switches
 abbrev pub seenTurns : List Frame → List ℕ → List ℕ → List ℕ → List ℕ → List ℕ → List ℕ → List ℕ → State
@@ -18,17 +18,13 @@ seenTurns frames numbers maps addresses states owners active updating =
     (onSlots (λ a. setActive active (setUpdating updating a)) noState)))
 
 -- ── as they were passed, by bare names: what the contracts speak of ──
--- to a limit,
-abbrev pub enteredLimit : Table → State
-enteredLimit limits = seenFiles [] [] [] (limits .entry .now) []
-
--- a create,
+-- to a create,
 abbrev pub enteredCreate : Table → Table → State
-enteredCreate numbers accounts = seenFiles (numbers .entry .now) (accounts .entry .now) [] [] []
+enteredCreate numbers accounts = seenFiles (numbers .entry .now) (accounts .entry .now) [] []
 
 -- a delete,
 abbrev pub enteredDelete : Table → Table → Table → Table → State
-enteredDelete numbers accounts maps active = seenFiles (numbers .entry .now) (accounts .entry .now) (maps .entry .now) [] (active .entry .now)
+enteredDelete numbers accounts maps active = seenFiles (numbers .entry .now) (accounts .entry .now) (maps .entry .now) (active .entry .now)
 
 -- an activate
 abbrev pub enteredActivate : Table → Table → Table → Table → Table → Table → State

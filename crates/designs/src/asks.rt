@@ -45,7 +45,7 @@ pub fn number_new(slots: usize, numbers: &[u32], number: u32) -> bool
 
 // Questions 3, 5 and 6.
 pub fn ask_create(sizes: Sizes, slot: usize, account: usize, number: u32, numbers: &[u32]) -> u32
-    ensures { λ r. ⌜ r ≡ firstNo (questions sizes (seenFiles (now (numbers .entry)) [] [] [] []) (Event.Design (Design.Create slot account number))) ⌝ }
+    ensures { λ r. ⌜ r ≡ firstNo (questions sizes (seenFiles (now (numbers .entry)) [] [] []) (Event.Design (Design.Create slot account number))) ⌝ }
 {
     let in_range = (slot < sizes.slots) & ((account < sizes.accounts) & (0 < number));
     if in_range {} else {
@@ -63,7 +63,7 @@ pub fn ask_create(sizes: Sizes, slot: usize, account: usize, number: u32, number
 // Questions 3, 4, 7 and 9.
 pub fn ask_delete(sizes: Sizes, slot: usize, numbers: &[u32], maps: &[u16], active: &[u8]) -> u32
     requires { ⌜ Within sizes ⌝ }
-    ensures { λ r. ⌜ r ≡ firstNo (questions sizes (seenFiles (now (numbers .entry)) [] (now (maps .entry)) [] (now (active .entry))) (Event.Design (Design.Delete slot))) ⌝ }
+    ensures { λ r. ⌜ r ≡ firstNo (questions sizes (seenFiles (now (numbers .entry)) [] (now (maps .entry)) (now (active .entry))) (Event.Design (Design.Delete slot))) ⌝ }
 {
     let no = ask_filled(slot < sizes.slots, slot, numbers);
     if no != 0 {

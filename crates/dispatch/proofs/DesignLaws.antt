@@ -1,4 +1,4 @@
--- The events about a design or an account over all tables: what each requires once questions 1 and 2 said yes, and its outcome by what it ensures of the tables that it sees.
+-- The events about a design over all tables: what each requires once questions 1 and 2 said yes, and its outcome by what it ensures of the tables that it sees.
 use mathlib.Core.Path.{_≡_, refl, sym, _∙_}
 use mathlib.Core.List.{List, []}
 use Prim.Native.Nat.{ℕ}
@@ -18,7 +18,7 @@ use Rattle.model.specs.Own.{own, leaves}
 use Rattle.designs.specs.Seen.{seenFiles, seenTurns}
 use Rattle.designs.specs.Needs.{Turning}
 use Rattle.designs.proofs.Kept.{after}
-use Rattle.designs.proofs.Filed.{limit-left, create-left, delete-left}
+use Rattle.designs.proofs.Filed.{create-left, delete-left}
 use Rattle.designs.proofs.Turned.{activate-left, deactivate-left}
 use Rattle.dispatch.specs.Kept.{Kept}
 use Rattle.dispatch.proofs.Outcomes.{own-by}
@@ -30,44 +30,31 @@ module _ (z : Sizes) (st : State) (k : Kept z st) where
   pub turned-ready : Turning z (st .disk .maps) (st .memory .held .addresses) (st .memory .held .states) (st .memory .held .owners)
   turned-ready = record { sizes = k .fits .sizes; maps-long = k .fits .disk .maps; addresses-long = k .fits .memory .addresses; owners-long = omega (arith, k .fits .memory .states, k .fits .memory .owners) }
 
-  module _ (q n : ℕ) where
-    abbrev limits : Event
-    limits = Event.Design (Design.Limit q n)
-
-    abbrev limit-sees : State
-    limit-sees = seenFiles [] [] [] (st .disk .limits) []
-
-    pub limit-own : {a : Answer} {ls : List ℕ} → a ≡ own z limit-sees limits .answer → ls ≡ own z limit-sees limits .left .disk .limits → leaves a (after st (st .disk .numbers) (st .disk .accounts) ls (st .memory .held .addresses) (st .memory .held .states) (st .memory .slots .active)) ≡ own z st limits
-    unfolding carried result Designs.limit
-    limit-own ea els = own-by z st limit-sees limits refl refl ea
-        (λ o ok. (λ x. after st (st .disk .numbers) (st .disk .accounts) ((els ∙ (λ y. o y .left .disk .limits)) x) (st .memory .held .addresses) (st .memory .held .states) (st .memory .slots .active)) ∙ sym (limit-left z st (k .fits) (k .rules) q n ok))
-        (λ n o. λ x. after st (st .disk .numbers) (st .disk .accounts) ((els ∙ (λ y. o y .left .disk .limits)) x) (st .memory .held .addresses) (st .memory .held .states) (st .memory .slots .active))
-
   module _ (s q n : ℕ) where
     abbrev creates : Event
     creates = Event.Design (Design.Create s q n)
 
     abbrev create-sees : State
-    create-sees = seenFiles (st .disk .numbers) (st .disk .accounts) [] [] []
+    create-sees = seenFiles (st .disk .numbers) (st .disk .accounts) [] []
 
-    pub create-own : {a : Answer} {ns cs : List ℕ} → a ≡ own z create-sees creates .answer → ns ≡ own z create-sees creates .left .disk .numbers → cs ≡ own z create-sees creates .left .disk .accounts → leaves a (after st ns cs (st .disk .limits) (st .memory .held .addresses) (st .memory .held .states) (st .memory .slots .active)) ≡ own z st creates
+    pub create-own : {a : Answer} {ns cs : List ℕ} → a ≡ own z create-sees creates .answer → ns ≡ own z create-sees creates .left .disk .numbers → cs ≡ own z create-sees creates .left .disk .accounts → leaves a (after st ns cs (st .memory .held .addresses) (st .memory .held .states) (st .memory .slots .active)) ≡ own z st creates
     unfolding carried result Designs.create counted
     create-own ea ens ecs = own-by z st create-sees creates refl refl ea
-        (λ o ok. (λ x. after st ((ens ∙ (λ y. o y .left .disk .numbers)) x) ((ecs ∙ (λ y. o y .left .disk .accounts)) x) (st .disk .limits) (st .memory .held .addresses) (st .memory .held .states) (st .memory .slots .active)) ∙ sym (create-left z st (k .fits) (k .rules) s q n ok))
-        (λ n o. λ x. after st ((ens ∙ (λ y. o y .left .disk .numbers)) x) ((ecs ∙ (λ y. o y .left .disk .accounts)) x) (st .disk .limits) (st .memory .held .addresses) (st .memory .held .states) (st .memory .slots .active))
+        (λ o ok. (λ x. after st ((ens ∙ (λ y. o y .left .disk .numbers)) x) ((ecs ∙ (λ y. o y .left .disk .accounts)) x) (st .memory .held .addresses) (st .memory .held .states) (st .memory .slots .active)) ∙ sym (create-left z st (k .fits) (k .rules) s q n ok))
+        (λ n o. λ x. after st ((ens ∙ (λ y. o y .left .disk .numbers)) x) ((ecs ∙ (λ y. o y .left .disk .accounts)) x) (st .memory .held .addresses) (st .memory .held .states) (st .memory .slots .active))
 
   module _ (s : ℕ) where
     abbrev deletes : Event
     deletes = Event.Design (Design.Delete s)
 
     abbrev delete-sees : State
-    delete-sees = seenFiles (st .disk .numbers) (st .disk .accounts) (st .disk .maps) [] (st .memory .slots .active)
+    delete-sees = seenFiles (st .disk .numbers) (st .disk .accounts) (st .disk .maps) (st .memory .slots .active)
 
-    pub delete-own : {a : Answer} {ns cs : List ℕ} → a ≡ own z delete-sees deletes .answer → ns ≡ own z delete-sees deletes .left .disk .numbers → cs ≡ own z delete-sees deletes .left .disk .accounts → leaves a (after st ns cs (st .disk .limits) (st .memory .held .addresses) (st .memory .held .states) (st .memory .slots .active)) ≡ own z st deletes
+    pub delete-own : {a : Answer} {ns cs : List ℕ} → a ≡ own z delete-sees deletes .answer → ns ≡ own z delete-sees deletes .left .disk .numbers → cs ≡ own z delete-sees deletes .left .disk .accounts → leaves a (after st ns cs (st .memory .held .addresses) (st .memory .held .states) (st .memory .slots .active)) ≡ own z st deletes
     unfolding carried result Designs.delete counted
     delete-own ea ens ecs = own-by z st delete-sees deletes refl refl ea
-        (λ o ok. (λ x. after st ((ens ∙ (λ y. o y .left .disk .numbers)) x) ((ecs ∙ (λ y. o y .left .disk .accounts)) x) (st .disk .limits) (st .memory .held .addresses) (st .memory .held .states) (st .memory .slots .active)) ∙ sym (delete-left z st (k .fits) (k .rules) s ok))
-        (λ n o. λ x. after st ((ens ∙ (λ y. o y .left .disk .numbers)) x) ((ecs ∙ (λ y. o y .left .disk .accounts)) x) (st .disk .limits) (st .memory .held .addresses) (st .memory .held .states) (st .memory .slots .active))
+        (λ o ok. (λ x. after st ((ens ∙ (λ y. o y .left .disk .numbers)) x) ((ecs ∙ (λ y. o y .left .disk .accounts)) x) (st .memory .held .addresses) (st .memory .held .states) (st .memory .slots .active)) ∙ sym (delete-left z st (k .fits) (k .rules) s ok))
+        (λ n o. λ x. after st ((ens ∙ (λ y. o y .left .disk .numbers)) x) ((ecs ∙ (λ y. o y .left .disk .accounts)) x) (st .memory .held .addresses) (st .memory .held .states) (st .memory .slots .active))
 
   module _ (s : ℕ) where
     abbrev activates : Event
@@ -78,11 +65,11 @@ module _ (z : Sizes) (st : State) (k : Kept z st) where
 
     pub activate-own : {a : Answer} {ads ss ac : List ℕ} → a ≡ own z activate-sees activates .answer → ads ≡ own z activate-sees activates .left .memory .held .addresses → ss ≡
         own z activate-sees activates .left .memory .held .states → ac ≡ own z activate-sees activates .left .memory .slots .active → leaves a (after st (st .disk .numbers) (st .disk .accounts)
-        (st .disk .limits) ads ss ac) ≡ own z st activates
+        ads ss ac) ≡ own z st activates
     unfolding carried result Designs.activate counted
     activate-own ea eads ess eac = own-by z st activate-sees activates refl refl ea
-        (λ o ok. (λ x. after st (st .disk .numbers) (st .disk .accounts) (st .disk .limits) ((eads ∙ (λ y. o y .left .memory .held .addresses)) x) ((ess ∙ (λ y. o y .left .memory .held .states)) x) ((eac ∙ (λ y. o y .left .memory .slots .active)) x)) ∙ sym (activate-left z st (k .fits) (k .rules) s ok))
-        (λ n o. λ x. after st (st .disk .numbers) (st .disk .accounts) (st .disk .limits) ((eads ∙ (λ y. o y .left .memory .held .addresses)) x) ((ess ∙ (λ y. o y .left .memory .held .states)) x) ((eac ∙ (λ y. o y .left .memory .slots .active)) x))
+        (λ o ok. (λ x. after st (st .disk .numbers) (st .disk .accounts) ((eads ∙ (λ y. o y .left .memory .held .addresses)) x) ((ess ∙ (λ y. o y .left .memory .held .states)) x) ((eac ∙ (λ y. o y .left .memory .slots .active)) x)) ∙ sym (activate-left z st (k .fits) (k .rules) s ok))
+        (λ n o. λ x. after st (st .disk .numbers) (st .disk .accounts) ((eads ∙ (λ y. o y .left .memory .held .addresses)) x) ((ess ∙ (λ y. o y .left .memory .held .states)) x) ((eac ∙ (λ y. o y .left .memory .slots .active)) x))
 
   module _ (s : ℕ) where
     abbrev deactivates : Event
@@ -93,8 +80,8 @@ module _ (z : Sizes) (st : State) (k : Kept z st) where
 
     pub deactivate-own : {a : Answer} {ads ss ac : List ℕ} → a ≡ own z deactivate-sees deactivates .answer → ads ≡ own z deactivate-sees deactivates .left .memory .held .addresses → ss ≡
         own z deactivate-sees deactivates .left .memory .held .states → ac ≡ own z deactivate-sees deactivates .left .memory .slots .active → leaves a (after st (st .disk .numbers)
-        (st .disk .accounts) (st .disk .limits) ads ss ac) ≡ own z st deactivates
+        (st .disk .accounts) ads ss ac) ≡ own z st deactivates
     unfolding carried result Designs.deactivate counted wouldStore
     deactivate-own ea eads ess eac = own-by z st deactivate-sees deactivates refl refl ea
-        (λ o ok. (λ x. after st (st .disk .numbers) (st .disk .accounts) (st .disk .limits) ((eads ∙ (λ y. o y .left .memory .held .addresses)) x) ((ess ∙ (λ y. o y .left .memory .held .states)) x) ((eac ∙ (λ y. o y .left .memory .slots .active)) x)) ∙ sym (deactivate-left z st (k .fits) (k .rules) s ok))
-        (λ n o. λ x. after st (st .disk .numbers) (st .disk .accounts) (st .disk .limits) ((eads ∙ (λ y. o y .left .memory .held .addresses)) x) ((ess ∙ (λ y. o y .left .memory .held .states)) x) ((eac ∙ (λ y. o y .left .memory .slots .active)) x))
+        (λ o ok. (λ x. after st (st .disk .numbers) (st .disk .accounts) ((eads ∙ (λ y. o y .left .memory .held .addresses)) x) ((ess ∙ (λ y. o y .left .memory .held .states)) x) ((eac ∙ (λ y. o y .left .memory .slots .active)) x)) ∙ sym (deactivate-left z st (k .fits) (k .rules) s ok))
+        (λ n o. λ x. after st (st .disk .numbers) (st .disk .accounts) ((eads ∙ (λ y. o y .left .memory .held .addresses)) x) ((ess ∙ (λ y. o y .left .memory .held .states)) x) ((eac ∙ (λ y. o y .left .memory .slots .active)) x))

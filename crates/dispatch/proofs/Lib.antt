@@ -2,6 +2,7 @@
 pub mod Charges
 pub mod Outcomes
 pub mod DesignLaws
+pub mod AccountLaws
 pub mod PageLaws
 pub mod FaultLaws
 pub mod WriteLaws

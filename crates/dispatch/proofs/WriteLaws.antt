@@ -20,7 +20,7 @@ use Rattle.model.specs.declared.frame.Frame.{Frame}
 use Rattle.model.specs.declared.event.Answer.{Answer}
 use Rattle.model.specs.State.{Core, Held, State, Files, Frames, files, frames, noFrame, frameAt, pageOf, slotOf, allPages, framed, woven, charged, payer}
 use Rattle.model.specs.Setters.{onCore, setWords, setUsedSwitch, setModified, counted}
-use Rattle.model.specs.Index.{slot-of-page, slot-below, page-below}
+use Rattle.model.specs.Index.{slot-of-page, page-below}
 use Rattle.model.specs.Parts.{frameOf}
 use Rattle.model.specs.Questions.{questions}
 use Rattle.model.specs.Pages as Pages
@@ -30,6 +30,7 @@ use Rattle.model.specs.Step.{Outcome, outcome, carried, result}
 use Rattle.model.specs.Own.{own, leaves}
 use Rattle.model.specs.OwnLaws.{outcome-no}
 use Rattle.leaves.specs.Counts.{usedCounts, counts-more, counts-same}
+use Rattle.leaves.specs.Payers.{payer-below}
 use Rattle.pages.specs.Seen.{seenWrite}
 use Rattle.pages.specs.Writes.{writing, charged1, usedThen, usedLeft}
 use Rattle.dispatch.specs.Kept.{Kept}
@@ -111,7 +112,7 @@ module _ (z : Sizes) (st : State) (k : Kept z st) (s p w x : ℕ) where
       | no h ↦ ap (λ (b : Bool). if b (st .memory .used) (charged1 (st .memory .used) (payer v s))) (untold (charged z v c i) h)
           ∙ ap (λ (t : ℕ). charged1 (st .memory .used) (payer v t)) (sym its-slot) ∙ ap (λ (l : List ℕ). charged1 l (payer v (slotOf z i))) (used-table z st k)
           ∙ counts-more z v v c (frames written) (λ t. refl) i in-pages (λ j l d. counts-alike z v v c (frames written) j refl refl refl (others j d))
-          (k .rules .disk .account-fit (slotOf z i) (slot-below z (k .fits .sizes .pages) i in-pages))
+          (payer-below z st (k .fits .disk .accounts) (k .rules .disk .account-fit) (k .fits .sizes .accounts) (slotOf z i))
           (λ t. h (sound (charged z v c i) (subst T (counts-active z v c i active) t)))
           (subst T (sym (counts-active z v (frames written) i active)) (complete (charged z v (frames written) i) now))
     ]
@@ -119,17 +120,17 @@ module _ (z : Sizes) (st : State) (k : Kept z st) (s p w x : ℕ) where
   -- ── the outcome ──
   -- the tables that a write sees
   abbrev sees : State
-  sees = seenWrite (core .frames) (st .disk .numbers) (st .disk .accounts) (st .disk .limits) (core .words) (held .addresses) (held .states) (st .memory .slots .active) (st .memory .used)
+  sees = seenWrite (core .frames) (st .disk .numbers) (st .disk .accounts) (st .disk .limits) (st .disk .parents) (core .words) (held .addresses) (held .states) (st .memory .slots .active) (st .memory .used)
 
   pub write-own : {a : Answer} {fs : List Frame} {ws us : List ℕ} → a ≡ own z sees (writing s p w x) .answer → fs ≡ own z sees (writing s p w x) .left .memory .core .frames
       → ws ≡ own z sees (writing s p w x) .left .memory .core .words → us ≡ usedLeft z sees s p w x
-      → leaves a (stateIn (st .memory .line) fs (held .pool) (st .disk .records) (st .disk .numbers) (st .disk .accounts) (st .disk .maps) (st .disk .limits) ws (core .free-queue) (core .removal-list)
+      → leaves a (stateIn (st .memory .line) fs (held .pool) (st .disk .records) (st .disk .numbers) (st .disk .accounts) (st .disk .maps) (st .disk .limits) (st .disk .parents) ws (core .free-queue) (core .removal-list)
       (held .addresses) (held .states) (held .owners) (held .free-map) (st .memory .slots .active) (st .memory .slots .updating) (st .memory .slots .images) us)
       ≡ own z st (writing s p w x)
   unfolding carried result counted Pages.write frameOf usedThen charged payer
   write-own a fs ws us = own-by z st sees (writing s p w x) refl refl a
-      (λ o ok. same-state (fs ∙ (λ t. o t .left .memory .core .frames)) (λ t. record { hand = held .pool .hand; free = k .rules .counts .free t }) refl refl refl refl refl
+      (λ o ok. same-state (fs ∙ (λ t. o t .left .memory .core .frames)) (λ t. record { hand = held .pool .hand; free = k .rules .counts .free t }) refl refl refl refl refl refl
       (ws ∙ (λ t. o t .left .memory .core .words)) refl refl refl refl refl (map-table z st k) refl refl refl
       (us ∙ ap (λ (n : ℕ). outcome n 0 (st .memory .used) (usedThen z st s i) .left) (yes-all (questions z st (writing s p w x)) ok) ∙ used-then ok))
-      (λ h o. same-state (fs ∙ (λ t. o t .left .memory .core .frames)) refl refl refl refl refl refl (ws ∙ (λ t. o t .left .memory .core .words)) refl refl refl refl refl refl refl refl refl
+      (λ h o. same-state (fs ∙ (λ t. o t .left .memory .core .frames)) refl refl refl refl refl refl refl (ws ∙ (λ t. o t .left .memory .core .words)) refl refl refl refl refl refl refl refl refl
       (us ∙ ap (λ (y : Outcome (List ℕ)). y .left) (outcome-no (firstNo (questions z st (writing s p w x))) 0 (st .memory .used) (usedThen z st s i) h)))

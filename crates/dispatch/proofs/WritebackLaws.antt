@@ -51,7 +51,7 @@ module _ (z : Sizes) (st : State) (k : Kept z st) where
   -- ── page done ──
   module _ (f good : ℕ) where
     abbrev done-sees : State
-    done-sees = stateOf (core .frames) noPool (st .disk .records) [] [] [] [] (core .words) (core .free-queue) (core .removal-list) (held .addresses) (held .states) [] [] [] [] [] []
+    done-sees = stateOf (core .frames) noPool (st .disk .records) [] [] [] [] [] (core .words) (core .free-queue) (core .removal-list) (held .addresses) (held .states) [] [] [] [] [] []
 
     abbrev four : State → State
     four t = if (eqb (frames st .frame f .transfer) READING) (if (eqb good 1) (Writeback.readGood z t f) (Writeback.readFailed z t f)) (if (eqb good 1) (Writeback.writeGood z t f) (Writeback.writeFailed z t f))
@@ -61,7 +61,7 @@ module _ (z : Sizes) (st : State) (k : Kept z st) where
     done-same P a b c d = by-two P (eqb (frames st .frame f .transfer) READING) (by-two P (eqb good 1) a b) (by-two P (eqb good 1) c d)
 
     pub page-done-own : {fs : List Frame} {a : Answer} {rs ws fq rl ss : List ℕ} → DoneLeft (own z done-sees (pageDone f good)) (z .frames) fs a rs ws fq rl ss
-        → leaves a (stateIn (st .memory .line) (take (z .frames) fs) (held .pool) rs (st .disk .numbers) (st .disk .accounts) (st .disk .maps) (st .disk .limits) ws fq rl (held .addresses) ss (held .owners) (held .free-map) (slots .active) (slots .updating) (slots .images) (st .memory .used))
+        → leaves a (stateIn (st .memory .line) (take (z .frames) fs) (held .pool) rs (st .disk .numbers) (st .disk .accounts) (st .disk .maps) (st .disk .limits) (st .disk .parents) ws fq rl (held .addresses) ss (held .owners) (held .free-map) (slots .active) (slots .updating) (slots .images) (st .memory .used))
         ≡ own z st (pageDone f good)
     unfolding carried result counted Writeback.pageDone Writeback.readGood Writeback.readFailed Writeback.writeGood Writeback.writeFailed Writeback.storeFrame Writeback.freeFrame
     page-done-own d = own-by z st done-sees (pageDone f good) refl refl (d .answer)
@@ -69,7 +69,7 @@ module _ (z : Sizes) (st : State) (k : Kept z st) where
         (d .frames ∙ (λ y. o y .left .memory .core .frames) ∙ done-same (λ t. t .memory .core .frames) refl refl refl refl)
         refl
         (d .records ∙ (λ y. o y .left .disk .records) ∙ done-same (λ t. t .disk .records) refl refl refl refl)
-        refl refl refl refl
+        refl refl refl refl refl
         (d .words ∙ (λ y. o y .left .memory .core .words) ∙ done-same (λ t. t .memory .core .words) refl refl refl refl)
         (d .free-queue ∙ (λ y. o y .left .memory .core .free-queue) ∙ done-same (λ t. t .memory .core .free-queue) refl refl refl refl)
         (d .removal-list ∙ (λ y. o y .left .memory .core .removal-list) ∙ done-same (λ t. t .memory .core .removal-list) refl refl refl refl)
@@ -81,7 +81,7 @@ module _ (z : Sizes) (st : State) (k : Kept z st) where
         (d .frames ∙ (λ y. o y .left .memory .core .frames))
         refl
         (d .records ∙ (λ y. o y .left .disk .records))
-        refl refl refl refl
+        refl refl refl refl refl
         (d .words ∙ (λ y. o y .left .memory .core .words))
         (d .free-queue ∙ (λ y. o y .left .memory .core .free-queue))
         (d .removal-list ∙ (λ y. o y .left .memory .core .removal-list))
@@ -92,10 +92,10 @@ module _ (z : Sizes) (st : State) (k : Kept z st) where
   -- ── map done ──
   module _ (s good : ℕ) where
     abbrev map-sees : State
-    map-sees = stateOf [] (held .pool) [] (st .disk .numbers) [] (st .disk .maps) [] [] [] [] [] (held .states) (held .owners) (held .free-map) (slots .active) (slots .updating) (slots .images) []
+    map-sees = stateOf [] (held .pool) [] (st .disk .numbers) [] (st .disk .maps) [] [] [] [] [] [] (held .states) (held .owners) (held .free-map) (slots .active) (slots .updating) (slots .images) []
 
     pub map-done-own : {p : Pool} {a : Answer} {ms ss os fm us is : List ℕ} → MapLeft (own z map-sees (mapDone s good)) p a ms ss os fm us is
-        → leaves a (stateIn (st .memory .line) (core .frames) p (st .disk .records) (st .disk .numbers) (st .disk .accounts) ms (st .disk .limits) (core .words) (core .free-queue) (core .removal-list) (held .addresses) ss os fm (slots .active) us is (st .memory .used))
+        → leaves a (stateIn (st .memory .line) (core .frames) p (st .disk .records) (st .disk .numbers) (st .disk .accounts) ms (st .disk .limits) (st .disk .parents) (core .words) (core .free-queue) (core .removal-list) (held .addresses) ss os fm (slots .active) us is (st .memory .used))
         ≡ own z st (mapDone s good)
     unfolding carried result counted Writeback.mapDone Writeback.storeImage Writeback.updateOver
     map-done-own d = own-by z st map-sees (mapDone s good) refl refl (d .answer)
@@ -104,7 +104,7 @@ module _ (z : Sizes) (st : State) (k : Kept z st) where
         (d .pool ∙ (λ y. o y .left .memory .held .pool) ∙ by-two (λ t. counted z t .memory .held .pool) (eqb good 1) refl refl)
         refl refl refl
         (d .maps ∙ (λ y. o y .left .disk .maps) ∙ by-two (λ t. t .disk .maps) (eqb good 1) refl refl)
-        refl refl refl refl refl
+        refl refl refl refl refl refl
         (d .states ∙ (λ y. o y .left .memory .held .states) ∙ by-two (λ t. t .memory .held .states) (eqb good 1) refl refl)
         (d .owners ∙ (λ y. o y .left .memory .held .owners) ∙ by-two (λ t. t .memory .held .owners) (eqb good 1) refl refl)
         (d .free-map ∙ (λ y. o y .left .memory .held .free-map) ∙ by-two (λ t. counted z t .memory .held .free-map) (eqb good 1) refl refl)
@@ -118,7 +118,7 @@ module _ (z : Sizes) (st : State) (k : Kept z st) where
         (d .pool ∙ (λ y. o y .left .memory .held .pool))
         refl refl refl
         (d .maps ∙ (λ y. o y .left .disk .maps))
-        refl refl refl refl refl
+        refl refl refl refl refl refl
         (d .states ∙ (λ y. o y .left .memory .held .states))
         (d .owners ∙ (λ y. o y .left .memory .held .owners))
         (d .free-map ∙ (λ y. o y .left .memory .held .free-map))
@@ -130,14 +130,14 @@ module _ (z : Sizes) (st : State) (k : Kept z st) where
   -- ── update ──
   module _ (s : ℕ) where
     abbrev update-sees : State
-    update-sees = stateOf (core .frames) noPool [] (st .disk .numbers) [] [] [] [] [] [] (held .addresses) (held .states) (held .owners) [] (slots .active) (slots .updating) (slots .images) []
+    update-sees = stateOf (core .frames) noPool [] (st .disk .numbers) [] [] [] [] [] [] [] (held .addresses) (held .states) (held .owners) [] (slots .active) (slots .updating) (slots .images) []
 
     pub update-own : {a : Answer} {ads ss us is : List ℕ} → UpdateLeft (own z update-sees (update s)) a ads ss us is
-        → leaves a (stateIn (st .memory .line) (core .frames) (held .pool) (st .disk .records) (st .disk .numbers) (st .disk .accounts) (st .disk .maps) (st .disk .limits) (core .words) (core .free-queue) (core .removal-list) ads ss (held .owners) (held .free-map) (slots .active) us is (st .memory .used))
+        → leaves a (stateIn (st .memory .line) (core .frames) (held .pool) (st .disk .records) (st .disk .numbers) (st .disk .accounts) (st .disk .maps) (st .disk .limits) (st .disk .parents) (core .words) (core .free-queue) (core .removal-list) ads ss (held .owners) (held .free-map) (slots .active) us is (st .memory .used))
         ≡ own z st (update s)
     unfolding carried result counted Writeback.update wouldStore
     update-own d = own-by z st update-sees (update s) refl refl (d .answer)
-        (λ o ok. same-state refl refl refl refl refl refl refl refl refl refl
+        (λ o ok. same-state refl refl refl refl refl refl refl refl refl refl refl
         (d .addresses ∙ (λ y. o y .left .memory .held .addresses))
         (d .states ∙ (λ y. o y .left .memory .held .states))
         refl refl refl
@@ -145,7 +145,7 @@ module _ (z : Sizes) (st : State) (k : Kept z st) where
         (d .images ∙ (λ y. o y .left .memory .slots .images))
         refl
         ∙ sym (update-left z st (k .fits) (k .rules) s))
-        (λ h o. same-state refl refl refl refl refl refl refl refl refl refl
+        (λ h o. same-state refl refl refl refl refl refl refl refl refl refl refl
         (d .addresses ∙ (λ y. o y .left .memory .held .addresses))
         (d .states ∙ (λ y. o y .left .memory .held .states))
         refl refl refl
@@ -155,16 +155,16 @@ module _ (z : Sizes) (st : State) (k : Kept z st) where
 
   -- ── claim ──
   abbrev claim-sees : State
-  claim-sees = stateOf (core .frames) noPool [] [] (st .disk .accounts) [] [] (core .words) (core .free-queue) (core .removal-list) (held .addresses) (held .states) [] [] [] [] [] (st .memory .used)
+  claim-sees = stateOf (core .frames) noPool [] [] (st .disk .accounts) [] (st .disk .limits) (st .disk .parents) (core .words) (core .free-queue) (core .removal-list) (held .addresses) (held .states) [] [] [] [] [] (st .memory .used)
 
   pub claim-own : {fs : List Frame} {a : Answer} {fq rl ss us : List ℕ} → ClaimLeft z claim-sees fs a fq rl ss us
-      → leaves a (stateIn (st .memory .line) (take (z .frames) fs) (held .pool) (st .disk .records) (st .disk .numbers) (st .disk .accounts) (st .disk .maps) (st .disk .limits) (core .words) fq rl (held .addresses) ss (held .owners) (held .free-map) (slots .active) (slots .updating) (slots .images) us)
+      → leaves a (stateIn (st .memory .line) (take (z .frames) fs) (held .pool) (st .disk .records) (st .disk .numbers) (st .disk .accounts) (st .disk .maps) (st .disk .limits) (st .disk .parents) (core .words) fq rl (held .addresses) ss (held .owners) (held .free-map) (slots .active) (slots .updating) (slots .images) us)
       ≡ own z st claim
   unfolding carried result counted Writeback.claim Writeback.looking Writeback.beginsWrite Writeback.zeros Writeback.freeFrame usedThen payer
   claim-own d = own-by z st claim-sees claim refl refl (d .answer)
       (λ o ok. same-state
       (d .frames ∙ (λ y. o y .left .memory .core .frames) ∙ by-two (λ t. t .memory .core .frames) (Writeback.beginsWrite z st) refl (by-two (λ t. t .memory .core .frames) (eqb (frames st .frame (Writeback.looking z st .taken) .modified) 1) refl refl))
-      refl refl refl refl refl refl refl
+      refl refl refl refl refl refl refl refl
       (d .free-queue ∙ (λ y. o y .left .memory .core .free-queue) ∙ by-two (λ t. t .memory .core .free-queue) (Writeback.beginsWrite z st) refl (by-two (λ t. t .memory .core .free-queue) (eqb (frames st .frame (Writeback.looking z st .taken) .modified) 1) refl refl))
       (d .removal-list ∙ (λ y. o y .left .memory .core .removal-list) ∙ by-two (λ t. t .memory .core .removal-list) (Writeback.beginsWrite z st) refl (by-two (λ t. t .memory .core .removal-list) (eqb (frames st .frame (Writeback.looking z st .taken) .modified) 1) refl refl))
       refl
@@ -174,7 +174,7 @@ module _ (z : Sizes) (st : State) (k : Kept z st) where
       ∙ sym (claim-left z st (k .fits) (k .rules) (ok .0)))
       (λ h o. same-state
       (d .frames ∙ (λ y. o y .left .memory .core .frames))
-      refl refl refl refl refl refl refl
+      refl refl refl refl refl refl refl refl
       (d .free-queue ∙ (λ y. o y .left .memory .core .free-queue))
       (d .removal-list ∙ (λ y. o y .left .memory .core .removal-list))
       refl
@@ -185,16 +185,16 @@ module _ (z : Sizes) (st : State) (k : Kept z st) where
   -- ── truncate ──
   module _ (s n : ℕ) where
     abbrev truncate-sees : State
-    truncate-sees = stateOf (core .frames) noPool [] (st .disk .numbers) (st .disk .accounts) [] [] [] (core .free-queue) (core .removal-list) (held .addresses) (held .states) [] [] (slots .active) [] [] (st .memory .used)
+    truncate-sees = stateOf (core .frames) noPool [] (st .disk .numbers) (st .disk .accounts) [] (st .disk .limits) (st .disk .parents) [] (core .free-queue) (core .removal-list) (held .addresses) (held .states) [] [] (slots .active) [] [] (st .memory .used)
 
     pub truncate-own : {fs : List Frame} {a : Answer} {fq rl ds ss us : List ℕ} → TruncateLeft z truncate-sees s n fs a fq rl ds ss us
-        → leaves a (stateIn (st .memory .line) (take (z .frames) fs) (held .pool) (st .disk .records) (st .disk .numbers) (st .disk .accounts) (st .disk .maps) (st .disk .limits) (core .words) fq rl ds ss (held .owners) (held .free-map) (slots .active) (slots .updating) (slots .images) us)
+        → leaves a (stateIn (st .memory .line) (take (z .frames) fs) (held .pool) (st .disk .records) (st .disk .numbers) (st .disk .accounts) (st .disk .maps) (st .disk .limits) (st .disk .parents) (core .words) fq rl ds ss (held .owners) (held .free-map) (slots .active) (slots .updating) (slots .images) us)
         ≡ own z st (truncate s n)
     unfolding carried result counted Writeback.truncate Writeback.cutFrames frameOf T.usedThen payer charged
     truncate-own d = own-by z st truncate-sees (truncate s n) refl refl (d .answer)
         (λ o ok. same-state
         (d .frames ∙ (λ y. o y .left .memory .core .frames))
-        refl refl refl refl refl refl refl
+        refl refl refl refl refl refl refl refl
         (d .free-queue ∙ (λ y. o y .left .memory .core .free-queue))
         (d .removal-list ∙ (λ y. o y .left .memory .core .removal-list))
         (d .addresses ∙ (λ y. o y .left .memory .held .addresses))
@@ -204,7 +204,7 @@ module _ (z : Sizes) (st : State) (k : Kept z st) where
         ∙ sym (truncate-left z st (k .fits) (k .rules) s n ok))
         (λ h o. same-state
         (d .frames ∙ (λ y. o y .left .memory .core .frames))
-        refl refl refl refl refl refl refl
+        refl refl refl refl refl refl refl refl
         (d .free-queue ∙ (λ y. o y .left .memory .core .free-queue))
         (d .removal-list ∙ (λ y. o y .left .memory .core .removal-list))
         (d .addresses ∙ (λ y. o y .left .memory .held .addresses))

@@ -1,4 +1,4 @@
--- The three families do not look at the waiting line: whatever it is, each of their events asks, answers and does the same, and leaves the line as it was.
+-- The four families do not look at the waiting line: whatever it is, each of their events asks, answers and does the same, and leaves the line as it was.
 use mathlib.Core.Path.{_≡_, refl, ap, sym, _∙_}
 use mathlib.Core.Bool.{Bool, true, false}
 use mathlib.Core.List.{List, []}
@@ -14,7 +14,8 @@ use Rattle.tables.specs.Questions.{firstNo}
 use Rattle.tables.specs.Rule.{Holds, test, same}
 use Rattle.tables.specs.Store.{store}
 use Rattle.model.specs.declared.sizes.Sizes.{Sizes}
-use Rattle.model.specs.declared.event.Design.the-variants.{Limit, Create, Delete, Activate, Deactivate}
+use Rattle.model.specs.declared.event.Design.the-variants.{Create, Delete, Activate, Deactivate}
+use Rattle.model.specs.declared.event.Account.the-variants.{Limit, Move}
 use Rattle.model.specs.declared.event.Page.the-variants.{Fault, Read, Write, Wire, Unwire}
 use Rattle.model.specs.declared.event.Writeback.the-variants.{Claim, Truncate, Update, PageDone, MapDone}
 use Rattle.model.specs.declared.event.Event.{Event}
@@ -26,6 +27,7 @@ use Rattle.model.specs.Setters.{onDisk, onCore, onHeld, onSlots, setStates, set
 use Rattle.model.specs.Parts.{pick}
 use Rattle.model.specs.Questions.{questions, wouldStore}
 use Rattle.model.specs.Designs
+use Rattle.model.specs.Accounts
 use Rattle.model.specs.Pages
 use Rattle.model.specs.Pages.{onFrame, faultFrame, beginRead, serveZeros, takeRecord, fault}
 use Rattle.model.specs.Writeback
@@ -36,9 +38,10 @@ use Rattle.model.specs.Ruled.{Ruled}
 use Rattle.model.specs.Fit.{Fit}
 use Rattle.dispatch.specs.Kept.{Kept}
 
--- the event is of one of the three families
+-- the event is of one of the four families
 abbrev pub Apart : Event → Type 0
 Apart (Event.Design e) = Unit {0}
+Apart (Event.Account e) = Unit {0}
 Apart (Event.Page e) = Unit {0}
 Apart (Event.Writeback e) = Unit {0}
 Apart (Event.Waiting e) = ⊥
@@ -101,12 +104,13 @@ module _ (line : List ℕ) where
         same-counts _ _ (chosen (eqb good 1) (stored st) (failed st) (stored with) (failed with) refl refl)
 
     carried-beside : (e : Event) → Apart e → carried z with e ≡ setLine line (carried z st e)
-    unfolding carried counted wouldStore Designs.limit Designs.create Designs.delete Designs.activate Designs.deactivate Pages.read Pages.write Pages.wire Pages.unwire Writeback.cutFrames Writeback.truncate Writeback.update
-    carried-beside (Event.Design (Limit q n)) a = refl
+    unfolding carried counted wouldStore Accounts.limit Accounts.move Designs.create Designs.delete Designs.activate Designs.deactivate Pages.read Pages.write Pages.wire Pages.unwire Writeback.cutFrames Writeback.truncate Writeback.update
     carried-beside (Event.Design (Create s q n)) a = refl
     carried-beside (Event.Design (Delete s)) a = refl
     carried-beside (Event.Design (Activate s)) a = refl
     carried-beside (Event.Design (Deactivate s)) a = refl
+    carried-beside (Event.Account (Limit q n)) a = refl
+    carried-beside (Event.Account (Move g t m)) a = refl
     carried-beside (Event.Page (Fault s p)) a = fault-beside s p
     carried-beside (Event.Page (Read s p w)) a = refl
     carried-beside (Event.Page (Write s p w x)) a = refl
@@ -121,6 +125,7 @@ module _ (line : List ℕ) where
     result-beside : (e : Event) → Apart e → result z with e ≡ result z st e
     unfolding result faultFrame Pages.wordRead looking
     result-beside (Event.Design e) a = refl
+    result-beside (Event.Account e) a = refl
     result-beside (Event.Page (Fault s p)) a = refl
     result-beside (Event.Page (Read s p w)) a = refl
     result-beside (Event.Page (Write s p w x)) a = refl
@@ -134,12 +139,13 @@ module _ (line : List ℕ) where
 
     -- nor do its questions look at the line
     pub questions-beside : (e : Event) → Apart e → questions z with e ≡ questions z st e
-    unfolding wouldStore
-    questions-beside (Event.Design (Limit q n)) a = refl
+    unfolding wouldStore Accounts.move counted
     questions-beside (Event.Design (Create s q n)) a = refl
     questions-beside (Event.Design (Delete s)) a = refl
     questions-beside (Event.Design (Activate s)) a = refl
     questions-beside (Event.Design (Deactivate s)) a = refl
+    questions-beside (Event.Account (Limit q n)) a = refl
+    questions-beside (Event.Account (Move g t m)) a = refl
     questions-beside (Event.Page (Fault s p)) a = refl
     questions-beside (Event.Page (Read s p w)) a = refl
     questions-beside (Event.Page (Write s p w x)) a = refl
@@ -198,10 +204,10 @@ no-line-long = length-packed LINE []
 pub no-line-ruled : (n : ℕ) → Holds (queueOf LINE n noLine)
 no-line-ruled n = packed-queue LINE n [] (omega arith) (λ x h. absurd (omega (arith, times-nil x, h)))
 
--- with nobody waiting: what the functions of the three families ask
+-- with nobody waiting: what the functions of the four families ask
 pub kept-alone : (z : Sizes) (st : State) → Kept z st → Kept z (setLine noLine st)
 kept-alone z st k = kept-beside noLine z st no-line-long (no-line-ruled (allPages z)) k
 
--- what a function of the three families leaves, with any line
+-- what a function of the four families leaves, with any line
 pub leaves-beside : (line : List ℕ) (z : Sizes) (st : State) (e : Event) → Apart e → (o : Outcome State) → o ≡ own z st e → beside line o ≡ own z (setLine line st) e
 leaves-beside line z st e a o p = ap (beside line) p ∙ sym (own-beside line z st e a)

@@ -1,4 +1,4 @@
-// The events about a design or an account.
+// The events about a design.
 ghost use mathlib.Core.Path.{_≡_};
 ghost use lib.ListN.{take};
 ghost use Rattle.model.specs.declared.event.Event.the-variants as Event;
@@ -9,7 +9,6 @@ use designs::activate::activate;
 use designs::create::create;
 use designs::deactivate::deactivate;
 use designs::delete::delete;
-use designs::limit::limit;
 use model::event::Answer;
 use model::event::Design;
 use model::frame::Frame;
@@ -26,7 +25,8 @@ pub fn design_event(
     numbers: &mut [u32],
     accounts: &mut [u16],
     maps: &[u16],
-    limits: &mut [u16],
+    limits: &[u16],
+    parents: &[u16],
     frame_words: &[u32],
     free_queue: &[u16],
     removal_list: &[u16],
@@ -40,18 +40,17 @@ pub fn design_event(
     used: &[u16],
 ) -> Answer
     requires { ⌜ Kept sizes
-        (given (take (sizes .frames) frames) pool records numbers accounts maps limits
+        (given (take (sizes .frames) frames) pool records numbers accounts maps limits parents
         «frame_words» «free_queue» «removal_list» addresses states owners «free_map» active updating images used) ⌝ }
     ensures { λ r. ⌜ leaves r
-        (left (take (sizes .frames) frames) pool records numbers accounts maps limits
+        (left (take (sizes .frames) frames) pool records numbers accounts maps limits parents
         «frame_words» «free_queue» «removal_list» addresses states owners «free_map» active updating images used)
         ≡ own sizes
-        (entered (take (sizes .frames) frames) pool records numbers accounts maps limits
+        (entered (take (sizes .frames) frames) pool records numbers accounts maps limits parents
         «frame_words» «free_queue» «removal_list» addresses states owners «free_map» active updating images used)
         (Event.Design event) ⌝ }
 {
     match event {
-        Design::Limit { account, pages } => limit(sizes, account, pages, limits),
         Design::Create {
             slot,
             account,

@@ -28,6 +28,7 @@ pub fn page_event(
     accounts: &[u16],
     maps: &[u16],
     limits: &[u16],
+    parents: &[u16],
     frame_words: &mut [u32],
     free_queue: &mut [u16],
     removal_list: &mut [u16],
@@ -41,13 +42,13 @@ pub fn page_event(
     used: &mut [u16],
 ) -> Applied
     requires { ⌜ Kept sizes
-        (given (take (sizes .frames) frames) pool records numbers accounts maps limits
+        (given (take (sizes .frames) frames) pool records numbers accounts maps limits parents
         «frame_words» «free_queue» «removal_list» addresses states owners «free_map» active updating images used) ⌝ }
     ensures { λ r. ⌜ leaves (r .answer)
-        (left (take (sizes .frames) (r .frames)) (deposited (r .deposited) (taken sizes (r .taken) pool)) records numbers accounts maps limits
+        (left (take (sizes .frames) (r .frames)) (deposited (r .deposited) (taken sizes (r .taken) pool)) records numbers accounts maps limits parents
         «frame_words» «free_queue» «removal_list» addresses states owners «free_map» active updating images used)
         ≡ own sizes
-        (entered (take (sizes .frames) frames) pool records numbers accounts maps limits
+        (entered (take (sizes .frames) frames) pool records numbers accounts maps limits parents
         «frame_words» «free_queue» «removal_list» addresses states owners «free_map» active updating images used)
         (Event.Page event) ⌝ }
 {
@@ -93,6 +94,7 @@ pub fn page_event(
             numbers,
             accounts,
             limits,
+            parents,
             frame_words,
             addresses,
             states,

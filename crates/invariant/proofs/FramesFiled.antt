@@ -1,4 +1,4 @@
--- The events that change no frame keep the rules of queues, frames, counts and lengths: create, delete, activate, deactivate, update, map done.
+-- The events that change no frame keep the rules of queues, frames, counts and lengths: limit, move, create, delete, activate, deactivate, update, map done.
 use mathlib.Core.Path.{_≡_, refl, ap, sym, _∙_}
 use mathlib.Core.Logic.{inl, inr}
 use mathlib.Core.List.{List}
@@ -19,8 +19,11 @@ use Rattle.model.specs.declared.event.Writeback.the-variants.{Update, MapDone}
 use Rattle.model.specs.declared.event.Event.the-variants as Event
 use Rattle.model.specs.Lines.{FILED, NULLED, LIVE, RELEASED, LEAVING}
 use Rattle.model.specs.State.{Disk, Held, Slots, State, files, frames, allPages, slotOf}
+use Rattle.model.specs.Setters.{onDisk, setLimits, counted}
 use Rattle.model.specs.Questions.{questions}
 use Rattle.model.specs.Designs
+use Rattle.model.specs.Accounts
+use Rattle.model.specs.AccountLaws.{length-shifted}
 use Rattle.model.specs.Writeback
 use Rattle.model.specs.Ruled.{Ruled}
 use Rattle.model.specs.Fit.{Fit, DiskFit}
@@ -70,9 +73,9 @@ module _ (z : Sizes) (st : State) (f : Fit z st) (r : Ruled z st) where
 
   -- ── create and delete: numbers and accounts ──
   renamed : (numbers accounts : List ℕ) → length numbers ≡ z .slots → length accounts ≡ z .slots
-      → Framing z (refiled (record { records = st .disk .records; numbers = numbers; accounts = accounts; maps = st .disk .maps; limits = st .disk .limits }) (st .memory .held) (st .memory .slots))
+      → Framing z (refiled (record { records = st .disk .records; numbers = numbers; accounts = accounts; maps = st .disk .maps; limits = st .disk .limits; parents = st .disk .parents }) (st .memory .held) (st .memory .slots))
   renamed numbers accounts a b = filed _ (st .memory .held) (st .memory .slots) (λ k l. record { address = λ i e. refl; state = λ i e q x. refl; active = λ i e. refl; words = λ i e q x w lw. refl }) (r .counts .hand)
-      (record { records = f .disk .records; numbers = a; accounts = b; maps = f .disk .maps; limits = f .disk .limits }) (long z st f .held) (long z st f .slots)
+      (record { records = f .disk .records; numbers = a; accounts = b; maps = f .disk .maps; limits = f .disk .limits; parents = f .disk .parents }) (long z st f .held) (long z st f .slots)
 
   pub create-frames : (s q n : ℕ) → Asked (questions z st (Event.Design (Create s q n))) → Framed z (Designs.create z st s q n)
   unfolding Designs.create
@@ -81,6 +84,20 @@ module _ (z : Sizes) (st : State) (f : Fit z st) (r : Ruled z st) where
   pub delete-frames : (s : ℕ) → Asked (questions z st (Event.Design (Delete s))) → Framed z (Designs.delete z st s)
   unfolding Designs.delete
   delete-frames s a = counted-framed z _ (renamed (set (st .disk .numbers) s 0) (set (st .disk .accounts) s 0) (length-set (st .disk .numbers) s 0 ∙ f .disk .numbers) (length-set (st .disk .accounts) s 0 ∙ f .disk .accounts))
+
+  -- ── limit and move: the limits ──
+  relimited : (limits : List ℕ) → length limits ≡ z .accounts → Framed z (counted z (onDisk (setLimits limits) st))
+  relimited limits e = counted-framed z _ (filed (setLimits limits (st .disk)) (st .memory .held) (st .memory .slots)
+      (λ k l. record { address = λ i e. refl; state = λ i e q x. refl; active = λ i e. refl; words = λ i e q x w lw. refl }) (r .counts .hand)
+      (record { records = f .disk .records; numbers = f .disk .numbers; accounts = f .disk .accounts; maps = f .disk .maps; limits = e; parents = f .disk .parents }) (long z st f .held) (long z st f .slots))
+
+  pub limit-frames : (q n : ℕ) → Framed z (Accounts.limit z st q n)
+  unfolding Accounts.limit
+  limit-frames q n = relimited (set (st .disk .limits) q n) (length-set (st .disk .limits) q n ∙ f .disk .limits)
+
+  pub move-frames : (g t m : ℕ) → Framed z (Accounts.move z st g t m)
+  unfolding Accounts.move
+  move-frames g t m = relimited (Accounts.shifted (st .disk .limits) g t m) (length-shifted (st .disk .limits) g t m ∙ f .disk .limits)
 
   -- ── activate and deactivate: a slot of which no page is in a frame ──
   switched : (s x : ℕ) (t u : ℕ → Rule) (g o : ℕ → ℕ) → ((k : ℕ) → k < z .frames → (i : ℕ) → frames st .frame k .page ≡ suc i → ¬ (slotOf z i ≡ s))
@@ -128,7 +145,7 @@ module _ (z : Sizes) (st : State) (f : Fit z st) (r : Ruled z st) where
   -- ── map done ──
   -- the slot's leaving records change, and no page in a frame holds one
   ended : (s : ℕ) (maps : List ℕ) (g : ℕ → ℕ) (owners : List ℕ) → length maps ≡ allPages z → length owners ≡ z .records
-      → Framing z (refiled (record { records = st .disk .records; numbers = st .disk .numbers; accounts = st .disk .accounts; maps = maps; limits = st .disk .limits })
+      → Framing z (refiled (record { records = st .disk .records; numbers = st .disk .numbers; accounts = st .disk .accounts; maps = maps; limits = st .disk .limits; parents = st .disk .parents })
       (record { addresses = st .memory .held .addresses; states = store (st .memory .held .states) (Writeback.leaver z st s) g; owners = owners; free-map = st .memory .held .free-map; pool = st .memory .held .pool })
       (Writeback.updateOver z st s (st .memory .slots)))
   unfolding Writeback.updateOver
@@ -138,7 +155,7 @@ module _ (z : Sizes) (st : State) (f : Fit z st) (r : Ruled z st) where
         state = λ i e q d. unstored (st .memory .held .states) (Writeback.leaver z st s) g q (stated k l i e q d) (λ y. no-other k l i e q d LEAVING (λ x. omega (arith, x)) (λ x. omega (arith, x)) (y .0));
         active = λ i e. refl;
         words = λ i e q d w lw. refl;
-      }) (r .counts .hand) (record { records = f .disk .records; numbers = f .disk .numbers; accounts = f .disk .accounts; maps = lm; limits = f .disk .limits })
+      }) (r .counts .hand) (record { records = f .disk .records; numbers = f .disk .numbers; accounts = f .disk .accounts; maps = lm; limits = f .disk .limits; parents = f .disk .parents })
       (record { addresses = f .memory .addresses; states = length-store (st .memory .held .states) _ _ ∙ f .memory .states; owners = lo })
       (record { active = f .memory .active; updating = length-set (st .memory .slots .updating) s 0 ∙ f .memory .updating; images = length-store (st .memory .slots .images) _ _ ∙ f .memory .images })
 

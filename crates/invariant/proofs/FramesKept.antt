@@ -3,7 +3,8 @@ use mathlib.Core.List.{List}
 use Prim.Native.Nat.{ℕ}
 use Rattle.tables.specs.Questions.{Asked}
 use Rattle.model.specs.declared.sizes.Sizes.{Sizes}
-use Rattle.model.specs.declared.event.Design.the-variants.{Limit, Create, Delete, Activate, Deactivate}
+use Rattle.model.specs.declared.event.Design.the-variants.{Create, Delete, Activate, Deactivate}
+use Rattle.model.specs.declared.event.Account.the-variants.{Limit, Move}
 use Rattle.model.specs.declared.event.Page.the-variants.{Fault, Read, Write, Wire, Unwire}
 use Rattle.model.specs.declared.event.Writeback.the-variants.{Claim, Truncate, Update, PageDone, MapDone}
 use Rattle.model.specs.declared.event.Waiting.the-variants.{Join, Turn}
@@ -19,8 +20,8 @@ use Rattle.model.specs.Fit.{Fit}
 use Rattle.invariant.proofs.Framed.{Framed}
 use Rattle.invariant.proofs.Lengths.{long, long-fit}
 use Rattle.invariant.proofs.LineKept.{Lined, joined-line, by-turn}
-use Rattle.invariant.proofs.FramesServed.{limit-frames, read-frames, write-frames, wire-frames, unwire-frames}
-use Rattle.invariant.proofs.FramesFiled.{create-frames, delete-frames, activate-frames, deactivate-frames, update-frames, map-done-frames}
+use Rattle.invariant.proofs.FramesServed.{read-frames, write-frames, wire-frames, unwire-frames}
+use Rattle.invariant.proofs.FramesFiled.{limit-frames, move-frames, create-frames, delete-frames, activate-frames, deactivate-frames, update-frames, map-done-frames}
 use Rattle.invariant.proofs.FramesFault.{fault-frames}
 use Rattle.invariant.proofs.FramesClaim.{claim-frames}
 use Rattle.invariant.proofs.FramesTruncate.{truncate-frames}
@@ -38,11 +39,12 @@ module _ (z : Sizes) (st : State) (f : Fit z st) (r : Ruled z st) where
 
   pub frames-kept : (e : Event) → Asked (questions z st e) → Framed z (carried z st e)
   unfolding carried Line.join
-  frames-kept (Event.Design (Limit q n)) a = limit-frames z st f r q n a
   frames-kept (Event.Design (Create s q n)) a = create-frames z st f r s q n a
   frames-kept (Event.Design (Delete s)) a = delete-frames z st f r s a
   frames-kept (Event.Design (Activate s)) a = activate-frames z st f r s a
   frames-kept (Event.Design (Deactivate s)) a = deactivate-frames z st f r s a
+  frames-kept (Event.Account (Limit q n)) a = limit-frames z st f r q n
+  frames-kept (Event.Account (Move g t m)) a = move-frames z st f r g t m
   frames-kept (Event.Page (Fault s p)) a = fault-frames z st f r s p a
   frames-kept (Event.Page (Read s p w)) a = read-frames z st f r s p w a
   frames-kept (Event.Page (Write s p w x)) a = write-frames z st f r s p w x a

@@ -1,4 +1,4 @@
--- Limit, read, write, wire and unwire keep the rules of queues, frames, counts and lengths.
+-- Read, write, wire and unwire keep the rules of queues, frames, counts and lengths.
 use mathlib.Core.Path.{_≡_, refl, ap, sym, _∙_}
 use mathlib.Core.Logic.{inl}
 use Prim.Native.Nat.{ℕ, suc, _+_, _*_, _<_}
@@ -14,14 +14,12 @@ use Rattle.tables.specs.Queue.{push-back, remove}
 use Rattle.tables.specs.Questions.{Asked}
 use Rattle.model.specs.declared.sizes.Sizes.{Sizes}
 use Rattle.model.specs.declared.frame.Frame.{Frame}
-use Rattle.model.specs.declared.event.Design.the-variants.{Limit}
 use Rattle.model.specs.declared.event.Page.the-variants.{Read, Write, Wire, Unwire}
 use Rattle.model.specs.declared.event.Event.the-variants as Event
 use Rattle.model.specs.State.{Core, State, files, frames, frameAt, noFrame, NONE, READING, pageOf, framed}
 use Rattle.model.specs.Setters.{onCore, setWords, setRemovalList, setUsedSwitch, setModified, setWired, setInitial}
 use Rattle.model.specs.Questions.{questions}
 use Rattle.model.specs.Parts.{frameOf}
-use Rattle.model.specs.Designs
 use Rattle.model.specs.Pages
 use Rattle.model.specs.Pages.{onFrame}
 use Rattle.model.specs.Ruled.{Ruled, once-list}
@@ -74,16 +72,6 @@ module _ (z : Sizes) (st : State) (f : Fit z st) (r : Ruled z st) where
     -- modified is as it was
     pub switched-framed : g .modified ≡ frames st .frame k .modified → Framed z (onCore (λ c. core) st)
     switched-framed m = core-framed z st core f (r .counts) switched-framing (λ h l. elim (ℕ-discrete h k) [ yes e ↦ rw (e, there) (sym (sw .page), sym m) | no d ↦ rw (elsewhere h d) (refl, refl) ])
-
-  -- Limit touches no table of memory.
-  pub limit-frames : (q n : ℕ) → Asked (questions z st (Event.Design (Limit q n))) → Framed z (Designs.limit z st q n)
-  unfolding Designs.limit
-  limit-frames q n a = record {
-    queues = record { free-queue = r .queues .free-queue; removal-list = r .queues .removal-list };
-    frames = r .frames;
-    counts = record { hand = r .counts .hand; free = r .counts .free; free-map = r .counts .free-map; used = r .counts .used };
-    lengths = record { sizes = f .sizes; disk = record { records = f .disk .records; numbers = f .disk .numbers; accounts = f .disk .accounts; maps = f .disk .maps; limits = length-set (st .disk .limits) q n ∙ f .disk .limits }; memory = f .memory };
-  }
 
   -- ── a page in a frame ──
   module _ (i : ℕ) (in-frame : Holds (framed z (frames st) i)) where

@@ -1,7 +1,9 @@
 -- Every event keeps both sets of rules and all lengths; so do restart and format, and a cut keeps the disk rules.
 use mathlib.Core.Path.{_≡_, refl}
 use mathlib.Core.Bool.{Bool}
+use mathlib.Core.List.{List}
 use Prim.Native.Nat.{ℕ, zero, suc, _+_, _≤_}
+use Rattle.tables.specs.Base.{at}
 use Rattle.tables.specs.Queue.{queueOf, size}
 use Rattle.tables.specs.Questions.{Asked, none, ask, firstNo, all-yes, yes-all}
 use Rattle.tables.specs.Rule.{Holds}
@@ -11,7 +13,7 @@ use Rattle.model.specs.declared.event.Event.{Event}
 use Rattle.model.specs.declared.event.Event.the-variants as Event
 use Rattle.model.specs.Sizes.{sizesFit}
 use Rattle.model.specs.State.{Memory, State, LINE, files, allPages}
-use Rattle.model.specs.Rules.{diskRules, allRules}
+use Rattle.model.specs.Rules.{lower, diskRules, allRules}
 use Rattle.model.specs.Ruled.{OnDisk, Ruled, ruled, rules, disk-ruled, rules-disk}
 use Rattle.model.specs.Questions.{questions}
 use Rattle.model.specs.Restart as R
@@ -82,8 +84,8 @@ restarted z st f d =
     (refl, (let k = restarted-good z st (fit z st f) (disk-ruled z st d) in (all-fit z (R.restarted z (st .disk)) (k .0), rules z (R.restarted z (st .disk)) (k .1))))
 
 -- Format's disk part passes the disk rules, whatever the memory holds.
-pub formatted : (z : Sizes) (m : Memory) → Holds (sizesFit z) → Holds (diskRules z (record { disk = R.formatted z; memory = m }))
-formatted z m h = rules-disk z (record { disk = R.formatted z; memory = m }) (format-disk z (within z h) m)
+pub formatted : (z : Sizes) (parents : List ℕ) (m : Memory) → Holds (sizesFit z) → Holds (lower (z .accounts) (at parents)) → Holds (diskRules z (record { disk = R.formatted z parents; memory = m }))
+formatted z parents m h low = rules-disk z (record { disk = R.formatted z parents; memory = m }) (format-disk z (within z h) parents low m)
 
 -- After a cut with any choice of what lands, the disk part passes the disk rules, whatever the memory holds.
 pub landed : (z : Sizes) (st : State) (writes updates : ℕ → Bool) (m : Memory) → Good z st → Holds (diskRules z (record { disk = A.landed z st writes updates; memory = m }))

@@ -37,5 +37,6 @@ pub mod AfterKept
 pub mod Never
 pub mod Tidy
 pub mod Served
+pub mod LimitsSum
 pub mod EdgesAll
 pub mod Transfer

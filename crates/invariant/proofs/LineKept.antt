@@ -13,7 +13,8 @@ use Rattle.tables.specs.TimesLaws.{times-nil}
 use Rattle.tables.specs.Questions.{Asked}
 use Rattle.tables.specs.Rule.{Holds}
 use Rattle.model.specs.declared.sizes.Sizes.{Sizes}
-use Rattle.model.specs.declared.event.Design.the-variants.{Limit, Create, Delete, Activate, Deactivate}
+use Rattle.model.specs.declared.event.Design.the-variants.{Create, Delete, Activate, Deactivate}
+use Rattle.model.specs.declared.event.Account.the-variants.{Limit, Move}
 use Rattle.model.specs.declared.event.Page.the-variants.{Fault, Read, Write, Wire, Unwire}
 use Rattle.model.specs.declared.event.Writeback.the-variants.{Claim, Truncate, Update, PageDone, MapDone}
 use Rattle.model.specs.declared.event.Waiting.the-variants.{Join, Turn}
@@ -25,6 +26,7 @@ use Rattle.model.specs.Index.{page-below}
 use Rattle.model.specs.Questions.{Turning, nobody, serves, goesBack, faults, claims, sendsAway, nextPage, nextFault, turning, turnQuestions, pageQuestions, questions}
 use Rattle.model.specs.LineLaws.{Treats, back, faulting, treats}
 use Rattle.model.specs.Designs
+use Rattle.model.specs.Accounts
 use Rattle.model.specs.Pages
 use Rattle.model.specs.Writeback
 use Rattle.model.specs.Line
@@ -108,8 +110,9 @@ module _ (z : Sizes) (st : State) where
 
     -- ── every event keeps the rule of the line ──
     pub line-kept : (e : Event) → Asked (questions z st e) → Holds (queueOf LINE (allPages z) (carried z st e .memory .line))
-    unfolding carried counted Designs.limit Designs.create Designs.delete Designs.activate Designs.deactivate Pages.read Pages.write Pages.wire Pages.unwire Writeback.truncate Writeback.update Line.join
-    line-kept (Event.Design (Limit q n)) a = r .line
+    unfolding carried counted Accounts.limit Accounts.move Designs.create Designs.delete Designs.activate Designs.deactivate Pages.read Pages.write Pages.wire Pages.unwire Writeback.truncate Writeback.update Line.join
+    line-kept (Event.Account (Limit q n)) a = r .line
+    line-kept (Event.Account (Move g t m)) a = r .line
     line-kept (Event.Design (Create s q n)) a = r .line
     line-kept (Event.Design (Delete s)) a = r .line
     line-kept (Event.Design (Activate s)) a = r .line

@@ -8,7 +8,8 @@ use Rattle.model.specs.declared.sizes.Sizes.{Sizes}
 use Rattle.model.specs.declared.event.Waiting.the-variants.{Join, Turn}
 use Rattle.model.specs.declared.event.Event.{Event}
 use Rattle.model.specs.declared.event.Event.the-variants as Event
-use Rattle.model.specs.declared.event.Design.the-variants.{Limit, Create, Delete, Activate, Deactivate}
+use Rattle.model.specs.declared.event.Design.the-variants.{Create, Delete, Activate, Deactivate}
+use Rattle.model.specs.declared.event.Account.the-variants.{Limit, Move}
 use Rattle.model.specs.declared.event.Page.the-variants.{Fault, Read, Write, Wire, Unwire}
 use Rattle.model.specs.declared.event.Writeback.the-variants.{Claim, Truncate, Update, PageDone, MapDone}
 use Rattle.model.specs.Lines.{allowed, RELEASED, LEAVING}
@@ -18,6 +19,7 @@ use Rattle.model.specs.Questions.{questions}
 use Rattle.model.specs.Ruled.{Ruled}
 use Rattle.model.specs.Fit.{Fit}
 use Rattle.model.specs.Designs
+use Rattle.model.specs.Accounts
 use Rattle.model.specs.Pages
 use Rattle.model.specs.Line
 use Rattle.model.specs.Step.{carried}
@@ -33,12 +35,13 @@ Moves z st st′ = (r : ℕ) → r < z .records → (files st′ .state r ≡ fi
 
 pub along : (z : Sizes) (st : State) (e : Event) → Fit z st → Ruled z st → Asked (questions z st e) →
     (r : ℕ) → r < z .records → (files (carried z st e) .state r ≡ files st .state r) ⊎ T (allowed (files st .state r) (files (carried z st e) .state r))
-unfolding carried counted Designs.limit Designs.create Designs.delete Pages.read Pages.write Pages.wire Pages.unwire Line.join
-along z st (Event.Design (Limit q n)) f k a = λ r h. inl refl
+unfolding carried counted Accounts.limit Accounts.move Designs.create Designs.delete Pages.read Pages.write Pages.wire Pages.unwire Line.join
 along z st (Event.Design (Create s q n)) f k a = λ r h. inl refl
 along z st (Event.Design (Delete s)) f k a = λ r h. inl refl
 along z st (Event.Design (Activate s)) f k a = turned-moves z (f .sizes .pages) s _ _ _ _ (files st) (k .disk) (k .records) _ _ _ (activate-turned z st f k s a)
 along z st (Event.Design (Deactivate s)) f k a = turned-moves z (f .sizes .pages) s _ _ _ _ (files st) (k .disk) (k .records) _ _ _ (deactivate-turned z st f k s a)
+along z st (Event.Account (Limit q n)) f k a = λ r h. inl refl
+along z st (Event.Account (Move g t m)) f k a = λ r h. inl refl
 along z st (Event.Page (Fault s p)) f k a = fault-done z st f k s p a .1
 along z st (Event.Page (Read s p w)) f k a = λ r h. inl refl
 along z st (Event.Page (Write s p w x)) f k a = λ r h. inl refl

@@ -5,7 +5,7 @@ use mathlib.Core.List.{List, [], _∷_}
 use Prim.Native.Nat.{ℕ, zero, suc, _<_}
 use native.Mathlib.Omega.{arith}
 use lib.Dec.{T, ltb, ltb→lt, lt→ltb}
-use Rattle.tables.specs.Base.{if}
+use Rattle.tables.specs.Base.{at, if}
 use Rattle.tables.specs.Laws.{and-left, and-right}
 use Rattle.tables.specs.Questions.{Questions, ask, none, above, firstNo}
 use Rattle.tables.specs.Rule.{Holds, test, sound}
@@ -13,7 +13,7 @@ use Rattle.model.specs.declared.sizes.Sizes.{Sizes}
 use Rattle.model.specs.declared.event.Event.{Event}
 use Rattle.model.specs.Sizes.{sizesFit}
 use Rattle.model.specs.State.{Disk, Memory, State, files}
-use Rattle.model.specs.Rules.{diskRules, allRules}
+use Rattle.model.specs.Rules.{lower, diskRules, allRules}
 use Rattle.model.specs.Ruled.{ruled, disk-ruled, rules-disk}
 use Rattle.model.specs.Questions.{questions, lookQuestions}
 use Rattle.model.specs.Step.{outcome, diskLengths, memoryLengths, allFit, asked, answer, carried, result, step, restart, look, in-order}
@@ -106,7 +106,7 @@ one z w (cutting writes updates junk) t s = (tt, go (w .up) refl)
       rules = landed z (w .state) writes updates junk g;
       up = λ u. absurd u;
     }
-    go false e = record { sizes = s .sizes; disk = s .disk; memory = sound (memoryLengths z junk) t; rules = rules-disk z _ (disk-alone z (files (w .state)) (disk-ruled z (w .state) (s .rules)) _ _ _ _ _ _); up = λ u. absurd u }
+    go false e = record { sizes = s .sizes; disk = s .disk; memory = sound (memoryLengths z junk) t; rules = rules-disk z _ (disk-alone z (files (w .state)) (disk-ruled z (w .state) (s .rules)) _ _ _ _ _ _ _); up = λ u. absurd u }
 
 pub all-answered : (z : Sizes) (w : World) (acts : List Act) → T (legal z w acts) → Safe z w → AllAnswered z w acts × Safe z (run z w acts)
 unfolding legal run
@@ -120,12 +120,13 @@ pub start-safe : (z : Sizes) (pack : Disk) (junk : Memory) → Holds (sizesFit z
 unfolding start
 start-safe z pack junk f d m r = record { sizes = f; disk = d; memory = m; rules = r; up = λ u. absurd u }
 
-pub format-safe : (z : Sizes) (junk : Memory) → Holds (sizesFit z) → Holds (memoryLengths z junk) → Safe z (start z (R.formatted z) junk)
-format-safe z junk f m = start-safe z (R.formatted z) junk f (fit-disk z (R.formatted z) (formatted-fit z)) m (formatted z junk f)
+pub format-safe : (z : Sizes) (parents : List ℕ) (junk : Memory) → Holds (sizesFit z) → Holds (lower (z .accounts) (at parents)) → Holds (memoryLengths z junk) → Safe z (start z (R.formatted z parents) junk)
+format-safe z parents junk f low m = start-safe z (R.formatted z parents) junk f (fit-disk z (R.formatted z parents) (formatted-fit z parents)) m (formatted z parents junk f low)
 
 pub never-2-from-pack : (z : Sizes) (pack : Disk) (junk : Memory) (acts : List Act) → Holds (sizesFit z) → Holds (diskLengths z pack) → Holds (memoryLengths z junk)
     → Holds (diskRules z (record { disk = pack; memory = junk })) → T (legal z (start z pack junk) acts) → AllAnswered z (start z pack junk) acts
 never-2-from-pack z pack junk acts f d m r t = all-answered z (start z pack junk) acts t (start-safe z pack junk f d m r) .0
 
-pub never-2 : (z : Sizes) (junk : Memory) (acts : List Act) → Holds (sizesFit z) → Holds (memoryLengths z junk) → T (legal z (start z (R.formatted z) junk) acts) → AllAnswered z (start z (R.formatted z) junk) acts
-never-2 z junk acts f m t = all-answered z (start z (R.formatted z) junk) acts t (format-safe z junk f m) .0
+pub never-2 : (z : Sizes) (parents : List ℕ) (junk : Memory) (acts : List Act) → Holds (sizesFit z) → Holds (lower (z .accounts) (at parents)) → Holds (memoryLengths z junk)
+    → T (legal z (start z (R.formatted z parents) junk) acts) → AllAnswered z (start z (R.formatted z parents) junk) acts
+never-2 z parents junk acts f low m t = all-answered z (start z (R.formatted z parents) junk) acts t (format-safe z parents junk f low m) .0

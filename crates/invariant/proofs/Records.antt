@@ -1,18 +1,19 @@
 -- What the events' proofs share about the rules of disk, pages, records and slots: stores, lines, and who owns a listed record.
 use mathlib.Core.Path.{_≡_, sym, _∙_, subst}
 use mathlib.Core.Logic.{_⊎_, inl, inr}
+use mathlib.Core.List.{List}
 use Prim.Native.Nat.{ℕ, suc, _<_}
 use native.Mathlib.Omega.{arith}
 use native.Mathlib.Decide.{ℕ-discrete}
 use lib.Dec.{T}
 use lib.ListN.{length, getD}
-use Rattle.tables.specs.Base.{if}
+use Rattle.tables.specs.Base.{at, if}
 use Rattle.tables.specs.Rule.{Rule, Holds, test, decided, told, untold, complete}
 use Rattle.tables.specs.Store.{Split}
 use Rattle.model.specs.declared.sizes.Sizes.{Sizes}
 use Rattle.model.specs.Lines.{FREE, LIVE, RELEASED, line, lines, led, allowed}
 use Rattle.model.specs.State.{State, Files, files, allPages, slotOf, live}
-use Rattle.model.specs.Setters.{counted}
+use Rattle.model.specs.Setters.{onDisk, setLimits, counted}
 use Rattle.model.specs.Ruled.{OnDisk, OfRecords}
 use Rattle.model.specs.Questions.{wouldStore}
 
@@ -20,11 +21,38 @@ use Rattle.model.specs.Questions.{wouldStore}
 abbrev pub Kept : Sizes → State → Type 0
 Kept z st = OnDisk z (files st) × OfRecords z (files st)
 
--- the disk rules speak of numbers, accounts and maps alone
-pub disk-alone : (z : Sizes) (v : Files) → OnDisk z v → (address′ state′ owner′ active′ updating′ image′ : ℕ → ℕ) →
-    OnDisk z (record { number = v .number; account = v .account; map = v .map; address = address′; state = state′; owner = owner′; active = active′; updating = updating′; image = image′ })
-disk-alone z v d address′ state′ owner′ active′ updating′ image′ =
-    record { empty-account = d .empty-account; empty-map = d .empty-map; map-fit = d .map-fit; map-once = d .map-once; number-once = d .number-once; account-fit = d .account-fit }
+-- the disk rules speak of numbers, accounts, parents and maps alone
+pub disk-alone : (z : Sizes) (v : Files) → OnDisk z v → (limit′ address′ state′ owner′ active′ updating′ image′ : ℕ → ℕ) →
+    OnDisk z (record { number = v .number; account = v .account; limit = limit′; parent = v .parent; map = v .map; address = address′; state = state′; owner = owner′; active = active′; updating = updating′; image = image′ })
+disk-alone z v d limit′ address′ state′ owner′ active′ updating′ image′ =
+    record { empty-account = d .empty-account; empty-map = d .empty-map; map-fit = d .map-fit; map-once = d .map-once; number-once = d .number-once; account-fit = d .account-fit; parent-lower = d .parent-lower }
+
+-- no rule of these looks at the limits
+pub limits-kept : (z : Sizes) (st : State) (limits : List ℕ) → Kept z st → Kept z (onDisk (setLimits limits) st)
+limits-kept z st limits k = (
+  disk-alone z (files st) (k .0) (at limits) _ _ _ _ _ _,
+  (let r = k .1 in record {
+    address-fit = r .address-fit;
+    image-fit = r .image-fit;
+    state-fit = r .state-fit;
+    owner-fit = r .owner-fit;
+    active-fit = r .active-fit;
+    updating-fit = r .updating-fit;
+    held-once = r .held-once;
+    held = r .held;
+    held-by = r .held-by;
+    filed = r .filed;
+    filed-by = r .filed-by;
+    mapped = r .mapped;
+    imaged = r .imaged;
+    image-once = r .image-once;
+    image-zero = r .image-zero;
+    leaving-begun = r .leaving-begun;
+    active-filled = r .active-filled;
+    address-active = r .address-active;
+    update-active = r .update-active;
+  }),
+)
 
 -- ── the lines ──
 -- each record's state stays, or moves along one of the eleven lines

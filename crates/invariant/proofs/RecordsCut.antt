@@ -8,7 +8,7 @@ use native.Mathlib.Omega.{arith}
 use lib.Dec.{T, eqb, eqb→eq, T-not}
 use lib.ListN.{length, length-replicate}
 use Rattle.tables.specs.Base.{at}
-use Rattle.tables.specs.Laws.{if-elim, and-right, last}
+use Rattle.tables.specs.Laws.{if-elim, and-right, last, length-tab}
 use Rattle.tables.specs.Store.{Split, at-store, length-store}
 use Rattle.model.specs.declared.sizes.Sizes.{Sizes}
 use Rattle.model.specs.State.{Disk, Memory, State, Files, files, frames, WRITING, allPages, slotOf}
@@ -21,19 +21,20 @@ use Rattle.model.specs.Fit.{Fit, DiskFit}
 use Rattle.invariant.proofs.Records.{stays}
 use Rattle.invariant.proofs.RecordsLanded.{landed-keeps}
 
-pub formatted-fit : (z : Sizes) → DiskFit z (formatted z)
+pub formatted-fit : (z : Sizes) (parents : List ℕ) → DiskFit z (formatted z parents)
 unfolding formatted
-formatted-fit z = record { records = length-replicate _ 0; numbers = length-replicate _ 0; accounts = length-replicate _ 0; maps = length-replicate _ 0; limits = length-replicate _ 0 }
+formatted-fit z parents = record { records = length-replicate _ 0; numbers = length-replicate _ 0; accounts = length-replicate _ 0; maps = length-replicate _ 0; limits = length-replicate _ 0; parents = length-tab (z .accounts) _ 0 }
 
 module _ (z : Sizes) (st : State) (f : Fit z st) (r : Ruled z st) where
   abbrev v : Files
   v = files st
 
-  -- Numbers, accounts and limits are as they were; the maps of the slots L are their images.
+  -- Numbers, accounts, limits and parents are as they were; the maps of the slots L are their images.
   pub record Cut (L : ℕ → Type 0) (d : Disk) : Type 0 where
     pub numbers : d .numbers ≡ st .disk .numbers
     pub accounts : d .accounts ≡ st .disk .accounts
     pub limits : d .limits ≡ st .disk .limits
+    pub parents : d .parents ≡ st .disk .parents
     pub records : length (d .records) ≡ z .records * z .words
     pub maps : length (d .maps) ≡ allPages z
     pub map : (i : ℕ) → i < allPages z → Split (L (slotOf z i)) (at (d .maps) i) (v .image i) (v .map i)
@@ -41,11 +42,11 @@ module _ (z : Sizes) (st : State) (f : Fit z st) (r : Ruled z st) where
   -- no map lands with a write
   one : (g : ℕ) (d : Disk) → Cut (λ t. ⊥) d → Cut (λ t. ⊥) (storeFrame z st g d)
   unfolding storeFrame
-  one g d c = record { numbers = c .numbers; accounts = c .accounts; limits = c .limits; records = length-store (d .records) _ _ ∙ c .records; maps = c .maps; map = c .map }
+  one g d c = record { numbers = c .numbers; accounts = c .accounts; limits = c .limits; parents = c .parents; records = length-store (d .records) _ _ ∙ c .records; maps = c .maps; map = c .map }
 
   writes-cut : (lands : ℕ → Bool) (n : ℕ) → Cut (λ t. ⊥) (landWrites z st lands n (st .disk))
   unfolding landWrites
-  writes-cut lands zero = record { numbers = refl; accounts = refl; limits = refl; records = f .disk .records; maps = f .disk .maps; map = λ i h. inr (λ e. e, refl) }
+  writes-cut lands zero = record { numbers = refl; accounts = refl; limits = refl; parents = refl; records = f .disk .records; maps = f .disk .maps; map = λ i h. inr (λ e. e, refl) }
   writes-cut lands (suc g) = let c = writes-cut lands g in
       if-elim (Cut (λ t. ⊥)) (lands g && eqb (frames st .frame g .transfer) WRITING) _ _ (λ t. one g (landWrites z st lands g (st .disk)) c) (λ t. c)
 
@@ -58,6 +59,7 @@ module _ (z : Sizes) (st : State) (f : Fit z st) (r : Ruled z st) where
     numbers = k .numbers;
     accounts = k .accounts;
     limits = k .limits;
+    parents = k .parents;
     records = k .records;
     maps = k .maps;
     map = λ i h. elim (k .map i h) [
@@ -72,6 +74,7 @@ module _ (z : Sizes) (st : State) (f : Fit z st) (r : Ruled z st) where
     numbers = k .numbers;
     accounts = k .accounts;
     limits = k .limits;
+    parents = k .parents;
     records = k .records;
     maps = length-store (e .maps) _ _ ∙ k .maps;
     map = λ i h. elim (at-store (e .maps) (ofSlot z s) (v .image) i (rw (k .maps) h)) [
@@ -89,6 +92,7 @@ module _ (z : Sizes) (st : State) (f : Fit z st) (r : Ruled z st) where
     numbers = c .numbers;
     accounts = c .accounts;
     limits = c .limits;
+    parents = c .parents;
     records = c .records;
     maps = c .maps;
     map = λ i h. inr (λ e. omega (arith, e .0), stays (c .map i h) (λ e. e));
@@ -102,17 +106,18 @@ module _ (z : Sizes) (st : State) (f : Fit z st) (r : Ruled z st) where
 
   pub landed-fit : (writes updates : ℕ → Bool) → DiskFit z (landed z st writes updates)
   landed-fit writes updates = let c = landed-cut writes updates in
-      record { records = c .records; numbers = ap length (c .numbers) ∙ f .disk .numbers; accounts = ap length (c .accounts) ∙ f .disk .accounts; maps = c .maps; limits = ap length (c .limits) ∙ f .disk .limits }
+      record { records = c .records; numbers = ap length (c .numbers) ∙ f .disk .numbers; accounts = ap length (c .accounts) ∙ f .disk .accounts; maps = c .maps; limits = ap length (c .limits) ∙ f .disk .limits; parents = ap length (c .parents) ∙ f .disk .parents }
 
   -- the disk rules stay, whatever the memory then holds
   pub cut-disk : (L : ℕ → Type 0) (d : Disk) (m : Memory) → ((t : ℕ) → L t → v .active t ≡ 1) → Cut L d → OnDisk z (files (record { disk = d; memory = m }))
-  cut-disk L d m on c = subst (λ (l : List ℕ). OnDisk z (with l (d .accounts))) (sym (c .numbers)) (subst (λ (l : List ℕ). OnDisk z (with (st .disk .numbers) l)) (sym (c .accounts)) kept)
+  cut-disk L d m on c = subst (λ (l : List ℕ). OnDisk z (with l (d .accounts) (d .parents))) (sym (c .numbers))
+      (subst (λ (l : List ℕ). OnDisk z (with (st .disk .numbers) l (d .parents))) (sym (c .accounts)) (subst (λ (l : List ℕ). OnDisk z (with (st .disk .numbers) (st .disk .accounts) l)) (sym (c .parents)) kept))
     where
-      with : List ℕ → List ℕ → Files
-      with ns qs = files (record { disk = record { records = d .records; numbers = ns; accounts = qs; maps = d .maps; limits = d .limits }; memory = m })
+      with : List ℕ → List ℕ → List ℕ → Files
+      with ns qs ps = files (record { disk = record { records = d .records; numbers = ns; accounts = qs; maps = d .maps; limits = d .limits; parents = ps }; memory = m })
 
-      kept : OnDisk z (with (st .disk .numbers) (st .disk .accounts))
-      kept = landed-keeps z (f .sizes .pages) L v (r .disk) (r .records) (at (d .maps)) (record { on = on; map = c .map }) _ _ _ _ _ _
+      kept : OnDisk z (with (st .disk .numbers) (st .disk .accounts) (st .disk .parents))
+      kept = landed-keeps z (f .sizes .pages) L v (r .disk) (r .records) (at (d .maps)) (record { on = on; map = c .map }) _ _ _ _ _ _ _
 
   pub landed-disk : (writes updates : ℕ → Bool) (m : Memory) → OnDisk z (files (record { disk = landed z st writes updates; memory = m }))
   landed-disk writes updates m = cut-disk _ (landed z st writes updates) m

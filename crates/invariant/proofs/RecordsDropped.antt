@@ -38,7 +38,7 @@ pub record Dropped (z : Sizes) (s x : ℕ) (D B : ℕ → Type 0) (v : Files) (a
 module _ (z : Sizes) (pos : 0 < z .pages) (s x : ℕ) (D B : ℕ → Type 0) (v : Files) (d : OnDisk z v) (k : OfRecords z v) (address′ state′ updating′ image′ : ℕ → ℕ)
     (c : Dropped z s x D B v address′ state′ updating′ image′) where
   abbrev after : Files
-  after = record { number = v .number; account = v .account; map = v .map; address = address′; state = state′; owner = v .owner; active = v .active; updating = updating′; image = image′ }
+  after = record { number = v .number; account = v .account; limit = v .limit; parent = v .parent; map = v .map; address = address′; state = state′; owner = v .owner; active = v .active; updating = updating′; image = image′ }
 
   -- a page that has an address had it before, and its record is not dropped
   still : (i : ℕ) → i < allPages z → (r : ℕ) → address′ i ≡ suc r → (v .address i ≡ suc r) × (state′ r ≡ v .state r)
@@ -92,7 +92,7 @@ module _ (z : Sizes) (pos : 0 < z .pages) (s x : ℕ) (D B : ℕ → Type 0) (v 
 
   pub dropped-keeps : OnDisk z after × OfRecords z after
   dropped-keeps = (
-    disk-alone z v d _ _ _ _ _ _,
+    disk-alone z v d _ _ _ _ _ _ _,
     record {
       address-fit = λ i h r p. k .address-fit i h r (still i h r p .0);
       image-fit = λ i h r p. elim (c .image i h r p) [ inl t ↦ k .address-fit i h r (t .1 .0) | inr t ↦ k .image-fit i h r (t .1) ];

@@ -31,10 +31,10 @@ module _ (z : Sizes) (pos : 0 < z .pages) (L : ℕ → Type 0) (v : Files) (d : 
     ]
   ]
 
-  -- the disk rules speak of numbers, accounts and maps alone: the rest may be anything
-  module _ (address′ state′ owner′ active′ updating′ image′ : ℕ → ℕ) where
+  -- the disk rules speak of numbers, accounts, parents and maps alone: the rest may be anything
+  module _ (limit′ address′ state′ owner′ active′ updating′ image′ : ℕ → ℕ) where
     abbrev after : Files
-    after = record { number = v .number; account = v .account; map = map′; address = address′; state = state′; owner = owner′; active = active′; updating = updating′; image = image′ }
+    after = record { number = v .number; account = v .account; limit = limit′; parent = v .parent; map = map′; address = address′; state = state′; owner = owner′; active = active′; updating = updating′; image = image′ }
 
     pub landed-keeps : OnDisk z after
     landed-keeps = record {
@@ -47,4 +47,5 @@ module _ (z : Sizes) (pos : 0 < z .pages) (L : ℕ → Type 0) (v : Files) (d : 
       map-once = landed-once;
       number-once = d .number-once;
       account-fit = d .account-fit;
+      parent-lower = d .parent-lower;
     }

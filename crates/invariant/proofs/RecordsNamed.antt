@@ -31,7 +31,7 @@ pub record Named (z : Sizes) (s n q : ℕ) (v : Files) (number′ account′ : �
 
 module _ (z : Sizes) (pos : 0 < z .pages) (s n q : ℕ) (v : Files) (d : OnDisk z v) (k : OfRecords z v) (number′ account′ : ℕ → ℕ) (c : Named z s n q v number′ account′) where
   abbrev after : Files
-  after = record { number = number′; account = account′; map = v .map; address = v .address; state = v .state; owner = v .owner; active = v .active; updating = v .updating; image = v .image }
+  after = record { number = number′; account = account′; limit = v .limit; parent = v .parent; map = v .map; address = v .address; state = v .state; owner = v .owner; active = v .active; updating = v .updating; image = v .image }
 
   named-once : Holds (Rules.numberOnce z after)
   named-once i hi j hj m p w = elim (c .number i hi) [
@@ -48,6 +48,7 @@ module _ (z : Sizes) (pos : 0 < z .pages) (s n q : ℕ) (v : Files) (d : OnDisk 
       map-once = d .map-once;
       number-once = named-once;
       account-fit = λ t h. elim (c .account t h) [ inl u ↦ omega (arith, u .1, c .fits) | inr u ↦ omega (arith, u .1, d .account-fit t h) ];
+      parent-lower = d .parent-lower;
     },
     record {
       address-fit = k .address-fit;

@@ -39,7 +39,7 @@ pub record Stored (z : Sizes) (s x : ℕ) (L : ℕ → Type 0) (v : Files) (map�
 module _ (z : Sizes) (pos : 0 < z .pages) (s x : ℕ) (hs : s < z .slots) (L : ℕ → Type 0) (v : Files) (d : OnDisk z v) (k : OfRecords z v) (map′ state′ owner′ updating′ image′ : ℕ → ℕ)
     (c : Stored z s x L v map′ state′ owner′ updating′ image′) where
   abbrev after : Files
-  after = record { number = v .number; account = v .account; map = map′; address = v .address; state = state′; owner = owner′; active = v .active; updating = updating′; image = image′ }
+  after = record { number = v .number; account = v .account; limit = v .limit; parent = v .parent; map = map′; address = v .address; state = state′; owner = owner′; active = v .active; updating = updating′; image = image′ }
 
   -- what is neither free nor released had its state before
   old : (r y : ℕ) → r < z .records → state′ r ≡ y → ¬ (y ≡ FREE) → ¬ (y ≡ RELEASED) → (¬ ((v .state r ≡ LEAVING) × (v .owner r ≡ s))) × (v .state r ≡ y)
@@ -84,7 +84,7 @@ module _ (z : Sizes) (pos : 0 < z .pages) (s x : ℕ) (hs : s < z .slots) (L : �
 
   stored-keeps : OnDisk z after × OfRecords z after
   stored-keeps = (
-    landed-keeps z pos L v d k map′ (record { on = λ t l. subst (λ (u : ℕ). v .active u ≡ 1) (sym (c .only t l)) (c .on); map = c .map }) (v .address) state′ owner′ (v .active) updating′ image′,
+    landed-keeps z pos L v d k map′ (record { on = λ t l. subst (λ (u : ℕ). v .active u ≡ 1) (sym (c .only t l)) (c .on); map = c .map }) (v .limit) (v .address) state′ owner′ (v .active) updating′ image′,
     record {
       address-fit = k .address-fit;
       image-fit = λ i h r p. k .image-fit i h r (elsewhere i h r p .1);

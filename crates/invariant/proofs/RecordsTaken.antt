@@ -31,7 +31,7 @@ pub record Taken (z : Sizes) (i q x : ℕ) (v : Files) (address′ state′ owne
 
 module _ (z : Sizes) (pos : 0 < z .pages) (i q x : ℕ) (v : Files) (d : OnDisk z v) (k : OfRecords z v) (address′ state′ owner′ : ℕ → ℕ) (c : Taken z i q x v address′ state′ owner′) where
   abbrev after : Files
-  after = record { number = v .number; account = v .account; map = v .map; address = address′; state = state′; owner = owner′; active = v .active; updating = v .updating; image = v .image }
+  after = record { number = v .number; account = v .account; limit = v .limit; parent = v .parent; map = v .map; address = address′; state = state′; owner = owner′; active = v .active; updating = v .updating; image = v .image }
 
   -- the record was free, nulled or live
   other : (r y : ℕ) → v .state r ≡ y → ¬ (y ≡ FREE) → ¬ (y ≡ NULLED) → ¬ (y ≡ LIVE) → ¬ (r ≡ q)
@@ -88,7 +88,7 @@ module _ (z : Sizes) (pos : 0 < z .pages) (i q x : ℕ) (v : Files) (d : OnDisk 
 
   taken-keeps : OnDisk z after × OfRecords z after
   taken-keeps = (
-    disk-alone z v d _ _ _ _ _ _,
+    disk-alone z v d _ _ _ _ _ _ _,
     record {
       address-fit = λ j h r p. elim (now j h r p) [ inl t ↦ omega (arith, t .1, c .exists) | inr t ↦ k .address-fit j h r (t .1) ];
       image-fit = k .image-fit;

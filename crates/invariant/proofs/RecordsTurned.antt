@@ -49,7 +49,7 @@ pub record Turned (z : Sizes) (s x y b : ℕ) (new : ℕ → ℕ) (v : Files) (a
 module _ (z : Sizes) (pos : 0 < z .pages) (s x y b : ℕ) (new : ℕ → ℕ) (v : Files) (d : OnDisk z v) (k : OfRecords z v) (address′ state′ active′ : ℕ → ℕ)
     (c : Turned z s x y b new v address′ state′ active′) where
   abbrev after : Files
-  after = record { number = v .number; account = v .account; map = v .map; address = address′; state = state′; owner = v .owner; active = active′; updating = v .updating; image = v .image }
+  after = record { number = v .number; account = v .account; limit = v .limit; parent = v .parent; map = v .map; address = address′; state = state′; owner = v .owner; active = active′; updating = v .updating; image = v .image }
 
   -- filed and live apart, states stay
   keeps : (r w : ℕ) → r < z .records → v .state r ≡ w → ¬ (w ≡ FILED) → ¬ (w ≡ LIVE) → state′ r ≡ w
@@ -131,7 +131,7 @@ module _ (z : Sizes) (pos : 0 < z .pages) (s x y b : ℕ) (new : ℕ → ℕ) (v
 
   pub turned-keeps : OnDisk z after × OfRecords z after
   turned-keeps = (
-    disk-alone z v d _ _ _ _ _ _,
+    disk-alone z v d _ _ _ _ _ _ _,
     record {
       address-fit = λ i h r p. elim (c .address i h) [ inl t ↦ d .map-fit i h r (given i h (t .0) r (sym (t .1) ∙ p) .1) | inr t ↦ k .address-fit i h r (sym (t .1) ∙ p) ];
       image-fit = k .image-fit;

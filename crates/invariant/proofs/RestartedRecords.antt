@@ -2,12 +2,13 @@
 use mathlib.Core.Path.{_≡_, refl, ap, sym, _∙_, subst}
 use mathlib.Core.Bool.{Bool, true, false}
 use mathlib.Core.Logic.{_⊎_, inl, inr}
+use mathlib.Core.List.{List}
 use Prim.Native.Nat.{ℕ, zero, suc, _<_}
 use native.Mathlib.Omega.{arith}
 use lib.Dec.{eqb, eqb→eq}
 use lib.ListN.{replicate}
 use Rattle.tables.specs.Base.{at, if, find}
-use Rattle.tables.specs.Laws.{at-tab0, any-intro, any-elim, found, Found, eq→T}
+use Rattle.tables.specs.Laws.{at-tab0, if-no, any-intro, any-elim, found, Found, eq→T}
 use Rattle.tables.specs.Rule.{Holds}
 use Rattle.model.specs.declared.sizes.Sizes.{Sizes}
 use Rattle.model.specs.Lines.{FREE, FILED, NULLED, LIVE, LEAVING}
@@ -25,16 +26,17 @@ zero-at zero i = refl
 zero-at (suc n) zero = refl
 zero-at (suc n) (suc i) = zero-at n i
 
--- Format zeroes all of the disk part; the memory may hold anything.
-pub format-disk : (z : Sizes) → Within z → (m : Memory) → OnDisk z (files (record { disk = formatted z; memory = m }))
+-- Format zeroes all of the disk part but the parents, and those that it takes are lower; the memory may hold anything.
+pub format-disk : (z : Sizes) → Within z → (parents : List ℕ) → Holds (Rules.lower (z .accounts) (at parents)) → (m : Memory) → OnDisk z (files (record { disk = formatted z parents; memory = m }))
 unfolding formatted
-format-disk z w m = record {
+format-disk z w parents low m = record {
   empty-account = λ s h e. zero-at (z .slots) s;
   empty-map = λ i h e. zero-at (allPages z) i;
   map-fit = λ i h r p. absurd (omega (arith, p, zero-at (allPages z) i));
   map-once = λ i hi j hj r p q. absurd (omega (arith, p, zero-at (allPages z) i));
   number-once = λ i hi j hj r p q. absurd (omega (arith, p, zero-at (z .slots) i));
   account-fit = λ s h. omega (arith, zero-at (z .slots) s, w .accounts);
+  parent-lower = λ a h p. subst (λ (n : ℕ). n < a) (sym (at-tab0 (z .accounts) (λ b. if (eqb b 0) 0 (at parents b)) a 0 h ∙ if-no a 0 0 (at parents a) (λ e. omega (arith, p, e)))) (low a h p);
 }
 
 module _ (z : Sizes) (w : Within z) (st : State) (d : OnDisk z (files st)) where
@@ -110,7 +112,7 @@ module _ (z : Sizes) (w : Within z) (st : State) (d : OnDisk z (files st)) where
 
   restarted-disk : OnDisk z v′
   unfolding restarted counted
-  restarted-disk = disk-alone z v d _ _ _ _ _ _
+  restarted-disk = disk-alone z v d _ _ _ _ _ _ _
 
   same-map : (i : ℕ) → v′ .map i ≡ v .map i
   unfolding restarted counted

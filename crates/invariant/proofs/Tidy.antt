@@ -5,6 +5,7 @@ use mathlib.Core.List.{List, [], _∷_}
 use Prim.Native.Nat.{ℕ, zero, suc}
 use native.Mathlib.Omega.{arith}
 use lib.Dec.{T}
+use Rattle.tables.specs.Base.{at}
 use Rattle.tables.specs.Laws.{and-left, and-right}
 use Rattle.tables.specs.Questions.{Asked}
 use Rattle.tables.specs.Rule.{Holds}
@@ -12,18 +13,20 @@ use Rattle.model.specs.declared.sizes.Sizes.{Sizes}
 use Rattle.model.specs.declared.event.Waiting.the-variants.{Join, Turn}
 use Rattle.model.specs.declared.event.Event.{Event}
 use Rattle.model.specs.declared.event.Event.the-variants as Event
-use Rattle.model.specs.declared.event.Design.the-variants.{Limit, Create, Delete, Activate, Deactivate}
+use Rattle.model.specs.declared.event.Design.the-variants.{Create, Delete, Activate, Deactivate}
+use Rattle.model.specs.declared.event.Account.the-variants.{Limit, Move}
 use Rattle.model.specs.declared.event.Page.the-variants.{Fault, Read, Write, Wire, Unwire}
 use Rattle.model.specs.declared.event.Writeback.the-variants.{Claim, Truncate, Update, PageDone, MapDone}
 use Rattle.model.specs.Lines.{RELEASED, LEAVING}
 use Rattle.model.specs.Sizes.{sizesFit}
 use Rattle.model.specs.State.{Disk, Memory, State, files}
-use Rattle.model.specs.Rules.{diskRules}
+use Rattle.model.specs.Rules.{lower, diskRules}
 use Rattle.model.specs.Setters.{counted}
 use Rattle.model.specs.Questions.{questions}
 use Rattle.model.specs.Ruled.{OnDisk, Ruled, ruled, disk-ruled}
 use Rattle.model.specs.Fit.{Fit, Within, within, fit}
 use Rattle.model.specs.Designs
+use Rattle.model.specs.Accounts
 use Rattle.model.specs.Pages
 use Rattle.model.specs.Writeback
 use Rattle.model.specs.Line
@@ -42,14 +45,15 @@ use Rattle.invariant.proofs.Never.{Safe, safe-fit, one, start-safe, for
 
 -- every event that is carried out keeps it
 tidies : (z : Sizes) (st : State) (e : Event) → Fit z st → Ruled z st → Asked (questions z st e) → Tidied z st → Tidied z (carried z st e)
-unfolding carried counted Designs.limit Designs.create Designs.delete Designs.activate Designs.deactivate Pages.read Pages.write Pages.wire Pages.unwire Writeback.truncate Writeback.update Line.join
-tidies z st (Event.Design (Limit q n)) f k a = λ t. t
+unfolding carried counted Accounts.limit Accounts.move Designs.create Designs.delete Designs.activate Designs.deactivate Pages.read Pages.write Pages.wire Pages.unwire Writeback.truncate Writeback.update Line.join
 tidies z st (Event.Design (Create s q n)) f k a = λ t. t
 tidies z st (Event.Design (Delete s)) f k a = λ t. t
 tidies z st (Event.Design (Activate s)) f k a =
     turned-tidy z (f .sizes .pages) s _ _ _ _ (files st) (k .disk) (k .records) _ _ _ (activate-turned z st f k s a) (λ w. absurd (omega (arith, w .switch)))
 tidies z st (Event.Design (Deactivate s)) f k a =
     turned-tidy z (f .sizes .pages) s _ _ _ _ (files st) (k .disk) (k .records) _ _ _ (deactivate-turned z st f k s a) (λ w r h o e. a .1 .1 .1 .1 .1 .0 .1 r h o (inr e))
+tidies z st (Event.Account (Limit q n)) f k a = λ t. t
+tidies z st (Event.Account (Move g t m)) f k a = λ x. x
 tidies z st (Event.Page (Fault s p)) f k a = fault-done z st f k s p a .2
 tidies z st (Event.Page (Read s p w)) f k a = λ t. t
 tidies z st (Event.Page (Write s p w x)) f k a = λ t. t
@@ -101,7 +105,7 @@ pub always-tidy-from-pack : (z : Sizes) (pack : Disk) (junk : Memory) (acts : Li
 unfolding start
 always-tidy-from-pack z pack junk acts f d m r l = run-tidy z (start z pack junk) acts l (start-safe z pack junk f d m r) (λ u. absurd u)
 
-pub always-tidy : (z : Sizes) (junk : Memory) (acts : List Act) → Holds (sizesFit z) → Holds (memoryLengths z junk) → T (legal z (start z (R.formatted z) junk) acts)
-    → T (run z (start z (R.formatted z) junk) acts .up) → Tidied z (run z (start z (R.formatted z) junk) acts .state)
+pub always-tidy : (z : Sizes) (parents : List ℕ) (junk : Memory) (acts : List Act) → Holds (sizesFit z) → Holds (lower (z .accounts) (at parents)) → Holds (memoryLengths z junk)
+    → T (legal z (start z (R.formatted z parents) junk) acts) → T (run z (start z (R.formatted z parents) junk) acts .up) → Tidied z (run z (start z (R.formatted z parents) junk) acts .state)
 unfolding start
-always-tidy z junk acts f m l = run-tidy z (start z (R.formatted z) junk) acts l (format-safe z junk f m) (λ u. absurd u)
+always-tidy z parents junk acts f low m l = run-tidy z (start z (R.formatted z parents) junk) acts l (format-safe z parents junk f low m) (λ u. absurd u)

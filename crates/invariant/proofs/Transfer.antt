@@ -16,7 +16,8 @@ use Rattle.tables.specs.QueueLaws.{first-once}
 use Rattle.tables.specs.Questions.{Asked, none, ask, firstNo}
 use Rattle.model.specs.declared.sizes.Sizes.{Sizes}
 use Rattle.model.specs.declared.frame.Frame.{Frame}
-use Rattle.model.specs.declared.event.Design.the-variants.{Limit, Create, Delete, Activate, Deactivate}
+use Rattle.model.specs.declared.event.Design.the-variants.{Create, Delete, Activate, Deactivate}
+use Rattle.model.specs.declared.event.Account.the-variants.{Limit, Move}
 use Rattle.model.specs.declared.event.Page.the-variants.{Fault, Read, Write, Wire, Unwire}
 use Rattle.model.specs.declared.event.Writeback.the-variants.{Claim, Truncate, Update, PageDone, MapDone}
 use Rattle.model.specs.declared.event.Waiting.the-variants.{Join, Turn}
@@ -30,6 +31,7 @@ use Rattle.model.specs.Setters.{counted, setUsedSwitch}
 use Rattle.model.specs.Questions.{questions}
 use Rattle.model.specs.Parts.{wordAt, setPart, frameOf}
 use Rattle.model.specs.Designs
+use Rattle.model.specs.Accounts
 use Rattle.model.specs.Pages
 use Rattle.model.specs.Writeback
 use Rattle.model.specs.Line
@@ -194,12 +196,13 @@ module _ (z : Sizes) (st : State) (fits : Fit z st) (r : Ruled z st) (f : ℕ) (
 
   -- ── every event ──
   untouched : (e : Event) → Asked (questions z st e) → NotItsDone f e → Same (carried z st e)
-  unfolding carried counted Designs.limit Designs.create Designs.delete Designs.activate Designs.deactivate Writeback.update Writeback.mapDone Line.join
-  untouched (Event.Design (Limit q n)) a o = same-core z st _ f refl
+  unfolding carried counted Accounts.limit Accounts.move Designs.create Designs.delete Designs.activate Designs.deactivate Writeback.update Writeback.mapDone Line.join
   untouched (Event.Design (Create s q n)) a o = same-core z st _ f refl
   untouched (Event.Design (Delete s)) a o = same-core z st _ f refl
   untouched (Event.Design (Activate s)) a o = same-core z st _ f refl
   untouched (Event.Design (Deactivate s)) a o = same-core z st _ f refl
+  untouched (Event.Account (Limit q n)) a o = same-core z st _ f refl
+  untouched (Event.Account (Move g t m)) a o = same-core z st _ f refl
   untouched (Event.Page (Fault s p)) a o = fault-untouched s p a
   untouched (Event.Page (Read s p w)) a o = read-untouched s p
   untouched (Event.Page (Write s p w x)) a o = write-untouched s p w x a

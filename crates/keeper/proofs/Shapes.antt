@@ -18,7 +18,7 @@ use denote.Exit.{yes}
 
 -- in the order of the list of tables
 abbrev pub EachTable : Type 0 → Type 0
-EachTable X = X × (X × (X × (X × (X × (X × (X × (X × (X × (X × (X × (X × (X × (X × (X × (X × (X × Unit {0}))))))))))))))))
+EachTable X = X × (X × (X × (X × (X × (X × (X × (X × (X × (X × (X × (X × (X × (X × (X × (X × (X × (X × Unit {0})))))))))))))))))
 
 -- n lifetimes: a value; a table of elements R, lent as `&mut` for lifetime j and given up, or lent as `&`
 module _ (n : ℕ) where

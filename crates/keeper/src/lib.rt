@@ -39,6 +39,7 @@ pub extern "C" fn keeper_apply(
     accounts: &mut [u16],
     maps: &mut [u16],
     limits: &mut [u16],
+    parents: &[u16],
     frame_words: &mut [u32],
     free_queue: &mut [u16],
     removal_list: &mut [u16],
@@ -53,10 +54,10 @@ pub extern "C" fn keeper_apply(
     used: &mut [u16],
 ) -> Answer
     ensures { λ r. ⌜ leaves r
-        (allLeft (now (frames .exit)) (now (pool .exit)) records numbers accounts maps limits
+        (allLeft (now (frames .exit)) (now (pool .exit)) records numbers accounts maps limits parents
         «frame_words» «free_queue» «removal_list» addresses states owners «free_map» active updating images line used)
         ≡ apply sizes
-        (allEntered (now (frames .entry)) (now (pool .entry)) records numbers accounts maps limits
+        (allEntered (now (frames .entry)) (now (pool .entry)) records numbers accounts maps limits parents
         «frame_words» «free_queue» «removal_list» addresses states owners «free_map» active updating images line used) request ⌝ }
 {
     let lent = frames.len();
@@ -73,6 +74,7 @@ pub extern "C" fn keeper_apply(
         accounts,
         maps,
         limits,
+        parents,
         frame_words,
         free_queue,
         removal_list,
@@ -106,6 +108,7 @@ pub extern "C" fn keeper_apply_all(
     accounts: &mut [u16],
     maps: &mut [u16],
     limits: &mut [u16],
+    parents: &[u16],
     frame_words: &mut [u32],
     free_queue: &mut [u16],
     removal_list: &mut [u16],
@@ -122,11 +125,11 @@ pub extern "C" fn keeper_apply_all(
     ensures { λ r. ⌜ record {
       answer = r;
       answers = now (answers .exit);
-      left = allLeft (now (frames .exit)) (now (pool .exit)) records numbers accounts maps limits
+      left = allLeft (now (frames .exit)) (now (pool .exit)) records numbers accounts maps limits parents
           «frame_words» «free_queue» «removal_list» addresses states owners «free_map» active updating images line used;
     }
         ≡ applyAll sizes (now (requests .entry)) (now (answers .entry))
-        (allEntered (now (frames .entry)) (now (pool .entry)) records numbers accounts maps limits
+        (allEntered (now (frames .entry)) (now (pool .entry)) records numbers accounts maps limits parents
         «frame_words» «free_queue» «removal_list» addresses states owners «free_map» active updating images line used) ⌝ }
 {
     let lent = frames.len();
@@ -144,6 +147,7 @@ pub extern "C" fn keeper_apply_all(
         accounts,
         maps,
         limits,
+        parents,
         frame_words,
         free_queue,
         removal_list,
@@ -174,6 +178,7 @@ pub extern "C" fn keeper_restart(
     accounts: &[u16],
     maps: &[u16],
     limits: &[u16],
+    parents: &[u16],
     frame_words: &mut [u32],
     free_queue: &mut [u16],
     removal_list: &mut [u16],
@@ -190,10 +195,10 @@ pub extern "C" fn keeper_restart(
     ensures { λ r. ⌜ leaves r
         (allLeft
         (now (frames .exit))
-        (now (pool .exit)) records numbers accounts maps limits
+        (now (pool .exit)) records numbers accounts maps limits parents
         «frame_words» «free_queue» «removal_list» addresses states owners «free_map» active updating images line used)
         ≡ restart sizes
-        (allEntered (now (frames .entry)) (now (pool .entry)) records numbers accounts maps limits
+        (allEntered (now (frames .entry)) (now (pool .entry)) records numbers accounts maps limits parents
         «frame_words» «free_queue» «removal_list» addresses states owners «free_map» active updating images line used) ⌝ }
 {
     let lent = frames.len();
@@ -209,6 +214,7 @@ pub extern "C" fn keeper_restart(
         accounts,
         maps,
         limits,
+        parents,
         frame_words,
         free_queue,
         removal_list,
@@ -227,21 +233,32 @@ pub extern "C" fn keeper_restart(
     fresh.answer
 }
 
-// Format zeroes the disk part.
+// Format zeroes the disk part, and stores the parents that the caller wants.
 // Shut out: two tables lent in each other's place; the limits left as they were.
 #[no_mangle]
 pub extern "C" fn keeper_format(
     sizes: Sizes,
+    wanted: &[u16],
     records: &mut [u32],
     numbers: &mut [u32],
     accounts: &mut [u16],
     maps: &mut [u16],
     limits: &mut [u16],
+    parents: &mut [u16],
 ) -> Answer
-    ensures { λ r. ⌜ record { answer = r; left = diskOf (now (records .exit)) (now (numbers .exit)) (now (accounts .exit)) (now (maps .exit)) (now (limits .exit)) }
-        ≡ format sizes (diskOf (now (records .entry)) (now (numbers .entry)) (now (accounts .entry)) (now (maps .entry)) (now (limits .entry))) ⌝ }
+    ensures { λ r. ⌜ record { answer = r; left = diskOf (now (records .exit)) (now (numbers .exit)) (now (accounts .exit)) (now (maps .exit)) (now (limits .exit)) (now (parents .exit)) }
+        ≡ format sizes (now (wanted .entry)) (diskOf (now (records .entry)) (now (numbers .entry)) (now (accounts .entry)) (now (maps .entry)) (now (limits .entry)) (now (parents .entry))) ⌝ }
 {
-    calls::format(sizes, records, numbers, accounts, maps, limits)
+    calls::format(
+        sizes,
+        wanted,
+        records,
+        numbers,
+        accounts,
+        maps,
+        limits,
+        parents,
+    )
 }
 
 // Mends a disk part that restart turns away, and lists what it changed: slot, page, old entry and reason, four numbers a place.
@@ -254,12 +271,22 @@ pub extern "C" fn keeper_mend(
     accounts: &mut [u16],
     maps: &mut [u16],
     limits: &[u16],
+    parents: &[u16],
     changes: &mut [u32],
 ) -> Answer
-    ensures { λ r. ⌜ record { answer = r; left = lentOf (now (records .entry)) (now (numbers .exit)) (now (accounts .exit)) (now (maps .exit)) (now (limits .entry)) (now (changes .exit)) }
-        ≡ mend sizes (lentOf (now (records .entry)) (now (numbers .entry)) (now (accounts .entry)) (now (maps .entry)) (now (limits .entry)) (now (changes .entry))) ⌝ }
+    ensures { λ r. ⌜ record { answer = r; left = lentOf (now (records .entry)) (now (numbers .exit)) (now (accounts .exit)) (now (maps .exit)) (now (limits .entry)) (now (parents .entry)) (now (changes .exit)) }
+        ≡ mend sizes (lentOf (now (records .entry)) (now (numbers .entry)) (now (accounts .entry)) (now (maps .entry)) (now (limits .entry)) (now (parents .entry)) (now (changes .entry))) ⌝ }
 {
-    mending::mend(sizes, records, numbers, accounts, maps, limits, changes)
+    mending::mend(
+        sizes,
+        records,
+        numbers,
+        accounts,
+        maps,
+        limits,
+        parents,
+        changes,
+    )
 }
 
 // A page look: the frame's own part of the lent words, and where it stands; refused, an empty part.
@@ -276,6 +303,7 @@ pub fn page_look<'a>(
     accounts: &[u16],
     maps: &[u16],
     limits: &[u16],
+    parents: &[u16],
     frame_words: &'a [u32],
     free_queue: &[u16],
     removal_list: &[u16],
@@ -289,7 +317,7 @@ pub fn page_look<'a>(
     line: &[u16],
     used: &[u16],
 ) -> &'a [u32]
-    ensures { λ r. ⌜ (let st = allEntered (now (frames .entry)) pool records numbers accounts maps limits
+    ensures { λ r. ⌜ (let st = allEntered (now (frames .entry)) pool records numbers accounts maps limits parents
         «frame_words» «free_queue» «removal_list» addresses states owners «free_map» active updating images line used in
         (now r ≡ look sizes st slot page .left)
         × ((now (refusal .exit) ≡ look sizes st slot page .answer .refusal)
@@ -310,6 +338,7 @@ pub fn page_look<'a>(
         accounts,
         maps,
         limits,
+        parents,
         frame_words,
         free_queue,
         removal_list,
@@ -339,6 +368,7 @@ pub extern "C" fn keeper_page_look(
     accounts: &[u16],
     maps: &[u16],
     limits: &[u16],
+    parents: &[u16],
     frame_words: &[u32],
     free_queue: &[u16],
     removal_list: &[u16],
@@ -353,7 +383,7 @@ pub extern "C" fn keeper_page_look(
     used: &[u16],
 ) -> Part
     ensures { λ r. ⌜ r ≡ partOf sizes
-        (allEntered (now (frames .entry)) pool records numbers accounts maps limits
+        (allEntered (now (frames .entry)) pool records numbers accounts maps limits parents
         «frame_words» «free_queue» «removal_list» addresses states owners «free_map» active updating images line used) slot page ⌝ }
 {
     let lent = frames.len();
@@ -370,6 +400,7 @@ pub extern "C" fn keeper_page_look(
         accounts,
         maps,
         limits,
+        parents,
         frame_words,
         free_queue,
         removal_list,

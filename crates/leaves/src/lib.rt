@@ -6,6 +6,7 @@ pub mod close; // the marks close to a number
 pub mod frames; // frames by value
 pub mod marks; // one bit a number
 pub mod near; // the choice of a record near another
+pub mod payer; // who pays
 pub mod pool; // the choice of a free record
 pub mod queue; // the free queue and the removal list
 pub mod records; // leaving records become free

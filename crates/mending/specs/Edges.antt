@@ -9,7 +9,10 @@ use Rattle.tables.specs.Rule.{test}
 use Rattle.tables.specs.Store.{choose, store}
 use Rattle.model.specs.declared.sizes.Sizes.{Sizes}
 use Rattle.model.specs.declared.event.Answer.{Answer}
-use Rattle.model.specs.Step.{Outcome}
+use Rattle.model.specs.State.{State}
+use Rattle.model.specs.Setters.{setParents}
+use Rattle.model.specs.Step.{Outcome, restart}
+use Rattle.model.specs.Lists.{said, junk}
 use Rattle.mending.specs.Mend.{Pack, Lent, placeAt, wants, cleared, gather, listed, after, listedBy, mended, allChanges, flat, mend}
 
 -- three slots of two pages, three records, two accounts
@@ -81,11 +84,17 @@ sound = pack (7 ∷ 0 ∷ 8 ∷ []) (1 ∷ 0 ∷ 0 ∷ []) (3 ∷ 1 ∷ 0 ∷ 0 
 
 -- ── the call: a list of n places, all of them 9 ──
 abbrev lent : Pack → ℕ → Lent
-lent d n = record { disk = record { records = 0 ∷ 0 ∷ 0 ∷ []; numbers = d .numbers; accounts = d .accounts; maps = d .maps; limits = 5 ∷ 6 ∷ [] }; list = replicate n 9 }
+lent d n = record { disk = record { records = 0 ∷ 0 ∷ 0 ∷ []; numbers = d .numbers; accounts = d .accounts; maps = d .maps; limits = 5 ∷ 6 ∷ []; parents = 0 ∷ 0 ∷ [] }; list = replicate n 9 }
 
 -- the answer, and the first k numbers of the list
 unfoldable pub says : Sizes → Lent → ℕ → List ℕ
 says z l k = let o = mend z l in o .answer .refusal ∷ o .answer .result ∷ length (o .left .list) ∷ take k (o .left .list)
+
+-- what a restart of the mended pack answers where the parents are these
+unfoldable pub restarted : List ℕ → ℕ
+unfolding said mend firstNo after listedBy listed gather cleared wants placeAt store choose test any tab
+restarted parents = let l = lent odd-account 48 in
+    restart sizes (record { disk = mend sizes (record { disk = setParents parents (l .disk); list = l .list }) .left .disk; memory = junk sizes }) .answer .refusal
 
 pub record Edges : Type 0 where
   -- reason 1: number, account, pages; a place that is 0 already is not listed
@@ -126,9 +135,13 @@ pub record Edges : Type 0 where
   room : says sizes (lent odd-account 48) 9 ≡ 0 ∷ 2 ∷ 48 ∷ 1 ∷ 2 ∷ 2 ∷ 3 ∷ 2 ∷ 2 ∷ 9 ∷ 3 ∷ 9 ∷ []
   no-room : says sizes (lent odd-account 47) 2 ≡ 24 ∷ 0 ∷ 47 ∷ 9 ∷ 9 ∷ []
   no-fit : says all-five (lent odd-account 3) 2 ≡ 1 ∷ 0 ∷ 3 ∷ 9 ∷ 9 ∷ []
+  -- the mended pack passes restart; a parent that is not lower gets 2 on it too
+  passes : restarted (0 ∷ 0 ∷ []) ≡ 0
+  parent-equal : restarted (0 ∷ 1 ∷ []) ≡ 2
+  parent-first : restarted (1 ∷ 0 ∷ []) ≡ 0
 
 pub edges : Edges
-unfolding shows leaves says mend firstNo after listedBy listed gather cleared wants placeAt store choose test any tab
+unfolding shows leaves says restarted mend firstNo after listedBy listed gather cleared wants placeAt store choose test any tab
 edges = record {
   e1 = refl;
   e1-left = refl;
@@ -155,4 +168,7 @@ edges = record {
   room = refl;
   no-room = refl;
   no-fit = refl;
+  passes = refl;
+  parent-equal = refl;
+  parent-first = refl;
 }

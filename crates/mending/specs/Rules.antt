@@ -9,16 +9,16 @@ use native.Mathlib.Omega.{arith}
 use native.Mathlib.Decide.{ℕ-discrete, decLt}
 use lib.Arith.{digits-div}
 use lib.Dec.{T}
-use lib.ListN.{length}
+use lib.ListN.{length, replicate}
 use Rattle.tables.specs.Base.{at}
-use Rattle.tables.specs.Laws.{¬T→false}
+use Rattle.tables.specs.Laws.{¬T→false, at-zeros}
 use Rattle.tables.specs.Rule.{Rule, Holds, test, sound}
 use Rattle.model.specs.declared.sizes.Sizes.{Sizes}
 use Rattle.model.specs.State.{Disk, Memory, State, files, allPages, pageOf, slotOf}
-use Rattle.model.specs.Rules.{diskRules}
+use Rattle.model.specs.Rules.{lower, diskRules}
 use Rattle.model.specs.Ruled.{OnDisk, disk-ruled, rules-disk}
 use Rattle.model.specs.Restart.{restarted}
-use Rattle.model.specs.Own.{refusal, first-yes}
+use Rattle.model.specs.Own.{refusal, first-yes, first-no}
 use Rattle.model.specs.Step.{Outcome, outcome, diskLengths, memoryLengths, allFit, restart}
 use Rattle.model.specs.Sizes.{sizesFit}
 use Rattle.model.specs.Fit.{DiskFit, disk-fit, fit-disk}
@@ -168,28 +168,43 @@ module _ (z : Sizes) (d : Disk) (fits : Holds (sizesFit z)) (long : Holds (diskL
   abbrev q : 0 < z .accounts
   q = fits .1 .1 .1 .1 .1 .0
 
-  -- "The mended pack passes restart": it keeps the disk rules ..
-  pub mended-rules : (m : Memory) → Holds (diskRules z (stateWith d (mended z (packOf d)) m))
-  mended-rules m = rules-disk z (stateWith d (mended z (packOf d)) m) (record {
+  abbrev low : Rule
+  low = lower (z .accounts) (at (d .parents))
+
+  -- "The mended pack passes restart": it keeps the disk rules, if its parents are lower: mending leaves these as they are ..
+  pub mended-rules : Holds low → (m : Memory) → Holds (diskRules z (stateWith d (mended z (packOf d)) m))
+  mended-rules l m = rules-disk z (stateWith d (mended z (packOf d)) m) (record {
     empty-account = empty-account z (packOf d) f q;
     empty-map = empty-map z (packOf d) f q;
     map-fit = map-fit z (packOf d) f q;
     map-once = map-once z (packOf d) f q;
     number-once = number-once z (packOf d) f q;
     account-fit = account-fit z (packOf d) f q;
+    parent-lower = l;
   })
 
   -- .. and the lengths
   pub mended-lengths : Holds (diskLengths z (withPack d (mended z (packOf d))))
   mended-lengths = let g = after-fit z (packOf d) 5 f in let o = disk-fit z d long in
-      fit-disk z (withPack d (mended z (packOf d))) (record { records = o .records; numbers = g .numbers; accounts = g .accounts; maps = g .maps; limits = o .limits })
+      fit-disk z (withPack d (mended z (packOf d))) (record { records = o .records; numbers = g .numbers; accounts = g .accounts; maps = g .maps; limits = o .limits; parents = o .parents })
 
   -- .. so restart is carried out, whatever memory holds
-  pub restarts : (m : Memory) → Holds (memoryLengths z m) → restart z (stateWith d (mended z (packOf d)) m) ≡ refusal 0 (restarted z (withPack d (mended z (packOf d))))
+  pub restarts : Holds low → (m : Memory) → Holds (memoryLengths z m) → restart z (stateWith d (mended z (packOf d)) m) ≡ refusal 0 (restarted z (withPack d (mended z (packOf d))))
   unfolding restart allFit firstNo
-  restarts m l = let st = stateWith d (mended z (packOf d)) m in
+  restarts h m l = let st = stateWith d (mended z (packOf d)) m in
       ap (λ (n : ℕ). outcome n 0 st (restarted z (st .disk)))
-      (first-yes 1 (allFit z st) (ask 2 (diskRules z st) none) (fits, (mended-lengths, l)) ∙ first-yes 2 (diskRules z st) none (mended-rules m))
+      (first-yes 1 (allFit z st) (ask 2 (diskRules z st) none) (fits, (mended-lengths, l)) ∙ first-yes 2 (diskRules z st) none (mended-rules h m))
+
+  -- "A parent that is not lower gets 2 where 2 is asked, even on a mended pack."
+  pub not-lower : ¬ (Holds low) → (m : Memory) → Holds (memoryLengths z m) → (let st = stateWith d (mended z (packOf d)) m in restart z st ≡ refusal 2 st)
+  unfolding restart allFit firstNo
+  not-lower n m l = let st = stateWith d (mended z (packOf d)) m in
+      ap (λ (k : ℕ). outcome k 0 st (restarted z (st .disk)))
+      (first-yes 1 (allFit z st) (ask 2 (diskRules z st) none) (fits, (mended-lengths, l)) ∙ first-no 2 (diskRules z st) none (λ h. n (disk-ruled z st h .parent-lower)))
+
+-- "older packs have 0 there": these are lower
+pub older-lower : (n : ℕ) → Holds (lower n (at (replicate n 0)))
+older-lower n a h pos = omega (arith, pos, at-zeros n a)
 
 -- ── a pack that keeps the rules ──
 module _ (z : Sizes) (d : Pack) (f : PackFit z d) where
@@ -274,6 +289,15 @@ pub sound-same : (z : Sizes) (st : State) → Holds (sizesFit z) → Holds (disk
 sound-same z st fits long h = let f = pack-fit z (st .disk) fits long in let o = sound-pack z st f h in
     (after-same z (packOf (st .disk)) f o 5, listed-same z (packOf (st .disk)) f o 5)
 
--- "mending again lists no change", and changes none
-pub mended-again : (z : Sizes) (d : Disk) → Holds (sizesFit z) → Holds (diskLengths z d) → Memory → (let e = mended z (packOf d) in (mended z e ≡ e) × (allChanges z e ≡ []))
-mended-again z d fits long m = sound-same z (stateWith d (mended z (packOf d)) m) fits (mended-lengths z d fits long) (mended-rules z d fits long m)
+-- "mending again lists no change", and changes none, whatever the parents
+pub mended-again : (z : Sizes) (d : Disk) → Holds (sizesFit z) → Holds (diskLengths z d) → (let e = mended z (packOf d) in (mended z e ≡ e) × (allChanges z e ≡ []))
+mended-again z d fits long = let f = pack-fit z d fits long in let g = after-fit z (packOf d) 5 f in let q = fits .1 .1 .1 .1 .1 .0 in
+    let o : Sound z (mended z (packOf d)) g = record {
+      empty-account = empty-account z (packOf d) f q;
+      empty-map = empty-map z (packOf d) f q;
+      map-fit = map-fit z (packOf d) f q;
+      map-once = map-once z (packOf d) f q;
+      number-once = number-once z (packOf d) f q;
+      account-fit = account-fit z (packOf d) f q;
+    } in
+    (after-same z (mended z (packOf d)) g o 5, listed-same z (mended z (packOf d)) g o 5)

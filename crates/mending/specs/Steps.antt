@@ -23,8 +23,8 @@ use Rattle.mending.specs.Places.{PackFit, place-of, place-number, place-
 use Rattle.mending.specs.Passes.{packed, filled, noted, Lost, lost-kept, lost-long, lost-list-long, lost-room, listedTo, Standing, ofEntry, zeroed, standing-none, standing-on, standing-off, standing-skip, place-turn, Agrees, above, ofShared, RowGiven, RowDone}
 use Rattle.mending.specs.Names.{Tally, tally-twice, twice-tally, doubledIn, doubled-from, doubled-to}
 
-abbrev pub lentOf : List ℕ → List ℕ → List ℕ → List ℕ → List ℕ → List ℕ → Lent
-lentOf records numbers accounts maps limits list = record { disk = diskOf records numbers accounts maps limits; list = list }
+abbrev pub lentOf : List ℕ → List ℕ → List ℕ → List ℕ → List ℕ → List ℕ → List ℕ → Lent
+lentOf records numbers accounts maps limits parents list = record { disk = diskOf records numbers accounts maps limits parents; list = list }
 
 abbrev pub filledPack : Pack → ℕ
 filledPack d = filled (d .numbers) + (filled (d .accounts) + filled (d .maps))

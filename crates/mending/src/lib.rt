@@ -27,12 +27,13 @@ pub fn mend(
     accounts: &mut [u16],
     maps: &mut [u16],
     limits: &[u16],
+    parents: &[u16],
     changes: &mut [u32],
 ) -> Answer
-    ensures { λ r. ⌜ record { answer = r; left = lentOf (now (records .entry)) (now (numbers .exit)) (now (accounts .exit)) (now (maps .exit)) (now (limits .entry)) (now (changes .exit)) }
-        ≡ Mend.mend sizes (lentOf (now (records .entry)) (now (numbers .entry)) (now (accounts .entry)) (now (maps .entry)) (now (limits .entry)) (now (changes .entry))) ⌝ }
+    ensures { λ r. ⌜ record { answer = r; left = lentOf (now (records .entry)) (now (numbers .exit)) (now (accounts .exit)) (now (maps .exit)) (now (limits .entry)) (now (parents .entry)) (now (changes .exit)) }
+        ≡ Mend.mend sizes (lentOf (now (records .entry)) (now (numbers .entry)) (now (accounts .entry)) (now (maps .entry)) (now (limits .entry)) (now (parents .entry)) (now (changes .entry))) ⌝ }
 {
-    if disk_fit(sizes, records, numbers, accounts, maps, limits) {} else {
+    if disk_fit(sizes, records, numbers, accounts, maps, limits, parents) {} else {
         return Answer {
             refusal: 1,
             result: 0,

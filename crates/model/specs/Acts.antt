@@ -6,7 +6,7 @@ use lib.Dec.{eqb}
 use Rattle.tables.specs.Base.{if}
 use Rattle.tables.specs.Rule.{test}
 use Rattle.model.specs.declared.sizes.Sizes.{Sizes}
-use Rattle.model.specs.declared.event.Design.the-variants.{Limit, Create, Delete, Activate, Deactivate}
+use Rattle.model.specs.declared.event.Design.the-variants.{Create, Delete, Activate, Deactivate}
 use Rattle.model.specs.declared.event.Page.the-variants.{Fault, Read, Write, Wire, Unwire}
 use Rattle.model.specs.declared.event.Writeback.the-variants.{Claim, Truncate, Update, PageDone, MapDone}
 use Rattle.model.specs.declared.event.Waiting.the-variants.{Join, Turn}
@@ -46,11 +46,11 @@ fedTurn z st (sendsAway n) = L.nothing
 
 -- what an event that is carried out feeds the ledger
 unfoldable pub fed : Sizes → State → Event → L.Fed
-fed z st (Event.Design (Limit q n)) = L.nothing
 fed z st (Event.Design (Create s q n)) = L.created s
 fed z st (Event.Design (Delete s)) = L.deleted s
 fed z st (Event.Design (Activate s)) = L.activated s (st .disk)
 fed z st (Event.Design (Deactivate s)) = L.deactivated s
+fed z st (Event.Account e) = L.nothing
 fed z st (Event.Page (Fault s p)) = fedFault st s p
 fed z st (Event.Page (Read s p w)) = L.nothing
 fed z st (Event.Page (Write s p w x)) = L.wrote s p w x

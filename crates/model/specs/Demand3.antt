@@ -12,7 +12,7 @@ use Rattle.model.specs.declared.event.Event.the-variants as Event
 use Rattle.model.specs.Sizes.{sizesFit}
 use Rattle.model.specs.State.{Memory, files, allPages, pageOf, slotOf}
 use Rattle.model.specs.Parts.{wordAt}
-use Rattle.model.specs.Rules.{mapOnce}
+use Rattle.model.specs.Rules.{lower, mapOnce}
 use Rattle.model.specs.Restart.{formatted}
 use Rattle.model.specs.Step.{memoryLengths, step, look}
 use Rattle.model.specs.Ledger.{Write, Update, noWrite, noUpdate}
@@ -81,7 +81,7 @@ pub record After (claim : Rule) (z : Sizes) (w : World) : Type 0 where
   -- a look that is not refused hands back W words, each the page's text
   pub looks : (s p : ℕ) → T (w .up) → (let o = look z (w .state) s p in o .answer .refusal ≡ 0 → (length (o .left) ≡ z .words) × ((n : ℕ) → n < z .words → at (o .left) n ≡ w .ledger .pages .text (pageOf z s p) n))
 
--- for all sizes within limits, any memory of its lengths, and every legal list of acts from a finished format on
+-- for all sizes within limits, parents that a format takes, any memory of its lengths, and every legal list of acts from that finished format on
 abbrev pub Demand3 : Type 0
-Demand3 = (z : Sizes) (junk : Memory) (acts : List Act) → Holds (sizesFit z) → Holds (memoryLengths z junk) → T (legal z (start z (formatted z) junk) acts)
-    → (let w = run z (start z (formatted z) junk) acts in After (demand3 z w) z w)
+Demand3 = (z : Sizes) (parents : List ℕ) (junk : Memory) (acts : List Act) → Holds (sizesFit z) → Holds (lower (z .accounts) (at parents)) → Holds (memoryLengths z junk)
+    → T (legal z (start z (formatted z parents) junk) acts) → (let w = run z (start z (formatted z parents) junk) acts in After (demand3 z w) z w)

@@ -1,4 +1,4 @@
--- The events about a design or an account: the state once each is carried out.
+-- The events about a design: the state once each is carried out.
 use Prim.Native.Nat.{ℕ}
 use lib.ListN.{set}
 use Rattle.tables.specs.Base.{at}
@@ -7,14 +7,10 @@ use Rattle.tables.specs.Store.{store}
 use Rattle.model.specs.declared.sizes.Sizes.{Sizes}
 use Rattle.model.specs.Lines.{FILED, LIVE}
 use Rattle.model.specs.State.{State}
-use Rattle.model.specs.Setters.{onDisk, onHeld, onSlots, setNumbers, setAccounts, setLimits, setAddresses, setStates, setActive, counted}
+use Rattle.model.specs.Setters.{onDisk, onHeld, onSlots, setNumbers, setAccounts, setAddresses, setStates, setActive, counted}
 use Rattle.model.specs.Parts.{ofSlot}
 
 module _ (z : Sizes) (st : State) where
-  -- Limit sets an account's limit, also below its used count.
-  unfoldable pub limit : ℕ → ℕ → State
-  limit q n = onDisk (λ d. setLimits (set (d .limits) q n) d) st
-
   -- Create stores number and account in an empty slot.
   unfoldable pub create : ℕ → ℕ → ℕ → State
   create s q n = counted z (onDisk (λ d. setNumbers (set (d .numbers) s n) (setAccounts (set (d .accounts) s q) d)) st)

@@ -29,7 +29,7 @@ flat (g ∷ gs) = g .page ∷ g .used ∷ g .modified ∷ g .wired ∷ g .initia
 
 -- all tables in a row
 unfoldable pub tables : State → List ℕ
-tables st = st .disk .records ++ st .disk .numbers ++ st .disk .accounts ++ st .disk .maps ++ st .disk .limits ++ flat (st .memory .core .frames) ++ st .memory .core .words
+tables st = st .disk .records ++ st .disk .numbers ++ st .disk .accounts ++ st .disk .maps ++ st .disk .limits ++ st .disk .parents ++ flat (st .memory .core .frames) ++ st .memory .core .words
     ++ st .memory .core .free-queue ++ st .memory .core .removal-list ++ st .memory .held .addresses ++ st .memory .held .states ++ st .memory .held .owners ++ st .memory .held .free-map
     ++ st .memory .held .pool .hand ∷ st .memory .held .pool .free ∷ st .memory .slots .active ++ st .memory .slots .updating ++ st .memory .slots .images ++ st .memory .line ++ st .memory .used
 
@@ -41,7 +41,7 @@ equal (x ∷ xs) (y ∷ ys) = eqb x y && equal xs ys
 
 -- one record in two entries
 abbrev twice : State
-twice = record { disk = record { records = 0 ∷ 0 ∷ 0 ∷ 0 ∷ 0 ∷ 0 ∷ 0 ∷ 0 ∷ []; numbers = 7 ∷ 0 ∷ []; accounts = 0 ∷ 0 ∷ []; maps = 1 ∷ 1 ∷ 0 ∷ 0 ∷ 0 ∷ 0 ∷ []; limits = 0 ∷ [] }; memory = junk small }
+twice = record { disk = record { records = 0 ∷ 0 ∷ 0 ∷ 0 ∷ 0 ∷ 0 ∷ 0 ∷ 0 ∷ []; numbers = 7 ∷ 0 ∷ []; accounts = 0 ∷ 0 ∷ []; maps = 1 ∷ 1 ∷ 0 ∷ 0 ∷ 0 ∷ 0 ∷ []; limits = 0 ∷ []; parents = 0 ∷ [] }; memory = junk small }
 
 -- (edges 1 to 4 and 6 for all sizes and states: `edges-all` of crates/invariant/proofs/EdgesAll.antt)
 pub record Edges : Type 0 where

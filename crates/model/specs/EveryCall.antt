@@ -3,6 +3,7 @@ use mathlib.Core.Path.{_≡_, refl}
 use mathlib.Core.List.{List, []}
 use Prim.Native.Nat.{ℕ, zero, suc}
 use lib.Dec.{T}
+use Rattle.tables.specs.Base.{at}
 use Rattle.tables.specs.Questions.{Questions, none, ask, above, firstNo}
 use Rattle.tables.specs.Rule.{Rule, same, _and_}
 use Rattle.model.specs.declared.sizes.Sizes.{Sizes}
@@ -13,9 +14,9 @@ use Rattle.model.specs.declared.request.Decoded.the-variants.{Known, Unk
 use Rattle.model.specs.Sizes.{sizesFit}
 use Rattle.model.specs.Requests.{decoded, decodedNumber}
 use Rattle.model.specs.State.{Disk, State}
-use Rattle.model.specs.Rules.{diskRules, allRules}
+use Rattle.model.specs.Rules.{lower, diskRules, allRules}
 use Rattle.model.specs.Questions.{questions, lookQuestions}
-use Rattle.model.specs.Step.{Outcome, outcome, diskLengths, memoryLengths, allFit, answer, step, format, restart, look, in-order}
+use Rattle.model.specs.Step.{Outcome, outcome, diskLengths, formatLengths, memoryLengths, allFit, answer, step, format, restart, look, in-order}
 use Rattle.model.specs.Calls.{apply, stepOf, unknown}
 
 pub data Call : Type 0 where
@@ -23,7 +24,8 @@ pub data Call : Type 0 where
   -- an event, asked for by a request
   applying : Sizes → State → Request → Call
   restarting : Sizes → State → Call
-  formatting : Sizes → Disk → Call
+  -- with the wanted parents
+  formatting : Sizes → List ℕ → Disk → Call
   -- a page look: slot, page
   looking : Sizes → State → ℕ → ℕ → Call
 
@@ -31,7 +33,7 @@ abbrev pub sizesIn : Call → Sizes
 sizesIn (stepping z st e) = z
 sizesIn (applying z st r) = z
 sizesIn (restarting z st) = z
-sizesIn (formatting z d) = z
+sizesIn (formatting z w d) = z
 sizesIn (looking z st s p) = z
 
 -- what a call leaves: all that it is lent and may change; a look changes nothing, and hands back a part
@@ -39,14 +41,14 @@ abbrev pub Left : Call → Type 0
 Left (stepping z st e) = State
 Left (applying z st r) = State
 Left (restarting z st) = State
-Left (formatting z d) = Disk
+Left (formatting z w d) = Disk
 Left (looking z st s p) = List ℕ
 
 abbrev pub outcomeOf : (c : Call) → Outcome (Left c)
 outcomeOf (stepping z st e) = step z st e
 outcomeOf (applying z st r) = apply z st r
 outcomeOf (restarting z st) = restart z st
-outcomeOf (formatting z d) = format z d
+outcomeOf (formatting z w d) = format z w d
 outcomeOf (looking z st s p) = look z st s p
 
 -- what a refusal leaves: everything lent as it was; of a look, an empty part
@@ -54,7 +56,7 @@ abbrev pub unchanged : (c : Call) → Left c
 unchanged (stepping z st e) = st
 unchanged (applying z st r) = st
 unchanged (restarting z st) = st
-unchanged (formatting z d) = d
+unchanged (formatting z w d) = d
 unchanged (looking z st s p) = []
 
 -- ── what each call asks ──
@@ -63,7 +65,7 @@ abbrev pub lengths : Call → Rule
 lengths (stepping z st e) = diskLengths z (st .disk) and memoryLengths z (st .memory)
 lengths (applying z st r) = diskLengths z (st .disk) and memoryLengths z (st .memory)
 lengths (restarting z st) = diskLengths z (st .disk) and memoryLengths z (st .memory)
-lengths (formatting z d) = diskLengths z d
+lengths (formatting z w d) = formatLengths z w d
 lengths (looking z st s p) = diskLengths z (st .disk) and memoryLengths z (st .memory)
 
 -- the questions of a request's event; a kind that is no event fails 3
@@ -76,7 +78,7 @@ abbrev pub later : Call → Questions
 later (stepping z st e) = ask 2 (allRules z st) (questions z st e)
 later (applying z st r) = ask 2 (allRules z st) (decodedQuestions z st (decoded r))
 later (restarting z st) = ask 2 (diskRules z st) none
-later (formatting z d) = none
+later (formatting z w d) = ask 3 (lower (z .accounts) (at w)) none
 later (looking z st s p) = ask 2 (allRules z st) (lookQuestions z st s p)
 
 abbrev pub asks : Call → Questions
@@ -91,7 +93,7 @@ pub later-order : (c : Call) → T (above 1 (later c))
 later-order (stepping z st e) = in-order z st e
 later-order (applying z st r) = decoded-order z st (decoded r)
 later-order (restarting z st) = tt
-later-order (formatting z d) = tt
+later-order (formatting z w d) = tt
 later-order (looking z st s p) = tt
 
 -- ── the answer, and a refusal ──
@@ -115,5 +117,5 @@ unfolding allFit step answer apply restart format look
 refused-unchanged (stepping z st e) = by-outcome _ _ _ _ _ refl
 refused-unchanged (applying z st r) = by-decoded z st (decoded r)
 refused-unchanged (restarting z st) = by-outcome _ _ _ _ _ refl
-refused-unchanged (formatting z d) = by-outcome _ _ _ _ _ refl
+refused-unchanged (formatting z w d) = by-outcome _ _ _ _ _ refl
 refused-unchanged (looking z st s p) = by-outcome _ _ _ _ _ refl

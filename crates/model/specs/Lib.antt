@@ -2,6 +2,7 @@
 pub mod Sizes
 pub mod Lines
 pub mod Requests
+pub mod Payer
 pub mod State
 pub mod Lent
 pub mod Woven
@@ -16,6 +17,8 @@ pub mod Nearest
 pub mod NearEdges
 pub mod Pool
 pub mod Designs
+pub mod Accounts
+pub mod AccountLaws
 pub mod Pages
 pub mod Writeback
 pub mod Line
@@ -42,6 +45,7 @@ pub mod Edges
 pub mod ChargeEdges
 pub mod TransferEdges
 pub mod LineEdges
+pub mod PayerEdges
 pub mod RuleList
 pub mod Refusals
 pub mod Runs

@@ -11,17 +11,20 @@ use Rattle.tables.specs.Questions.{firstNo}
 use Rattle.tables.specs.Rule.{test}
 use Rattle.tables.specs.Store.{choose, store}
 use Rattle.model.specs.declared.sizes.Sizes.{Sizes}
-use Rattle.model.specs.declared.event.Design.the-variants.{Limit, Create, Delete, Activate, Deactivate}
+use Rattle.model.specs.declared.event.Design.the-variants.{Create, Delete, Activate, Deactivate}
+use Rattle.model.specs.declared.event.Account.the-variants.{Limit, Move}
 use Rattle.model.specs.declared.event.Page.the-variants.{Fault, Read, Write, Wire, Unwire}
 use Rattle.model.specs.declared.event.Writeback.the-variants.{Claim, Truncate, Update, PageDone, MapDone}
 use Rattle.model.specs.declared.event.Waiting.the-variants.{Join, Turn}
 use Rattle.model.specs.declared.event.Event.the-variants as Event
+use Rattle.model.specs.Payer
 use Rattle.model.specs.State
 use Rattle.model.specs.Rules
 use Rattle.model.specs.Setters
 use Rattle.model.specs.Questions
 use Rattle.model.specs.Parts
 use Rattle.model.specs.Designs
+use Rattle.model.specs.Accounts
 use Rattle.model.specs.Pages
 use Rattle.model.specs.Writeback
 use Rattle.model.specs.Line
@@ -33,7 +36,10 @@ use Rattle.model.specs.Acts.{Act, World}
 
 -- ── the acts by short names ──
 abbrev pub limit : ℕ → ℕ → Act
-limit q n = Acts.event (Event.Design (Limit q n))
+limit q n = Acts.event (Event.Account (Limit q n))
+
+abbrev pub move : ℕ → ℕ → ℕ → Act
+move giver taker m = Acts.event (Event.Account (Move giver taker m))
 
 abbrev pub create : ℕ → ℕ → ℕ → Act
 create s q n = Acts.event (Event.Design (Create s q n))
@@ -130,9 +136,10 @@ cut fs ss = Acts.cutting (among fs) (among ss) (junk small)
 -- ── what a list answers and leaves ──
 -- the answer and the result of one act (a cut has none)
 unfoldable pub said : Sizes → World → Act → List ℕ
-unfolding all any count find those tab bits members packed times without tail head push-back push-front pop remove size first firstNo test choose store State.charged State.payer
+unfolding all any count find those tab bits members packed times without tail head push-back push-front pop remove size first firstNo test choose store State.charged Payer.payerIn Payer.payer State.payer
     State.usedOf State.freeCount State.freeWord Rules.diskRules Rules.rangeRules Rules.recordRules Rules.queueRules Rules.frameRules Rules.countRules Rules.lineRules Rules.memoryRules
-    Rules.allRules Setters.counted Questions.wouldStore Questions.turning Line.join Line.turn Line.turnResult Parts.frameOf Parts.byHand Parts.neighbour Parts.nearest Parts.pick Designs.limit Designs.create Designs.delete Designs.activate Designs.deactivate Pages.beginRead
+    Rules.allRules Setters.counted Questions.wouldStore Questions.turning Line.join Line.turn Line.turnResult Parts.frameOf Parts.byHand Parts.neighbour Parts.nearest Parts.pick Accounts.shifted Accounts.limit Accounts.move
+    Designs.create Designs.delete Designs.activate Designs.deactivate Pages.beginRead
     Pages.serveZeros Pages.takeRecord Pages.read Pages.wordRead Pages.write Pages.wire Pages.unwire Pages.lookStart Pages.faultFrame Pages.fault Writeback.look Writeback.looking
     Writeback.zeros Writeback.freeFrame Writeback.beginsWrite Writeback.claim Writeback.cutFrames Writeback.truncate Writeback.update Writeback.readGood Writeback.readFailed
     Writeback.storeFrame Writeback.writeGood Writeback.writeFailed Writeback.pageDone Writeback.storeImage Writeback.updateOver Writeback.mapDone Restart.formatted Restart.isListed
@@ -150,20 +157,27 @@ unfolding said
 trace z w [] = []
 trace z w (a ∷ acts) = said z w a ++ trace z (Acts.act z w a) acts
 
--- a formatted disk, memory junk
-unfoldable pub begin : Sizes → World
+-- a disk formatted with these parents, memory junk
+unfoldable pub beginWith : Sizes → List ℕ → World
 unfolding said
-begin z = Acts.start z (Restart.formatted z) (junk z)
+beginWith z parents = Acts.start z (Restart.formatted z parents) (junk z)
 
--- answer and result of a list's last act, from a format on
+-- .. all accounts but 0 under account 0
+unfoldable pub begin : Sizes → World
+unfolding beginWith
+begin z = beginWith z (replicate (z .accounts) 0)
+
+-- answer and result of a list's last act, from a world on
+unfoldable pub saysFrom : Sizes → World → List Act → List ℕ
+unfolding said
+saysFrom z w [] = []
+saysFrom z w (a ∷ []) = said z w a
+saysFrom z w (a ∷ b ∷ acts) = saysFrom z (Acts.act z w a) (b ∷ acts)
+
+-- .. from a format on
 unfoldable pub says : Sizes → List Act → List ℕ
-unfolding begin
-says z acts = go (begin z) acts
-  where
-    go : World → List Act → List ℕ
-    go w [] = []
-    go w (a ∷ []) = said z w a
-    go w (a ∷ b ∷ acts′) = go (Acts.act z w a) (b ∷ acts′)
+unfolding begin saysFrom
+says z acts = saysFrom z (begin z) acts
 
 -- the state that a list leaves
 unfoldable pub leaves : Sizes → List Act → State.State

@@ -7,7 +7,9 @@ use Rattle.tables.specs.Questions.{Questions, none, ask, firstNo}
 use Rattle.tables.specs.Rule.{Rule, same, below, non, _and_, _or_, _then_, each, test}
 use Rattle.model.specs.declared.sizes.Sizes.{Sizes}
 use Rattle.model.specs.declared.event.Design.{Design}
-use Rattle.model.specs.declared.event.Design.the-variants.{Limit, Create, Delete, Activate, Deactivate}
+use Rattle.model.specs.declared.event.Design.the-variants.{Create, Delete, Activate, Deactivate}
+use Rattle.model.specs.declared.event.Account.{Account}
+use Rattle.model.specs.declared.event.Account.the-variants.{Limit, Move}
 use Rattle.model.specs.declared.event.Page.{Page}
 use Rattle.model.specs.declared.event.Page.the-variants.{Fault, Read, Write, Wire, Unwire}
 use Rattle.model.specs.declared.event.Writeback.{Writeback}
@@ -19,6 +21,7 @@ use Rattle.model.specs.declared.event.Event.the-variants as Event
 use Rattle.model.specs.Lines.{NULLED, RELEASED}
 use Rattle.model.specs.State.{State, Files, Frames, files, frames, NONE, READING, LINE, pageOf, slotOf, framed, live, charged, payer}
 use Rattle.model.specs.Rules.{isActive}
+use Rattle.model.specs.Accounts.{move}
 
 -- how a turn treats the first request of the line
 pub data Turning : Type 0 where
@@ -146,6 +149,21 @@ module _ (z : Sizes) (st : State) where
   abbrev q22 : Rule → Questions → Questions
   q22 underWay = ask 22 underWay
 
+  -- (24: mending)
+  -- 25. Move: the two are parent and child, m is above 0, the giver has m, the taker stays at 65,535 or below?
+  abbrev isParent : ℕ → ℕ → Rule
+  isParent a b = below 0 b and same (v .parent b) a
+
+  abbrev q25 : ℕ → ℕ → ℕ → Questions → Questions
+  q25 g t m = ask 25 ((isParent g t or isParent t g) and below 0 m and non (below (v .limit g) m) and below (v .limit t + m) 65536)
+
+  -- 26. Move: each account whose limit or count it changes has, afterwards, used at most its limit?
+  abbrev unmoved : State → ℕ → Rule
+  unmoved st′ a = same (at (st′ .disk .limits) a) (v .limit a) and same (at (st′ .memory .used) a) (at (st .memory .used) a)
+
+  abbrev q26 : ℕ → ℕ → ℕ → Questions → Questions
+  q26 g t m = let st′ = move z st g t m in ask 26 (each (z .accounts) λ a. unmoved st′ a or non (below (at (st′ .disk .limits) a) (at (st′ .memory .used) a)))
+
   -- ── the questions of each event ──
   abbrev slotRange : ℕ → Rule
   slotRange s = below s (z .slots)
@@ -165,11 +183,14 @@ module _ (z : Sizes) (st : State) where
   fromUp s k rule = each (z .pages) λ p. non (below p k) then rule (page s p)
 
   abbrev pub designQuestions : Design → Questions
-  designQuestions (Limit q n) = q3 (below q (z .accounts) and below n 65536) none
   designQuestions (Create s q n) = q3 (below s (z .slots) and below q (z .accounts) and below 0 n) (q5 s (q6 n none))
   designQuestions (Delete s) = q3 (slotRange s) (q4 s (q7 s (q9 s none)))
   designQuestions (Activate s) = q3 (slotRange s) (q4 s (q9 s none))
   designQuestions (Deactivate s) = q3 (slotRange s) (q4 s (q8 s (q10 s (q11 s (q12 s none)))))
+
+  abbrev pub accountQuestions : Account → Questions
+  accountQuestions (Limit q n) = q3 (below q (z .accounts) and below n 65536) none
+  accountQuestions (Move g t m) = q3 (below g (z .accounts) and below t (z .accounts)) (q25 g t m (q26 g t m none))
 
   abbrev pub pageQuestions : Page → Questions
   pageQuestions (Fault s p) = q3 (pageRange s p) (q4 s (q8 s (q14 (still (page s p)) (q15 (page s p) (q19 (page s p) (q20 none))))))
@@ -224,6 +245,7 @@ module _ (z : Sizes) (st : State) where
 
   abbrev pub questions : Event → Questions
   questions (Event.Design e) = designQuestions e
+  questions (Event.Account e) = accountQuestions e
   questions (Event.Page e) = pageQuestions e
   questions (Event.Writeback e) = writebackQuestions e
   questions (Event.Waiting e) = waitingQuestions e

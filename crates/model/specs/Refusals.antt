@@ -3,10 +3,10 @@ use mathlib.Core.Path.{_≡_, refl}
 use mathlib.Core.List.{List, [], _∷_, _++_}
 use Prim.Native.Nat.{ℕ}
 use Rattle.model.specs.declared.sizes.Sizes.{Sizes}
-use Rattle.model.specs.declared.event.Design.the-variants.{Limit}
+use Rattle.model.specs.declared.event.Account.the-variants.{Limit}
 use Rattle.model.specs.declared.event.Event.the-variants as Event
 use Rattle.model.specs.State.{State, READING, WRITING}
-use Rattle.model.specs.Setters.{onDisk, onCore, onHeld, onSlots, setRecords, setNumbers, setAccounts, setMaps, setWords, setFreeQueue, setRemovalList, setAddresses, setStates, setOwners, setFreeMap, setHand, setFree, setActive, setUpdating, setImages, setUsed, setUsedSwitch, setModified, setWired, setInitial, setTransfer, counted}
+use Rattle.model.specs.Setters.{onDisk, onCore, onHeld, onSlots, setRecords, setNumbers, setAccounts, setMaps, setParents, setWords, setFreeQueue, setRemovalList, setAddresses, setStates, setOwners, setFreeMap, setHand, setFree, setActive, setUpdating, setImages, setUsed, setUsedSwitch, setModified, setWired, setInitial, setTransfer, counted}
 use Rattle.model.specs.Pages.{onFrame, fresh}
 use Rattle.model.specs.Step
 use Rattle.model.specs.Lists.{create, activate, deactivate, fault, write, wire, claim, truncate, update, pageDone, mapDone, restart, small, says, leaves}
@@ -21,7 +21,7 @@ two = record { words = 2; records = 4; frames = 2; slots = 2; pages = 3; account
 -- the answer to a limit, and the rules that say no
 unfoldable pub judged : State → List ℕ
 unfolding saysNo
-judged st = Step.step two st (Event.Design (Limit 0 1)) .answer .refusal ∷ saysNo 1 (ofAll two st)
+judged st = Step.step two st (Event.Account (Limit 0 1)) .answer .refusal ∷ saysNo 1 (ofAll two st)
 
 -- the answer to a restart, and the disk rules that say no
 unfoldable pub found : State → List ℕ
@@ -111,79 +111,83 @@ pub record Refused : Type 0 where
   -- The disk rules. An entry past R is refused with the rule on what a design at rest, or an active one, lists (Implied.map-fit). A restart asks the disk rules only.
   emptyAccount : judged (onDisk (setAccounts (1 ∷ 0 ∷ [])) empty) ≡ 2 ∷ 1 ∷ []
   emptyMap : judged (onDisk (setNumbers (0 ∷ 0 ∷ [])) resting) ≡ 2 ∷ 2 ∷ []
-  mapFit-resting : judged (agree (onDisk (setMaps (entries 5 0)) filled)) ≡ 2 ∷ 3 ∷ 16 ∷ []
-  mapFit-active : judged (onDisk (setMaps (entries 5 0)) active) ≡ 2 ∷ 3 ∷ 18 ∷ []
+  mapFit-resting : judged (agree (onDisk (setMaps (entries 5 0)) filled)) ≡ 2 ∷ 3 ∷ 17 ∷ []
+  mapFit-active : judged (onDisk (setMaps (entries 5 0)) active) ≡ 2 ∷ 3 ∷ 19 ∷ []
   mapOnce : judged (agree (onDisk (setMaps (entries 1 1)) resting)) ≡ 2 ∷ 4 ∷ []
   numberOnce : judged (onDisk (setNumbers (7 ∷ 7 ∷ [])) filled) ≡ 2 ∷ 5 ∷ []
   accountFit : judged (onDisk (setAccounts (2 ∷ 0 ∷ [])) filled) ≡ 2 ∷ 6 ∷ []
+  parentLower : judged (onDisk (setParents (0 ∷ 1 ∷ [])) filled) ≡ 2 ∷ 7 ∷ []
+  -- (account 0's entry is never looked at)
+  parentLower-first : judged (onDisk (setParents (9 ∷ 0 ∷ [])) filled) ≡ 0 ∷ []
   emptyAccount-found : found (onDisk (setAccounts (1 ∷ 0 ∷ [])) empty) ≡ 2 ∷ 1 ∷ []
   emptyMap-found : found (onDisk (setNumbers (0 ∷ 0 ∷ [])) resting) ≡ 2 ∷ 2 ∷ []
   mapFit-found : found (onDisk (setMaps (entries 5 0)) filled) ≡ 2 ∷ 3 ∷ []
   mapOnce-found : found (onDisk (setMaps (entries 1 1)) resting) ≡ 2 ∷ 4 ∷ []
   numberOnce-found : found (onDisk (setNumbers (7 ∷ 7 ∷ [])) filled) ≡ 2 ∷ 5 ∷ []
   accountFit-found : found (onDisk (setAccounts (2 ∷ 0 ∷ [])) filled) ≡ 2 ∷ 6 ∷ []
+  parentLower-found : found (onDisk (setParents (0 ∷ 1 ∷ [])) filled) ≡ 2 ∷ 7 ∷ []
   -- The ranges. An address past R is refused with the rule on what a page holds (address-fit), an image entry past R with the rule on what an image lists (image-fit).
-  addressFit : judged (onHeld (setAddresses (entries 5 0)) active) ≡ 2 ∷ 7 ∷ 14 ∷ []
-  imageFit : judged (onSlots (setImages (entries 1 5)) begun) ≡ 2 ∷ 8 ∷ 19 ∷ []
-  stateFit : judged (agree (onHeld (setStates (6 ∷ 0 ∷ 0 ∷ 0 ∷ [])) filled)) ≡ 2 ∷ 9 ∷ []
-  ownerFit : judged (onHeld (setOwners (2 ∷ 0 ∷ 0 ∷ 0 ∷ [])) filled) ≡ 2 ∷ 10 ∷ []
-  activeFit : judged (onSlots (setActive (2 ∷ 0 ∷ [])) filled) ≡ 2 ∷ 11 ∷ []
-  updatingFit : judged (onSlots (setUpdating (2 ∷ 0 ∷ [])) active) ≡ 2 ∷ 12 ∷ []
+  addressFit : judged (onHeld (setAddresses (entries 5 0)) active) ≡ 2 ∷ 8 ∷ 15 ∷ []
+  imageFit : judged (onSlots (setImages (entries 1 5)) begun) ≡ 2 ∷ 9 ∷ 20 ∷ []
+  stateFit : judged (agree (onHeld (setStates (6 ∷ 0 ∷ 0 ∷ 0 ∷ [])) filled)) ≡ 2 ∷ 10 ∷ []
+  ownerFit : judged (onHeld (setOwners (2 ∷ 0 ∷ 0 ∷ 0 ∷ [])) filled) ≡ 2 ∷ 11 ∷ []
+  activeFit : judged (onSlots (setActive (2 ∷ 0 ∷ [])) filled) ≡ 2 ∷ 12 ∷ []
+  updatingFit : judged (onSlots (setUpdating (2 ∷ 0 ∷ [])) active) ≡ 2 ∷ 13 ∷ []
   -- Pages, records and slots.
-  heldOnce : judged (agree (onHeld (setAddresses (entries 1 1)) listed)) ≡ 2 ∷ 13 ∷ []
-  held-slot : judged (onHeld (setOwners (1 ∷ 0 ∷ 0 ∷ 0 ∷ [])) listed) ≡ 2 ∷ 14 ∷ []
-  held-state : judged (agree (onHeld (setStates (4 ∷ 0 ∷ 0 ∷ 0 ∷ [])) listed)) ≡ 2 ∷ 14 ∷ []
-  heldBy-nulled : judged (agree (onHeld (setStates (2 ∷ 0 ∷ 0 ∷ 0 ∷ [])) filled)) ≡ 2 ∷ 15 ∷ []
-  heldBy-live : judged (agree (onHeld (setStates (3 ∷ 0 ∷ 0 ∷ 0 ∷ [])) filled)) ≡ 2 ∷ 15 ∷ []
+  heldOnce : judged (agree (onHeld (setAddresses (entries 1 1)) listed)) ≡ 2 ∷ 14 ∷ []
+  held-slot : judged (onHeld (setOwners (1 ∷ 0 ∷ 0 ∷ 0 ∷ [])) listed) ≡ 2 ∷ 15 ∷ []
+  held-state : judged (agree (onHeld (setStates (4 ∷ 0 ∷ 0 ∷ 0 ∷ [])) listed)) ≡ 2 ∷ 15 ∷ []
+  heldBy-nulled : judged (agree (onHeld (setStates (2 ∷ 0 ∷ 0 ∷ 0 ∷ [])) filled)) ≡ 2 ∷ 16 ∷ []
+  heldBy-live : judged (agree (onHeld (setStates (3 ∷ 0 ∷ 0 ∷ 0 ∷ [])) filled)) ≡ 2 ∷ 16 ∷ []
   -- (a record that a design at rest lists, of another slot, or free: the next fault would give it to another design)
-  filed-slot : judged (onHeld (setOwners (1 ∷ 0 ∷ 0 ∷ 0 ∷ [])) resting) ≡ 2 ∷ 16 ∷ []
-  filed-state : judged (agree (onHeld (setStates (0 ∷ 0 ∷ 0 ∷ 0 ∷ [])) resting)) ≡ 2 ∷ 16 ∷ []
-  filedBy : judged (agree (onHeld (setStates (1 ∷ 0 ∷ 0 ∷ 0 ∷ [])) filled)) ≡ 2 ∷ 17 ∷ []
-  mapped-free : judged (onDisk (setMaps (entries 1 0)) active) ≡ 2 ∷ 18 ∷ []
-  mapped-slot : judged (onHeld (setOwners (1 ∷ 0 ∷ 0 ∷ 0 ∷ [])) released) ≡ 2 ∷ 18 ∷ []
-  mapped-page : judged (agree (onHeld (λ h. setAddresses (entries 0 1) (setStates (2 ∷ 0 ∷ 0 ∷ 0 ∷ []) h)) released)) ≡ 2 ∷ 18 ∷ []
-  imaged-free : judged (onSlots (setImages (entries 1 2)) begun) ≡ 2 ∷ 19 ∷ []
-  imaged-leaving : judged (onHeld (setStates (5 ∷ 0 ∷ 0 ∷ 0 ∷ [])) cutOff) ≡ 2 ∷ 19 ∷ []
-  imaged-slot : judged (onHeld (setOwners (1 ∷ 0 ∷ 0 ∷ 0 ∷ [])) unstored) ≡ 2 ∷ 19 ∷ []
-  imageOnce : judged (onSlots (setImages (entries 1 1)) cutOff) ≡ 2 ∷ 20 ∷ []
-  imageZero : judged (onSlots (setImages (entries 1 0)) listed) ≡ 2 ∷ 21 ∷ []
-  leavingBegun : judged (agree (onHeld (setStates (5 ∷ 0 ∷ 0 ∷ 0 ∷ [])) active)) ≡ 2 ∷ 22 ∷ []
-  activeFilled : judged (onSlots (setActive (1 ∷ 0 ∷ [])) empty) ≡ 2 ∷ 23 ∷ []
-  addressActive : judged (agree (onHeld (λ h. setAddresses (entries 1 0) (setStates (2 ∷ 0 ∷ 0 ∷ 0 ∷ []) h)) filled)) ≡ 2 ∷ 24 ∷ []
-  updateActive : judged (onSlots (setUpdating (1 ∷ 0 ∷ [])) filled) ≡ 2 ∷ 25 ∷ []
+  filed-slot : judged (onHeld (setOwners (1 ∷ 0 ∷ 0 ∷ 0 ∷ [])) resting) ≡ 2 ∷ 17 ∷ []
+  filed-state : judged (agree (onHeld (setStates (0 ∷ 0 ∷ 0 ∷ 0 ∷ [])) resting)) ≡ 2 ∷ 17 ∷ []
+  filedBy : judged (agree (onHeld (setStates (1 ∷ 0 ∷ 0 ∷ 0 ∷ [])) filled)) ≡ 2 ∷ 18 ∷ []
+  mapped-free : judged (onDisk (setMaps (entries 1 0)) active) ≡ 2 ∷ 19 ∷ []
+  mapped-slot : judged (onHeld (setOwners (1 ∷ 0 ∷ 0 ∷ 0 ∷ [])) released) ≡ 2 ∷ 19 ∷ []
+  mapped-page : judged (agree (onHeld (λ h. setAddresses (entries 0 1) (setStates (2 ∷ 0 ∷ 0 ∷ 0 ∷ []) h)) released)) ≡ 2 ∷ 19 ∷ []
+  imaged-free : judged (onSlots (setImages (entries 1 2)) begun) ≡ 2 ∷ 20 ∷ []
+  imaged-leaving : judged (onHeld (setStates (5 ∷ 0 ∷ 0 ∷ 0 ∷ [])) cutOff) ≡ 2 ∷ 20 ∷ []
+  imaged-slot : judged (onHeld (setOwners (1 ∷ 0 ∷ 0 ∷ 0 ∷ [])) unstored) ≡ 2 ∷ 20 ∷ []
+  imageOnce : judged (onSlots (setImages (entries 1 1)) cutOff) ≡ 2 ∷ 21 ∷ []
+  imageZero : judged (onSlots (setImages (entries 1 0)) listed) ≡ 2 ∷ 22 ∷ []
+  leavingBegun : judged (agree (onHeld (setStates (5 ∷ 0 ∷ 0 ∷ 0 ∷ [])) active)) ≡ 2 ∷ 23 ∷ []
+  activeFilled : judged (onSlots (setActive (1 ∷ 0 ∷ [])) empty) ≡ 2 ∷ 24 ∷ []
+  addressActive : judged (agree (onHeld (λ h. setAddresses (entries 1 0) (setStates (2 ∷ 0 ∷ 0 ∷ 0 ∷ []) h)) filled)) ≡ 2 ∷ 25 ∷ []
+  updateActive : judged (onSlots (setUpdating (1 ∷ 0 ∷ [])) filled) ≡ 2 ∷ 26 ∷ []
   -- The queues: an entry after a 0, and one past F.
-  free-queue-gap : judged (onCore (setFreeQueue (0 ∷ 1 ∷ [])) full) ≡ 2 ∷ 26 ∷ []
-  free-queue-past : judged (onCore (setFreeQueue (3 ∷ 0 ∷ [])) full) ≡ 2 ∷ 26 ∷ []
-  removal-list-gap : judged (onCore (setRemovalList (0 ∷ 1 ∷ [])) empty) ≡ 2 ∷ 27 ∷ []
-  removal-list-past : judged (onCore (setRemovalList (3 ∷ 0 ∷ [])) empty) ≡ 2 ∷ 27 ∷ []
+  free-queue-gap : judged (onCore (setFreeQueue (0 ∷ 1 ∷ [])) full) ≡ 2 ∷ 27 ∷ []
+  free-queue-past : judged (onCore (setFreeQueue (3 ∷ 0 ∷ [])) full) ≡ 2 ∷ 27 ∷ []
+  removal-list-gap : judged (onCore (setRemovalList (0 ∷ 1 ∷ [])) empty) ≡ 2 ∷ 28 ∷ []
+  removal-list-past : judged (onCore (setRemovalList (3 ∷ 0 ∷ [])) empty) ≡ 2 ∷ 28 ∷ []
   -- The frames.
-  frameFit-used : judged (onCore (onFrame 0 (setUsedSwitch 2)) served) ≡ 2 ∷ 28 ∷ []
-  frameFit-modified : judged (onCore (onFrame 0 (setModified 2)) served) ≡ 2 ∷ 28 ∷ []
-  frameFit-initial : judged (onCore (onFrame 0 (setInitial 2)) served) ≡ 2 ∷ 28 ∷ []
-  frameFit-transfer : judged (moving 3 served) ≡ 2 ∷ 28 ∷ []
-  inOnePlace-wired : judged (onCore (onFrame 0 (setWired 1)) served) ≡ 2 ∷ 29 ∷ []
-  inOnePlace-both : judged (onCore (setRemovalList (1 ∷ 0 ∷ [])) empty) ≡ 2 ∷ 29 ∷ []
-  inOnePlace-none : judged (onCore (setRemovalList (0 ∷ 0 ∷ [])) served) ≡ 2 ∷ 29 ∷ []
+  frameFit-used : judged (onCore (onFrame 0 (setUsedSwitch 2)) served) ≡ 2 ∷ 29 ∷ []
+  frameFit-modified : judged (onCore (onFrame 0 (setModified 2)) served) ≡ 2 ∷ 29 ∷ []
+  frameFit-initial : judged (onCore (onFrame 0 (setInitial 2)) served) ≡ 2 ∷ 29 ∷ []
+  frameFit-transfer : judged (moving 3 served) ≡ 2 ∷ 29 ∷ []
+  inOnePlace-wired : judged (onCore (onFrame 0 (setWired 1)) served) ≡ 2 ∷ 30 ∷ []
+  inOnePlace-both : judged (onCore (setRemovalList (1 ∷ 0 ∷ [])) empty) ≡ 2 ∷ 30 ∷ []
+  inOnePlace-none : judged (onCore (setRemovalList (0 ∷ 0 ∷ [])) served) ≡ 2 ∷ 30 ∷ []
   -- An inactive slot has no frame: one of the two says no too from which this follows (frame-active).
-  frameActive-bare : judged (seated filled) ≡ 2 ∷ 30 ∷ 32 ∷ []
-  frameActive-held : judged (agree (onHeld (λ h. setAddresses (entries 1 0) (setStates (2 ∷ 0 ∷ 0 ∷ 0 ∷ []) h)) (seated filled))) ≡ 2 ∷ 24 ∷ 30 ∷ []
-  framedOnce : judged (onCore (λ c. setFreeQueue (0 ∷ 0 ∷ []) (setRemovalList (1 ∷ 2 ∷ []) (onFrame 1 (λ g. fresh 0) c))) served) ≡ 2 ∷ 31 ∷ []
-  framedHeld-none : judged (agree (seated active)) ≡ 2 ∷ 32 ∷ []
-  framedHeld-reading : judged (moving READING served) ≡ 2 ∷ 32 ∷ []
-  writingModified : judged (moving WRITING served) ≡ 2 ∷ 33 ∷ []
-  freeFrame-page : judged (onCore (onFrame 0 (λ g. setInitial 0 (fresh 0))) listed) ≡ 2 ∷ 34 ∷ []
-  freeFrame-used : judged (onCore (onFrame 0 (setUsedSwitch 1)) empty) ≡ 2 ∷ 34 ∷ []
-  freeFrame-modified : judged (onCore (onFrame 0 (setModified 1)) empty) ≡ 2 ∷ 34 ∷ []
-  freeFrame-initial : judged (onCore (onFrame 0 (setInitial 1)) empty) ≡ 2 ∷ 34 ∷ []
-  busyFrame : judged (onCore (λ c. setFreeQueue (2 ∷ 0 ∷ []) (setRemovalList (1 ∷ 0 ∷ []) c)) empty) ≡ 2 ∷ 35 ∷ []
-  clean-nulled : judged (onCore (setWords (1 ∷ 0 ∷ 0 ∷ 0 ∷ [])) served) ≡ 2 ∷ 36 ∷ []
-  clean-live : judged (onDisk (setRecords (0 ∷ 8 ∷ 0 ∷ 0 ∷ 0 ∷ 0 ∷ 0 ∷ 0 ∷ [])) reread) ≡ 2 ∷ 36 ∷ []
+  frameActive-bare : judged (seated filled) ≡ 2 ∷ 31 ∷ 33 ∷ []
+  frameActive-held : judged (agree (onHeld (λ h. setAddresses (entries 1 0) (setStates (2 ∷ 0 ∷ 0 ∷ 0 ∷ []) h)) (seated filled))) ≡ 2 ∷ 25 ∷ 31 ∷ []
+  framedOnce : judged (onCore (λ c. setFreeQueue (0 ∷ 0 ∷ []) (setRemovalList (1 ∷ 2 ∷ []) (onFrame 1 (λ g. fresh 0) c))) served) ≡ 2 ∷ 32 ∷ []
+  framedHeld-none : judged (agree (seated active)) ≡ 2 ∷ 33 ∷ []
+  framedHeld-reading : judged (moving READING served) ≡ 2 ∷ 33 ∷ []
+  writingModified : judged (moving WRITING served) ≡ 2 ∷ 34 ∷ []
+  freeFrame-page : judged (onCore (onFrame 0 (λ g. setInitial 0 (fresh 0))) listed) ≡ 2 ∷ 35 ∷ []
+  freeFrame-used : judged (onCore (onFrame 0 (setUsedSwitch 1)) empty) ≡ 2 ∷ 35 ∷ []
+  freeFrame-modified : judged (onCore (onFrame 0 (setModified 1)) empty) ≡ 2 ∷ 35 ∷ []
+  freeFrame-initial : judged (onCore (onFrame 0 (setInitial 1)) empty) ≡ 2 ∷ 35 ∷ []
+  busyFrame : judged (onCore (λ c. setFreeQueue (2 ∷ 0 ∷ []) (setRemovalList (1 ∷ 0 ∷ []) c)) empty) ≡ 2 ∷ 36 ∷ []
+  clean-nulled : judged (onCore (setWords (1 ∷ 0 ∷ 0 ∷ 0 ∷ [])) served) ≡ 2 ∷ 37 ∷ []
+  clean-live : judged (onDisk (setRecords (0 ∷ 8 ∷ 0 ∷ 0 ∷ 0 ∷ 0 ∷ 0 ∷ 0 ∷ [])) reread) ≡ 2 ∷ 37 ∷ []
   -- The hand and the counts.
-  hand : judged (onHeld (setHand 4) empty) ≡ 2 ∷ 37 ∷ []
-  free-count : judged (onHeld (setFree 3) empty) ≡ 2 ∷ 38 ∷ []
-  free-map : judged (onHeld (setFreeMap (7 ∷ [])) empty) ≡ 2 ∷ 39 ∷ []
-  free-map-past : judged (onHeld (setFreeMap (31 ∷ [])) empty) ≡ 2 ∷ 39 ∷ []
-  used-count : judged (setUsed (1 ∷ 0 ∷ []) empty) ≡ 2 ∷ 40 ∷ []
+  hand : judged (onHeld (setHand 4) empty) ≡ 2 ∷ 38 ∷ []
+  free-count : judged (onHeld (setFree 3) empty) ≡ 2 ∷ 39 ∷ []
+  free-map : judged (onHeld (setFreeMap (7 ∷ [])) empty) ≡ 2 ∷ 40 ∷ []
+  free-map-past : judged (onHeld (setFreeMap (31 ∷ [])) empty) ≡ 2 ∷ 40 ∷ []
+  used-count : judged (setUsed (1 ∷ 0 ∷ []) empty) ≡ 2 ∷ 41 ∷ []
 
 pub refused : Refused
 unfolding says leaves judged found
@@ -214,12 +218,15 @@ refused = record {
   mapOnce = refl;
   numberOnce = refl;
   accountFit = refl;
+  parentLower = refl;
+  parentLower-first = refl;
   emptyAccount-found = refl;
   emptyMap-found = refl;
   mapFit-found = refl;
   mapOnce-found = refl;
   numberOnce-found = refl;
   accountFit-found = refl;
+  parentLower-found = refl;
   addressFit = refl;
   imageFit = refl;
   stateFit = refl;

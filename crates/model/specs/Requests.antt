@@ -15,6 +15,7 @@ use Rattle.tables.specs.Rule.{Rule, Holds, same, below, _and_, _or_, each, test
 use Rattle.model.specs.declared.event.Event.{Event}
 use Rattle.model.specs.declared.event.Event.the-variants as Event
 use Rattle.model.specs.declared.event.Design.the-variants as Design
+use Rattle.model.specs.declared.event.Account.the-variants as Account
 use Rattle.model.specs.declared.event.Page.the-variants as Page
 use Rattle.model.specs.declared.event.Writeback.the-variants as Store
 use Rattle.model.specs.declared.event.Waiting.the-variants as Waiting
@@ -30,14 +31,13 @@ pub record Kind : Type 0 where
 abbrev pub kind : ℕ → Event → Kind
 kind t e = record { tag = t; event = e }
 
--- "01 create slot account number; 02 delete slot; 03 activate slot; 04 deactivate slot"; "0F limit account pages"
+-- "01 create slot account number; 02 delete slot; 03 activate slot; 04 deactivate slot"
 abbrev pub designKinds : Request → List Kind
 designKinds r =
     kind 1 (Event.Design (Design.Create (r .first) (r .second) (r .third)))
     ∷ kind 2 (Event.Design (Design.Delete (r .first)))
     ∷ kind 3 (Event.Design (Design.Activate (r .first)))
     ∷ kind 4 (Event.Design (Design.Deactivate (r .first)))
-    ∷ kind 15 (Event.Design (Design.Limit (r .first) (r .second)))
     ∷ []
 
 -- "05 fault slot page; 06 read slot page word; 07 write slot page word value"; "09 wire slot page; 0A unwire slot page"
@@ -60,7 +60,14 @@ writebackKinds r =
     ∷ kind 14 (Event.Writeback (Store.MapDone (r .first) (r .second)))
     ∷ []
 
--- the library's own kinds: 18 join slot page; 19 turn
+-- "0F limit account pages"; the library's own kinds: 17 move giver taker m,
+abbrev pub accountKinds : Request → List Kind
+accountKinds r =
+    kind 15 (Event.Account (Account.Limit (r .first) (r .second)))
+    ∷ kind 17 (Event.Account (Account.Move (r .first) (r .second) (r .third)))
+    ∷ []
+
+-- 18 join slot page, 19 turn
 abbrev pub waitingKinds : Request → List Kind
 waitingKinds r = kind 18 (Event.Waiting (Waiting.Join (r .first) (r .second))) ∷ kind 19 (Event.Waiting Waiting.Turn) ∷ []
 
@@ -70,7 +77,7 @@ tagged t [] = Unknown
 tagged t (k ∷ ks) = if (eqb t (k .tag)) (Known (k .event)) (tagged t ks)
 
 abbrev pub kinds : Request → List Kind
-kinds r = designKinds r ++ pageKinds r ++ writebackKinds r ++ waitingKinds r
+kinds r = designKinds r ++ pageKinds r ++ writebackKinds r ++ accountKinds r ++ waitingKinds r
 
 unfoldable pub decoded : Request → Decoded
 decoded r = tagged (r .kind) (kinds r)
@@ -80,9 +87,9 @@ abbrev pub decodedNumber : Decoded → ℕ
 decodedNumber (Known e) = 0
 decodedNumber Unknown = 3
 
--- the kinds of event are 1 to 15, the event program's, and 18 and 19
+-- the kinds of event are 1 to 15, the event program's, and 17 to 19 (16 is that program's cut and restart)
 abbrev pub known : ℕ → Rule
-known t = below 0 t and below t 16 or same t 18 or same t 19
+known t = below 0 t and below t 16 or same t 17 or same t 18 or same t 19
 
 abbrev pub kindFits : Request → Rule
 kindFits r = known (r .kind)
@@ -117,7 +124,8 @@ by-tag r t h = sound (each 20 (first r)) tt t h
 unknown-past : (t : ℕ) → ¬ (t < 20) → ¬ Holds (known t)
 unknown-past t l (inl h) = omega (arith, l, h .1)
 unknown-past t l (inr (inl h)) = omega (arith, l, h)
-unknown-past t l (inr (inr h)) = omega (arith, l, h)
+unknown-past t l (inr (inr (inl h))) = omega (arith, l, h)
+unknown-past t l (inr (inr (inr h))) = omega (arith, l, h)
 
 decoded-number : (r : Request) → decodedNumber (decoded r) ≡ kindAnswer r
 unfolding decoded firstNo

@@ -1,6 +1,6 @@
 -- Format and restart.
 use mathlib.Core.Bool.{Bool}
-use mathlib.Core.List.{[]}
+use mathlib.Core.List.{List, []}
 use Prim.Native.Nat.{ℕ, suc, _*_}
 use lib.Dec.{eqb}
 use lib.ListN.{replicate}
@@ -11,14 +11,15 @@ use Rattle.model.specs.Lines.{FREE, FILED}
 use Rattle.model.specs.State.{Disk, State, LINE, noFrame, allPages, slotOf}
 use Rattle.model.specs.Setters.{counted}
 
--- Format zeroes all of the disk part.
-unfoldable pub formatted : Sizes → Disk
-formatted z = record {
+-- Format zeroes all of the disk part but the parents: those it is handed are stored, for account 0 always 0.
+unfoldable pub formatted : Sizes → List ℕ → Disk
+formatted z wanted = record {
   records = replicate (z .records * z .words) 0;
   numbers = replicate (z .slots) 0;
   accounts = replicate (z .slots) 0;
   maps = replicate (allPages z) 0;
   limits = replicate (z .accounts) 0;
+  parents = tab (z .accounts) (λ a. if (eqb a 0) 0 (at wanted a)) 0;
 }
 
 -- a record is listed, and the page that lists it

@@ -17,29 +17,29 @@ module _ (z : Sizes) (st : State) where
   abbrev c : Frames
   c = frames st
 
-  -- 1 to 6
+  -- 1 to 7
   abbrev pub ofDisk : List Rule
-  ofDisk = Rules.emptyAccount z v ∷ Rules.emptyMap z v ∷ Rules.mapFit z v ∷ Rules.mapOnce z v ∷ Rules.numberOnce z v ∷ Rules.accountFit z v ∷ []
+  ofDisk = Rules.emptyAccount z v ∷ Rules.emptyMap z v ∷ Rules.mapFit z v ∷ Rules.mapOnce z v ∷ Rules.numberOnce z v ∷ Rules.accountFit z v ∷ Rules.parentLower z v ∷ []
 
-  -- 7 to 12
+  -- 8 to 13
   abbrev pub ofRanges : List Rule
   ofRanges = Rules.addressFit z v ∷ Rules.imageFit z v ∷ Rules.stateFit z v ∷ Rules.ownerFit z v ∷ Rules.activeFit z v ∷ Rules.updatingFit z v ∷ []
 
-  -- 13 to 25
+  -- 14 to 26
   abbrev pub ofRecords : List Rule
   ofRecords = Rules.heldOnce z v ∷ Rules.held z v ∷ Rules.heldBy z v ∷ Rules.filed z v ∷ Rules.filedBy z v ∷ Rules.mapped z v ∷ Rules.imaged z v ∷ Rules.imageOnce z v ∷ Rules.imageZero z v
       ∷ Rules.leavingBegun z v ∷ Rules.activeFilled z v ∷ Rules.addressActive z v ∷ Rules.updateActive z v ∷ []
 
-  -- 26 and 27
+  -- 27 and 28
   abbrev pub ofQueues : List Rule
   ofQueues = queue (z .frames) (st .memory .core .free-queue) ∷ queue (z .frames) (st .memory .core .removal-list) ∷ []
 
-  -- 28 to 36
+  -- 29 to 37
   abbrev pub ofFrames : List Rule
   ofFrames = Rules.frameFit z v c ∷ Rules.inOnePlace z v c ∷ Rules.frameActive z v c ∷ Rules.framedOnce z v c ∷ Rules.framedHeld z v c ∷ Rules.writingModified z v c ∷ Rules.freeFrame z v c
       ∷ Rules.busyFrame z v c ∷ Rules.clean z v c (at (st .disk .records)) ∷ []
 
-  -- 37 to 40
+  -- 38 to 41
   abbrev pub ofCounts : List Rule
   ofCounts = below (st .memory .held .pool .hand) (z .records) ∷ same (st .memory .held .pool .free) (freeCount z (v .state))
       ∷ (each (mapWords z) λ k. same (at (st .memory .held .free-map) k) (freeWord z (v .state) k)) ∷ (each (z .accounts) λ q. same (at (st .memory .used) q) (usedOf z v c q)) ∷ []

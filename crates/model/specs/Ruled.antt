@@ -18,6 +18,7 @@ pub record OnDisk (z : Sizes) (v : Files) : Type 0 where
   pub map-once : Holds (Rules.mapOnce z v)
   pub number-once : Holds (Rules.numberOnce z v)
   pub account-fit : Holds (Rules.accountFit z v)
+  pub parent-lower : Holds (Rules.parentLower z v)
 
 -- the memory rules of pages, records and slots
 pub record OfRecords (z : Sizes) (v : Files) : Type 0 where
@@ -81,11 +82,11 @@ module _ (z : Sizes) (st : State) (r : Ruled z st) where
 
 pub disk-ruled : (z : Sizes) (st : State) → Holds (Rules.diskRules z st) → OnDisk z (files st)
 unfolding Rules.diskRules
-disk-ruled z st h = record { empty-account = h .0; empty-map = h .1 .0; map-fit = h .1 .1 .0; map-once = h .1 .1 .1 .0; number-once = h .1 .1 .1 .1 .0; account-fit = h .1 .1 .1 .1 .1 }
+disk-ruled z st h = record { empty-account = h .0; empty-map = h .1 .0; map-fit = h .1 .1 .0; map-once = h .1 .1 .1 .0; number-once = h .1 .1 .1 .1 .0; account-fit = h .1 .1 .1 .1 .1 .0; parent-lower = h .1 .1 .1 .1 .1 .1 }
 
 pub rules-disk : (z : Sizes) (st : State) → OnDisk z (files st) → Holds (Rules.diskRules z st)
 unfolding Rules.diskRules
-rules-disk z st h = (h .empty-account, (h .empty-map, (h .map-fit, (h .map-once, (h .number-once, h .account-fit)))))
+rules-disk z st h = (h .empty-account, (h .empty-map, (h .map-fit, (h .map-once, (h .number-once, (h .account-fit, h .parent-lower))))))
 
 records-ruled : (z : Sizes) (st : State) → Holds (Rules.rangeRules z st) → Holds (Rules.recordRules z st) → OfRecords z (files st)
 unfolding Rules.rangeRules Rules.recordRules

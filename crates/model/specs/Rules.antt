@@ -16,6 +16,10 @@ once n entry = each n λ i. each n λ j. named (entry i) λ r. same (entry j) (s
 abbrev pub fit : ℕ → ℕ → (ℕ → ℕ) → Rule
 fit n m entry = each n λ i. named (entry i) λ r. below r m
 
+-- of the first n accounts each but 0 has a parent with a lower number
+abbrev pub lower : ℕ → (ℕ → ℕ) → Rule
+lower n parent = each n λ a. below 0 a then below (parent a) a
+
 -- a design's slot is active
 abbrev pub isActive : Files → ℕ → Rule
 isActive v s = same (v .active s) 1
@@ -45,6 +49,10 @@ module _ (z : Sizes) (v : Files) where
   -- an account is below Q.
   abbrev pub accountFit : Rule
   accountFit = each (z .slots) λ s. below (v .account s) (z .accounts)
+
+  -- Each account but 0 has a parent with a lower number.
+  abbrev pub parentLower : Rule
+  parentLower = lower (z .accounts) (v .parent)
 
   -- ── memory rules: pages, records and slots ──
   -- an address and an image entry is at most R, a state is one of six, an owner is below S, a switch is 0 or 1;
@@ -169,7 +177,7 @@ module _ (z : Sizes) (st : State) where
   c = frames st
 
   unfoldable pub diskRules : Rule
-  diskRules = emptyAccount z v and emptyMap z v and mapFit z v and mapOnce z v and numberOnce z v and accountFit z v
+  diskRules = emptyAccount z v and emptyMap z v and mapFit z v and mapOnce z v and numberOnce z v and accountFit z v and parentLower z v
 
   -- ranges of what memory holds: every value that names something names something that exists
   unfoldable pub rangeRules : Rule

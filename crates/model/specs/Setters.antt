@@ -11,19 +11,22 @@ abbrev pub onDisk : (Disk → Disk) → State → State
 onDisk f st = record { disk = f (st .disk); memory = st .memory }
 
 abbrev pub setRecords : List ℕ → Disk → Disk
-setRecords x d = record { records = x; numbers = d .numbers; accounts = d .accounts; maps = d .maps; limits = d .limits }
+setRecords x d = record { records = x; numbers = d .numbers; accounts = d .accounts; maps = d .maps; limits = d .limits; parents = d .parents }
 
 abbrev pub setNumbers : List ℕ → Disk → Disk
-setNumbers x d = record { records = d .records; numbers = x; accounts = d .accounts; maps = d .maps; limits = d .limits }
+setNumbers x d = record { records = d .records; numbers = x; accounts = d .accounts; maps = d .maps; limits = d .limits; parents = d .parents }
 
 abbrev pub setAccounts : List ℕ → Disk → Disk
-setAccounts x d = record { records = d .records; numbers = d .numbers; accounts = x; maps = d .maps; limits = d .limits }
+setAccounts x d = record { records = d .records; numbers = d .numbers; accounts = x; maps = d .maps; limits = d .limits; parents = d .parents }
 
 abbrev pub setMaps : List ℕ → Disk → Disk
-setMaps x d = record { records = d .records; numbers = d .numbers; accounts = d .accounts; maps = x; limits = d .limits }
+setMaps x d = record { records = d .records; numbers = d .numbers; accounts = d .accounts; maps = x; limits = d .limits; parents = d .parents }
 
 abbrev pub setLimits : List ℕ → Disk → Disk
-setLimits x d = record { records = d .records; numbers = d .numbers; accounts = d .accounts; maps = d .maps; limits = x }
+setLimits x d = record { records = d .records; numbers = d .numbers; accounts = d .accounts; maps = d .maps; limits = x; parents = d .parents }
+
+abbrev pub setParents : List ℕ → Disk → Disk
+setParents x d = record { records = d .records; numbers = d .numbers; accounts = d .accounts; maps = d .maps; limits = d .limits; parents = x }
 
 -- ── the memory part ──
 abbrev pub onCore : (Core → Core) → State → State

@@ -13,8 +13,9 @@ use Rattle.model.specs.declared.sizes.Sizes.{Sizes}
 use Rattle.model.specs.declared.frame.Frame.{Frame}
 use Rattle.model.specs.declared.frame.Pool.{Pool}
 use Rattle.model.specs.Lines.{FREE, LIVE}
+use Rattle.model.specs.Payer
 
--- Disk part: R records of W words; per slot a unique number (0 = empty slot), an account, and a file map of N entries; per account a limit.
+-- Disk part: R records of W words; per slot a unique number (0 = empty slot), an account, and a file map of N entries; per account a limit and a parent (account 0's is never looked at).
 -- Map entry 0 is a page of zeros, else the entry is record number + 1.
 pub record Disk : Type 0 where
   pub records : List ℕ
@@ -22,6 +23,7 @@ pub record Disk : Type 0 where
   pub accounts : List ℕ
   pub maps : List ℕ
   pub limits : List ℕ
+  pub parents : List ℕ
 
 -- The memory frames, the frames' words, the free frame queue, the removal list (frame + 1, packed at the front, then 0).
 pub record Core : Type 0 where
@@ -96,10 +98,12 @@ abbrev pub mapWords : Sizes → ℕ
 mapWords z = (z .records + 31) / 32
 
 -- ── look-ups: each table as a function ──
--- designs, pages and records
+-- designs, accounts, pages and records
 pub record Files : Type 0 where
   pub number : ℕ → ℕ
   pub account : ℕ → ℕ
+  pub limit : ℕ → ℕ
+  pub parent : ℕ → ℕ
   pub map : ℕ → ℕ
   pub address : ℕ → ℕ
   pub state : ℕ → ℕ
@@ -119,6 +123,8 @@ abbrev pub files : State → Files
 files st = record {
   number = at (st .disk .numbers);
   account = at (st .disk .accounts);
+  limit = at (st .disk .limits);
+  parent = at (st .disk .parents);
   map = at (st .disk .maps);
   address = at (st .memory .held .addresses);
   state = at (st .memory .held .states);
@@ -153,11 +159,11 @@ woven z c i = some (z .frames) λ f. same (c .frame f .page) (suc i) and same (c
 unfoldable pub charged : Sizes → Files → Frames → ℕ → Rule
 charged z v c i = live v i or woven z c i
 
--- who pays for the pages of a slot: its account
+-- who pays for the pages of a slot: the payer of its account
 unfoldable pub payer : Files → ℕ → ℕ
-payer v s = v .account s
+payer v s = Payer.payer (v .parent) (v .limit) (v .account s)
 
--- An account's used count is the charged pages of its active designs plus the map entries above 0 of its inactive ones.
+-- An account's used count is the charged pages of its active designs plus the map entries above 0 of its inactive ones, over all designs it pays for.
 unfoldable pub usedOf : Sizes → Files → Frames → ℕ → ℕ
 usedOf z v c q = count (allPages z) λ i. eqb (payer v (slotOf z i)) q && if (eqb (v .active (slotOf z i)) 1) (test (charged z v c i)) (ltb 0 (v .map i))
 

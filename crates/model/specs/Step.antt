@@ -3,11 +3,13 @@ use mathlib.Core.List.{List, []}
 use Prim.Native.Nat.{ℕ, zero, suc, _*_}
 use lib.Dec.{T}
 use lib.ListN.{length, take, drop}
+use Rattle.tables.specs.Base.{at}
 use Rattle.tables.specs.Questions.{Questions, none, ask, firstNo, above}
 use Rattle.tables.specs.Rule.{Rule, same, _and_}
 use Rattle.model.specs.declared.sizes.Sizes.{Sizes}
 use Rattle.model.specs.declared.event.Answer.{Answer}
-use Rattle.model.specs.declared.event.Design.the-variants.{Limit, Create, Delete, Activate, Deactivate}
+use Rattle.model.specs.declared.event.Design.the-variants.{Create, Delete, Activate, Deactivate}
+use Rattle.model.specs.declared.event.Account.the-variants.{Limit, Move}
 use Rattle.model.specs.declared.event.Page.the-variants.{Fault, Read, Write, Wire, Unwire}
 use Rattle.model.specs.declared.event.Writeback.the-variants.{Claim, Truncate, Update, PageDone, MapDone}
 use Rattle.model.specs.declared.event.Waiting.the-variants.{Join, Turn}
@@ -15,9 +17,10 @@ use Rattle.model.specs.declared.event.Event.{Event}
 use Rattle.model.specs.declared.event.Event.the-variants as Event
 use Rattle.model.specs.Sizes.{sizesFit}
 use Rattle.model.specs.State.{Disk, Memory, State, LINE, allPages, mapWords}
-use Rattle.model.specs.Rules.{diskRules, allRules}
+use Rattle.model.specs.Rules.{lower, diskRules, allRules}
 use Rattle.model.specs.Questions.{Turning, nobody, serves, goesBack, faults, claims, sendsAway, questions, lookQuestions, turnQuestions, turning}
 use Rattle.model.specs.Designs
+use Rattle.model.specs.Accounts
 use Rattle.model.specs.Pages
 use Rattle.model.specs.Writeback
 use Rattle.model.specs.Line
@@ -26,7 +29,7 @@ use Rattle.model.specs.Restart.{formatted, restarted}
 -- ── question 1: sizes within limits, every slice of its exact length? ──
 abbrev pub diskLengths : Sizes → Disk → Rule
 diskLengths z d = same (length (d .records)) (z .records * z .words) and same (length (d .numbers)) (z .slots) and same (length (d .accounts)) (z .slots)
-    and same (length (d .maps)) (allPages z) and same (length (d .limits)) (z .accounts)
+    and same (length (d .maps)) (allPages z) and same (length (d .limits)) (z .accounts) and same (length (d .parents)) (z .accounts)
 
 abbrev pub memoryLengths : Sizes → Memory → Rule
 memoryLengths z m = same (length (m .core .frames)) (z .frames) and same (length (m .core .words)) (z .frames * z .words) and same (length (m .core .free-queue)) (z .frames)
@@ -48,11 +51,12 @@ answer z st e = firstNo (asked z st (questions z st e))
 module _ (z : Sizes) (st : State) where
   -- the state once the event is carried out
   unfoldable pub carried : Event → State
-  carried (Event.Design (Limit q n)) = Designs.limit z st q n
   carried (Event.Design (Create s q n)) = Designs.create z st s q n
   carried (Event.Design (Delete s)) = Designs.delete z st s
   carried (Event.Design (Activate s)) = Designs.activate z st s
   carried (Event.Design (Deactivate s)) = Designs.deactivate z st s
+  carried (Event.Account (Limit q n)) = Accounts.limit z st q n
+  carried (Event.Account (Move g t m)) = Accounts.move z st g t m
   carried (Event.Page (Fault s p)) = Pages.fault z st s p
   carried (Event.Page (Read s p w)) = Pages.read z st s p
   carried (Event.Page (Write s p w x)) = Pages.write z st s p w x
@@ -69,6 +73,7 @@ module _ (z : Sizes) (st : State) where
   -- its result: 0 unless the papers name one
   unfoldable pub result : Event → ℕ
   result (Event.Design e) = 0
+  result (Event.Account e) = 0
   result (Event.Page (Fault s p)) = Pages.faultFrame st
   result (Event.Page (Read s p w)) = Pages.wordRead z st s p w
   result (Event.Page (Write s p w x)) = 0
@@ -96,9 +101,13 @@ outcome (suc n) result old new = record { answer = record { refusal = suc n; res
 unfoldable pub step : Sizes → State → Event → Outcome State
 step z st e = outcome (answer z st e) (result z st e) st (carried z st e)
 
--- Format asks 1
-unfoldable pub format : Sizes → Disk → Outcome Disk
-format z d = outcome (firstNo (ask 1 (sizesFit z and diskLengths z d) none)) 0 d (formatted z)
+-- what format is lent: the disk part, and the wanted parents
+abbrev pub formatLengths : Sizes → List ℕ → Disk → Rule
+formatLengths z wanted d = diskLengths z d and same (length wanted) (z .accounts)
+
+-- Format asks 1, then 3: a wanted parent that is not lower gets 3
+unfoldable pub format : Sizes → List ℕ → Disk → Outcome Disk
+format z wanted d = outcome (firstNo (ask 1 (sizesFit z and formatLengths z wanted d) (ask 3 (lower (z .accounts) (at wanted)) none))) 0 d (formatted z wanted)
 
 -- Restart asks 1 and 2 (disk rules only)
 unfoldable pub restart : Sizes → State → Outcome State
@@ -118,11 +127,12 @@ turn-order z st (sendsAway n) = tt
 
 -- Asked in number order, 1 to 3 first.
 pub in-order : (z : Sizes) (st : State) (e : Event) → T (above 0 (asked z st (questions z st e)))
-in-order z st (Event.Design (Limit q n)) = tt
 in-order z st (Event.Design (Create s q n)) = tt
 in-order z st (Event.Design (Delete s)) = tt
 in-order z st (Event.Design (Activate s)) = tt
 in-order z st (Event.Design (Deactivate s)) = tt
+in-order z st (Event.Account (Limit q n)) = tt
+in-order z st (Event.Account (Move g t m)) = tt
 in-order z st (Event.Page (Fault s p)) = tt
 in-order z st (Event.Page (Read s p w)) = tt
 in-order z st (Event.Page (Write s p w x)) = tt

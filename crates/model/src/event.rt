@@ -1,11 +1,7 @@
-// The events that a restarted keeper carries out, in four families, and what it answers.
+// The events that a restarted keeper carries out, in five families, and what it answers.
 
-// Events about a design or an account.
+// Events about a design.
 pub enum Design {
-    Limit {
-        account: usize,
-        pages: usize,
-    },
     Create {
         slot: usize,
         account: usize,
@@ -19,6 +15,19 @@ pub enum Design {
     },
     Deactivate {
         slot: usize,
+    },
+}
+
+// Events about an account. Move shifts pages of limit between an account and its parent.
+pub enum Account {
+    Limit {
+        account: usize,
+        pages: usize,
+    },
+    Move {
+        giver: usize,
+        taker: usize,
+        pages: usize,
     },
 }
 
@@ -66,6 +75,7 @@ pub enum Waiting {
 
 pub enum Event {
     Design(Design),
+    Account(Account),
     Page(Page),
     Writeback(Writeback),
     Waiting(Waiting),

@@ -67,5 +67,11 @@ pub const NOTHING_TO_CLAIM: u32 = 21;
 // Done: such a transfer under way?
 pub const NO_TRANSFER: u32 = 22;
 
+// Move: the two are parent and child, m above 0, the giver has m, the taker stays at 65,535 or below?
+pub const NO_MOVE: u32 = 25;
+
+// Move: each account whose limit or count it changes has used at most its limit?
+pub const OVER_LIMIT: u32 = 26;
+
 // Join: fewer than 32 waiting?
 pub const LINE_FULL: u32 = 27;

@@ -1,14 +1,16 @@
 // A request as numbers, and the event that it asks for.
 ghost use mathlib.Core.List.{_++_};
 ghost use mathlib.Core.Path.{_≡_};
-ghost use Rattle.model.specs.Requests.{tagged, pageKinds, writebackKinds, waitingKinds, decoded, decodedNumber, kindAnswer};
+ghost use Rattle.model.specs.Requests.{tagged, pageKinds, writebackKinds, accountKinds, waitingKinds, decoded, decodedNumber, kindAnswer};
+use crate::event::Account;
 use crate::event::Design;
 use crate::event::Event;
 use crate::event::Page;
 use crate::event::Waiting;
 use crate::event::Writeback;
 
-// kind: the event program's tag; then the event's values, in that program's order. What a kind has no use for is ignored.
+// kind: the event program's tag, or from 17 up one that it does not have; then the event's values, in order. What a kind has
+// no use for is ignored.
 #[repr(C)]
 pub struct Request {
     pub kind: u32,
@@ -23,7 +25,7 @@ pub enum Decoded {
     Unknown,
 }
 
-// The event that a request asks for. Looks first among the kinds about a design or an account.
+// The event that a request asks for. Looks first among the kinds about a design.
 pub fn decode(request: Request) -> Decoded
     ensures { λ r. ⌜ (r ≡ decoded request) × (decodedNumber r ≡ kindAnswer request) ⌝ }
 {
@@ -39,10 +41,6 @@ pub fn decode(request: Request) -> Decoded
         2 => Design::Delete { slot: first },
         3 => Design::Activate { slot: first },
         4 => Design::Deactivate { slot: first },
-        15 => Design::Limit {
-            account: first,
-            pages: second,
-        },
         _ => return page(request),
     };
     Decoded::Known(Event::Design(event))
@@ -50,7 +48,7 @@ pub fn decode(request: Request) -> Decoded
 
 // .. then among those about one page.
 fn page(request: Request) -> Decoded
-    ensures { λ r. ⌜ r ≡ tagged (request .kind) (pageKinds request ++ writebackKinds request ++ waitingKinds request) ⌝ }
+    ensures { λ r. ⌜ r ≡ tagged (request .kind) (pageKinds request ++ writebackKinds request ++ accountKinds request ++ waitingKinds request) ⌝ }
 {
     let kind = request.kind;
     let slot = request.first as usize;
@@ -74,7 +72,7 @@ fn page(request: Request) -> Decoded
 
 // .. then among those that free or move.
 fn writeback(request: Request) -> Decoded
-    ensures { λ r. ⌜ r ≡ tagged (request .kind) (writebackKinds request ++ waitingKinds request) ⌝ }
+    ensures { λ r. ⌜ r ≡ tagged (request .kind) (writebackKinds request ++ accountKinds request ++ waitingKinds request) ⌝ }
 {
     let kind = request.kind;
     let first = request.first as usize;
@@ -94,9 +92,31 @@ fn writeback(request: Request) -> Decoded
             slot: first,
             good: second,
         },
-        _ => return waiting(request),
+        _ => return account(request),
     };
     Decoded::Known(Event::Writeback(event))
+}
+
+// .. then among those about an account.
+fn account(request: Request) -> Decoded
+    ensures { λ r. ⌜ r ≡ tagged (request .kind) (accountKinds request ++ waitingKinds request) ⌝ }
+{
+    let kind = request.kind;
+    let first = request.first as usize;
+    let second = request.second as usize;
+    let event = match kind {
+        15 => Account::Limit {
+            account: first,
+            pages: second,
+        },
+        17 => Account::Move {
+            giver: first,
+            taker: second,
+            pages: request.third as usize,
+        },
+        _ => return waiting(request),
+    };
+    Decoded::Known(Event::Account(event))
 }
 
 // .. and last among those of the waiting line.

@@ -23,6 +23,7 @@ use Rattle.model.specs.Own.{own, refusal, first-no}
 use Rattle.model.specs.OwnLaws.{done, own-no, own-yes, outcome-no}
 use Rattle.leaves.specs.Asks.{slotAsked}
 use Rattle.leaves.specs.FrameLaws.{frameIn, frame-take}
+use Rattle.leaves.specs.Payers.{whoPays}
 use Rattle.pages.specs.Asks.{frameAsked}
 use Rattle.pages.specs.Needs.{Seats}
 use Rattle.pages.specs.Seen.{seenWrite}
@@ -37,6 +38,7 @@ pub record WriteCall : Type 0 where
   pub numbers : List ℕ
   pub accounts : List ℕ
   pub limits : List ℕ
+  pub parents : List ℕ
   pub words : List ℕ
   pub addresses : List ℕ
   pub states : List ℕ
@@ -64,7 +66,11 @@ module _ (a : WriteCall) where
   i = pageOf z s p
 
   abbrev pub state : State
-  state = seenWrite (take (z .frames) fs) (a .numbers) (a .accounts) (a .limits) (a .words) (a .addresses) (a .states) (a .active) (a .used)
+  state = seenWrite (take (z .frames) fs) (a .numbers) (a .accounts) (a .limits) (a .parents) (a .words) (a .addresses) (a .states) (a .active) (a .used)
+
+  -- who pays for the slot
+  abbrev who : ℕ
+  who = whoPays (a .accounts) (a .limits) (a .parents) s
 
   abbrev isCharged? : Rule
   isCharged? = charged z (files state) (frames state) i
@@ -117,8 +123,8 @@ module _ (a : WriteCall) where
           ])
           (λ k. elim k [ inl l ↦ inl l | inr (j, l, (x, m)) ↦ inr (sym (its-told z fs i h seats (λ y. same (y .modified) (g .modified)) its-switch j l x) ∙ m) ])
 
-      -- b is what the code finds, q the account, r what the payment tells and us what it leaves
-      module _ (j : ℕ) (b r : Bool) (q : ℕ) (us : List ℕ) (ej : j ≡ i) (eb : b ≡ test (isCharged (g .modified) (a .addresses) (a .states) j)) (eq : q ≡ at (a .accounts) s)
+      -- b is what the code finds, q who pays, r what the payment tells and us what it leaves
+      module _ (j : ℕ) (b r : Bool) (q : ℕ) (us : List ℕ) (ej : j ≡ i) (eb : b ≡ test (isCharged (g .modified) (a .addresses) (a .states) j)) (eq : q ≡ who)
           (er : r ≡ if b true (ltb (at (a .used) q) (at (a .limits) q))) (eu : us ≡ if (r && not b) (charged1 (a .used) q) (a .used)) where
         found : b ≡ test isCharged?
         found = eb ∙ ap (λ (k : ℕ). test (isCharged (g .modified) (a .addresses) (a .states) k)) ej ∙ its-charge
@@ -129,7 +135,7 @@ module _ (a : WriteCall) where
 
         tells : r ≡ test (isCharged? or payable z state s 1)
         unfolding test payer
-        tells = er ∙ (λ t. if (found t) true (ltb (at (a .used) (eq t)) (at (a .limits) (eq t)))) ∙ go (test isCharged?) (below-more (at (a .used) (at (a .accounts) s)) (at (a .limits) (at (a .accounts) s)))
+        tells = er ∙ (λ t. if (found t) true (ltb (at (a .used) (eq t)) (at (a .limits) (eq t)))) ∙ go (test isCharged?) (below-more (at (a .used) who) (at (a .limits) who))
           where
             go : (c : Bool) {x y : Bool} → x ≡ y → if c true x ≡ (c || y)
             go true w = refl
@@ -154,7 +160,7 @@ module _ (a : WriteCall) where
 
           pub used-yes : us ≡ usedLeft z state s p (a .word) (a .value)
           unfolding usedThen payer
-          used-yes = eu ∙ (λ t. if (ok t && not (found t)) (charged1 (a .used) (eq t)) (a .used)) ∙ go (test isCharged?) (charged1 (a .used) (at (a .accounts) s)) (a .used)
+          used-yes = eu ∙ (λ t. if (ok t && not (found t)) (charged1 (a .used) (eq t)) (a .used)) ∙ go (test isCharged?) (charged1 (a .used) who) (a .used)
               ∙ sym (ap (λ (m : ℕ). outcome m 0 (a .used) (usedThen z state s i) .left) all)
             where
               go : (c : Bool) (x y : List ℕ) → if (not c) x y ≡ if c y x

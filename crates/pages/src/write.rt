@@ -11,10 +11,10 @@ use crate::asks::page_of;
 use crate::asks::word_of;
 use crate::charges::is_charged;
 use crate::charges::pay;
-use leaves::cells::at16;
 use leaves::cells::put32;
 use leaves::frames::frame_at;
 use leaves::frames::with_frame;
+use leaves::payer::slot_payer;
 use model::applied::Framed;
 use model::applied::answered;
 use model::frame::Frame;
@@ -31,6 +31,7 @@ pub fn write(
     numbers: &[u32],
     accounts: &[u16],
     limits: &[u16],
+    parents: &[u16],
     words: &mut [u32],
     addresses: &[u16],
     states: &[u8],
@@ -38,10 +39,10 @@ pub fn write(
     used: &mut [u16],
 ) -> Framed
     requires { ⌜ Seats sizes (take (sizes .frames) frames) ⌝ }
-    ensures answer { λ r. ⌜ r .answer ≡ own sizes (enteredWrite (take (sizes .frames) frames) numbers accounts limits words addresses states active used) (writing slot page word value) .answer ⌝ }
-    ensures frames { λ r. ⌜ take (sizes .frames) (r .frames) ≡ own sizes (enteredWrite (take (sizes .frames) frames) numbers accounts limits words addresses states active used) (writing slot page word value) .left .memory .core .frames ⌝ }
-    ensures words { λ r. ⌜ now (words .exit) ≡ own sizes (enteredWrite (take (sizes .frames) frames) numbers accounts limits words addresses states active used) (writing slot page word value) .left .memory .core .words ⌝ }
-    ensures used { λ r. ⌜ now (used .exit) ≡ usedLeft sizes (enteredWrite (take (sizes .frames) frames) numbers accounts limits words addresses states active used) slot page word value ⌝ }
+    ensures answer { λ r. ⌜ r .answer ≡ own sizes (enteredWrite (take (sizes .frames) frames) numbers accounts limits parents words addresses states active used) (writing slot page word value) .answer ⌝ }
+    ensures frames { λ r. ⌜ take (sizes .frames) (r .frames) ≡ own sizes (enteredWrite (take (sizes .frames) frames) numbers accounts limits parents words addresses states active used) (writing slot page word value) .left .memory .core .frames ⌝ }
+    ensures words { λ r. ⌜ now (words .exit) ≡ own sizes (enteredWrite (take (sizes .frames) frames) numbers accounts limits parents words addresses states active used) (writing slot page word value) .left .memory .core .words ⌝ }
+    ensures used { λ r. ⌜ now (used .exit) ≡ usedLeft sizes (enteredWrite (take (sizes .frames) frames) numbers accounts limits parents words addresses states active used) slot page word value ⌝ }
 {
     let in_range = (slot < sizes.slots) & ((page < sizes.pages) & (word < sizes.words));
     let refusal = ask_served(false, sizes, in_range, slot, page, frames, numbers, active);
@@ -52,7 +53,7 @@ pub fn write(
     let mut frame = frame_at(frames, f);
     let i = page_of(sizes, slot, page);
     let charged = is_charged(i, frame.modified, addresses, states);
-    let payer = at16(accounts, slot) as usize;
+    let payer = slot_payer(parents, limits, accounts, slot);
     if pay(charged, payer, limits, used) {} else {
         return answered(frames, AT_LIMIT, 0);
     }

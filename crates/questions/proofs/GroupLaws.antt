@@ -1,6 +1,6 @@
 -- What the proofs of the groups cite: tests joined, and tables made on the way put in place of what they tell.
 use mathlib.Core.Path.{_≡_, refl, sym, _∙_}
-use mathlib.Core.Bool.{Bool, true, false, _&&_}
+use mathlib.Core.Bool.{Bool, true, false, _&&_, and-assoc}
 use mathlib.Core.List.{List}
 use Prim.Native.Nat.{ℕ, suc, _*_, _<_}
 use native.Mathlib.Omega.{arith}
@@ -9,7 +9,8 @@ use lib.ListN.{length}
 use Rattle.tables.specs.Base.{at}
 use Rattle.tables.specs.Queue.{queue}
 use Rattle.tables.specs.Marks.{bitOf}
-use Rattle.tables.specs.Rule.{same, below, _and_, each, Holds, test, alike}
+use Rattle.tables.specs.Rule.{Rule, same, below, _and_, each, Holds, test, alike}
+use Rattle.tables.specs.Turn.{both, four}
 use Rattle.model.specs.declared.frame.Frame.{Frame}
 use Rattle.model.specs.declared.sizes.Sizes.{Sizes}
 use Rattle.model.specs.State.{frameAt}
@@ -32,6 +33,12 @@ three-true a b c e = let x = both-true (a && b) c e in let y = both-true a b (x 
 
 pub four-true : (a b c d : Bool) → ((a && b) && c) && d ≡ true → a ≡ true
 four-true a b c d e = three-true a b c (both-true ((a && b) && c) d e .0) .0
+
+pub five-true : (a b c d e : Bool) → (((a && b) && c) && d) && e ≡ true → a ≡ true
+five-true a b c d e x = four-true a b c d (both-true (((a && b) && c) && d) e x .0)
+
+pub five : (f g h k l : Rule) (a b c d e : Bool) → a ≡ test f → b ≡ test g → c ≡ test h → d ≡ test k → e ≡ test l → (((a && b) && c) && d) && e ≡ test (f and g and h and k and l)
+five f g h k l a b c d e p q r s t = and-assoc ((a && b) && c) d e ∙ four f g h (k and l) a b c (d && e) p q r (both k l d e s t)
 
 pub same-told : (a b x : ℕ) → x ≡ b → eqb a x ≡ test (same a b)
 unfolding test
@@ -70,12 +77,12 @@ module _ (z : Sizes) (numbers account maps addresses states owners active updati
 
 -- ── what the pass over frames needs, and frames by the tables of their places ──
 module _ (z : Sizes) (account records words free removal addresses states active : List ℕ) (long : FramesLong z account records words free removal addresses states active) where
-  pub frames-fit : Holds (fit (length addresses) (z .records) (at addresses)) → Holds (each (z .slots) λ s. below (at account s) (z .accounts)) → FramesFit z account active addresses states words records
+  pub frames-fit : Holds (fit (length addresses) (z .records) (at addresses)) → Holds (each (length account) λ s. below (at account s) (z .accounts)) → FramesFit z account active addresses states words records
   frames-fit a q = record {
     few = omega (arith, long .within .frames-most);
     pages = long .within .pages;
-    accounts-long = long .accounts-long ∙ sym (long .active-long);
-    accounts-fit = λ s h. omega (arith, q s (omega (arith, h, long .accounts-long)), long .within .accounts-most);
+    accounts-long = omega (arith, long .accounts-long, long .active-long);
+    accounts-fit = λ s h. omega (arith, q s h, long .within .accounts-most);
     addresses-long = rw (long .active-long) (long .addresses-long);
     addresses-fit = rw (long .states-long) a;
     words-long = omega (arith, long .words-long);

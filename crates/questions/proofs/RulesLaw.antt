@@ -16,12 +16,13 @@ use Rattle.tables.specs.Rule.{Rule, below, each, Holds, test, alike}
 use Rattle.tables.specs.Turn.{not-so, unlearn}
 use Rattle.model.specs.declared.frame.Frame.{Frame}
 use Rattle.model.specs.declared.sizes.Sizes.{Sizes}
-use Rattle.model.specs.State.{State, LINE, allPages, files, frames, frameAt, noFrame}
+use Rattle.model.specs.State.{State, LINE, allPages, files, frames, frameAt, noFrame, payer}
 use Rattle.model.specs.Lent.{noLine}
 use Rattle.model.specs.Fit.{Fit}
 use Rattle.model.specs.Rules.{allRules}
 use Rattle.model.specs.Ruled.{OfFrames, OfQueues, ruled, rules}
 use Rattle.model.specs.Woven.{wovenPage}
+use Rattle.leaves.specs.Payers.{Paying}
 use Rattle.rules.specs.Passes.{usedPage, usedTable, framedPage, framedTable}
 use Rattle.questions.specs.Groups.{diskPasses, filePasses, framePasses, countPasses, DiskLong, FilesLong, FramesLong, CountsLong}
 use Rattle.questions.proofs.DiskLaw.{on-disk, disk-on}
@@ -31,14 +32,15 @@ use Rattle.questions.proofs.CountLaw.{of-counts, counts-of}
 
 -- question 1 gives each subject its lengths
 module _ (z : Sizes) (st : State) (fit : Fit z st) where
-  pub disk-long : DiskLong z (st .disk .numbers) (st .disk .accounts) (st .disk .maps)
-  disk-long = record { within = fit .sizes; numbers-long = fit .disk .numbers; accounts-long = fit .disk .accounts; maps-long = fit .disk .maps }
+  pub disk-long : DiskLong z (st .disk .numbers) (st .disk .accounts) (st .disk .maps) (st .disk .parents)
+  disk-long = record { within = fit .sizes; numbers-long = fit .disk .numbers; accounts-long = fit .disk .accounts; maps-long = fit .disk .maps; parents-long = fit .disk .parents }
 
-  pub files-long : FilesLong z (st .disk .numbers) (st .disk .accounts) (st .disk .maps) (st .memory .held .addresses) (st .memory .held .states) (st .memory .held .owners) (st .memory .slots .active) (st .memory .slots .updating) (st .memory .slots .images)
-  files-long = record {
+  -- (payers: at least one for each slot)
+  pub files-long : (payers : List ℕ) → z .slots ≤ length payers → FilesLong z (st .disk .numbers) payers (st .disk .maps) (st .memory .held .addresses) (st .memory .held .states) (st .memory .held .owners) (st .memory .slots .active) (st .memory .slots .updating) (st .memory .slots .images)
+  files-long payers long = record {
     within = fit .sizes;
     numbers-long = fit .disk .numbers;
-    accounts-long = fit .disk .accounts;
+    accounts-long = long;
     maps-long = fit .disk .maps;
     addresses-long = fit .memory .addresses;
     states-long = fit .memory .states;
@@ -48,10 +50,10 @@ module _ (z : Sizes) (st : State) (fit : Fit z st) where
     images-long = fit .memory .images;
   }
 
-  pub frames-long : FramesLong z (st .disk .accounts) (st .disk .records) (st .memory .core .words) (st .memory .core .free-queue) (st .memory .core .removal-list) (st .memory .held .addresses) (st .memory .held .states) (st .memory .slots .active)
-  frames-long = record {
+  pub frames-long : (payers : List ℕ) → z .slots ≤ length payers → FramesLong z payers (st .disk .records) (st .memory .core .words) (st .memory .core .free-queue) (st .memory .core .removal-list) (st .memory .held .addresses) (st .memory .held .states) (st .memory .slots .active)
+  frames-long payers long = record {
     within = fit .sizes;
-    accounts-long = fit .disk .accounts;
+    accounts-long = long;
     records-long = fit .disk .records;
     words-long = fit .memory .words;
     free-long = fit .memory .free-queue;
@@ -65,18 +67,18 @@ module _ (z : Sizes) (st : State) (fit : Fit z st) where
   counts-long = record { within = fit .sizes; states-long = fit .memory .states; free-map-long = fit .memory .free-map; used-long = fit .memory .used }
 
   abbrev disk-passes : Rule
-  disk-passes = diskPasses (z .slots) (z .pages) (z .records) (z .accounts) (st .disk .numbers) (st .disk .accounts) (st .disk .maps)
+  disk-passes = diskPasses (z .slots) (z .pages) (z .records) (z .accounts) (st .disk .numbers) (st .disk .accounts) (st .disk .maps) (st .disk .parents)
 
   abbrev file-passes : Rule
   file-passes = filePasses (z .slots) (z .pages) (z .records) (st .disk .numbers) (st .disk .maps) (st .memory .held .addresses) (st .memory .held .states) (st .memory .held .owners) (st .memory .slots .active)
       (st .memory .slots .updating) (st .memory .slots .images)
 
-  pub no-disk : false ≡ test (diskPasses (z .slots) (z .pages) (z .records) (z .accounts) (st .disk .numbers) (st .disk .accounts) (st .disk .maps)) → false ≡ test (allRules z st)
+  pub no-disk : false ≡ test (diskPasses (z .slots) (z .pages) (z .records) (z .accounts) (st .disk .numbers) (st .disk .accounts) (st .disk .maps) (st .disk .parents)) → false ≡ test (allRules z st)
   no-disk e = not-so (allRules z st) (λ h. unlearn disk-passes e (disk-on z st disk-long (ruled z st h .disk)))
 
   pub no-files : false ≡ test (filePasses (z .slots) (z .pages) (z .records) (st .disk .numbers) (st .disk .maps) (st .memory .held .addresses) (st .memory .held .states) (st .memory .held .owners) (st .memory .slots .active)
       (st .memory .slots .updating) (st .memory .slots .images)) → false ≡ test (allRules z st)
-  no-files e = not-so (allRules z st) (λ h. unlearn file-passes e (files-of z st files-long (ruled z st h .records)))
+  no-files e = not-so (allRules z st) (λ h. unlearn file-passes e (files-of z st (files-long (st .disk .accounts) (omega (arith, fit .disk .accounts))) (ruled z st h .records)))
 
   -- the frames that the code has are the state's
   module _ (frame : ℕ → Frame) (same : (f : ℕ) → f < z .frames → frame f ≡ frames st .frame f) where
@@ -90,28 +92,31 @@ module _ (z : Sizes) (st : State) (fit : Fit z st) where
         (passes-same (z .frames) (z .words) (z .pages) (z .slots * z .pages) (frames st .frame) frame (λ f l. sym (same f l)) (st .disk .records) (st .memory .core .words) (st .memory .core .free-queue) (st .memory .core .removal-list) (st .memory .held .addresses) (st .memory .held .states) (st .memory .slots .active) (frames-of z st (ruled z st h .frames) (ruled z st h .queues))))
 
     -- all others hold, and that of the line: the counts decide
-    pub counts-decide : (sums totals : List ℕ) (b : Bool) → Holds (queueOf LINE (allPages z) (st .memory .line))
-        → Holds (diskPasses (z .slots) (z .pages) (z .records) (z .accounts) (st .disk .numbers) (st .disk .accounts) (st .disk .maps))
+    pub counts-decide : (payers : List ℕ) → Paying st payers → (sums totals : List ℕ) (b : Bool) → Holds (queueOf LINE (allPages z) (st .memory .line))
+        → Holds (diskPasses (z .slots) (z .pages) (z .records) (z .accounts) (st .disk .numbers) (st .disk .accounts) (st .disk .maps) (st .disk .parents))
         → Holds (filePasses (z .slots) (z .pages) (z .records) (st .disk .numbers) (st .disk .maps) (st .memory .held .addresses) (st .memory .held .states) (st .memory .held .owners) (st .memory .slots .active)
         (st .memory .slots .updating) (st .memory .slots .images))
         → Holds (framePasses (z .frames) (z .words) (z .pages) (z .slots * z .pages) frame (st .disk .records) (st .memory .core .words) (st .memory .core .free-queue) (st .memory .core .removal-list)
         (st .memory .held .addresses) (st .memory .held .states) (st .memory .slots .active))
-        → Holds (usedTable (z .slots) (z .pages) (st .disk .accounts) (st .memory .slots .active) (st .disk .maps) (st .memory .held .addresses) (st .memory .held .states) sums)
-        → Holds (framedTable (z .frames) (z .pages) (λ f. wovenPage (frame f)) (st .disk .accounts) (st .memory .held .addresses) (st .memory .held .states) sums totals)
+        → Holds (usedTable (z .slots) (z .pages) payers (st .memory .slots .active) (st .disk .maps) (st .memory .held .addresses) (st .memory .held .states) sums)
+        → Holds (framedTable (z .frames) (z .pages) (λ f. wovenPage (frame f)) payers (st .memory .held .addresses) (st .memory .held .states) sums totals)
         → b ≡ test (countPasses (z .records) (z .accounts) (st .memory .held .pool .hand) (st .memory .held .pool .free) (st .memory .held .states) (st .memory .held .free-map) (st .memory .used) totals)
         → b ≡ test (allRules z st)
-    counts-decide sums totals b waits d f c sum more e = e ∙ alike count-passes (allRules z st)
-        (λ h. rules z st (record { disk = on-disk z st disk-long d; records = of-files z st files-long f; queues = fq .1; frames = fq .0; counts = of-counts z st (fq .0) sums totals few sum own h; line = waits }))
-        (λ h. counts-of z st (fq .0) sums totals few sum own (ruled z st h .counts))
+    counts-decide payers p sums totals b waits d f c sum more e = e ∙ alike count-passes (allRules z st)
+        (λ h. rules z st (record { disk = on-disk z st disk-long d; records = of-files z st (files-long (st .disk .accounts) (omega (arith, fit .disk .accounts))) f; queues = fq .1; frames = fq .0; counts = of-counts z st (fq .0) (fit .sizes .pages) payers pays sums totals few sum own h; line = waits }))
+        (λ h. counts-of z st (fq .0) (fit .sizes .pages) payers pays sums totals few sum own (ruled z st h .counts))
       where
+        pays : (s : ℕ) → s < z .slots → at payers s ≡ payer (files st) s
+        pays s h = p .entries s (omega (arith, h, fit .sizes .slots-most))
+
         few : z .accounts ≤ 16
         few = omega (arith, fit .sizes .accounts-most)
 
         fq : OfFrames z (files st) (frames st) (at (st .disk .records)) × OfQueues z st
         fq = of-frames z st (passes-same (z .frames) (z .words) (z .pages) (z .slots * z .pages) frame (frames st .frame) same (st .disk .records) (st .memory .core .words) (st .memory .core .free-queue) (st .memory .core .removal-list) (st .memory .held .addresses) (st .memory .held .states) (st .memory .slots .active) c)
 
-        own : Holds (framedTable (z .frames) (z .pages) (λ f. wovenPage (frames st .frame f)) (st .disk .accounts) (st .memory .held .addresses) (st .memory .held .states) sums totals)
-        own q h = more q h ∙ ap (λ (n : ℕ). at sums q + n) (count-same (z .frames) _ _ (λ f l. ap (λ (x : Frame). test (framedPage (z .pages) q (wovenPage x) (at (st .disk .accounts)) (at (st .memory .held .addresses)) (at (st .memory .held .states)))) (same f l)))
+        own : Holds (framedTable (z .frames) (z .pages) (λ f. wovenPage (frames st .frame f)) payers (st .memory .held .addresses) (st .memory .held .states) sums totals)
+        own q h = more q h ∙ ap (λ (n : ℕ). at sums q + n) (count-same (z .frames) _ _ (λ f l. ap (λ (x : Frame). test (framedPage (z .pages) q (wovenPage x) (at payers) (at (st .memory .held .addresses)) (at (st .memory .held .states)))) (same f l)))
 
         count-passes : Rule
         count-passes = countPasses (z .records) (z .accounts) (st .memory .held .pool .hand) (st .memory .held .pool .free) (st .memory .held .states) (st .memory .held .free-map) (st .memory .used) totals

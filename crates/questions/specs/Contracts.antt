@@ -17,15 +17,15 @@ use Rattle.rules.specs.Passes.{marked, usedTable, framedTable, countRoom}
 use Rattle.questions.specs.Groups.{filePasses, framePasses, FilesLong, FramesLong}
 
 -- ── a part of what is lent, as it was passed ──
-abbrev pub diskEntered : (records numbers accounts maps limits : Table) → Disk
-diskEntered records numbers accounts maps limits = diskOf (records .entry .now) (numbers .entry .now) (accounts .entry .now) (maps .entry .now) (limits .entry .now)
+abbrev pub diskEntered : (records numbers accounts maps limits parents : Table) → Disk
+diskEntered records numbers accounts maps limits parents = diskOf (records .entry .now) (numbers .entry .now) (accounts .entry .now) (maps .entry .now) (limits .entry .now) (parents .entry .now)
 
 abbrev pub memoryEntered : List Frame → Pool → (words free-queue removal-list addresses states owners free-map active updating images used : Table) → Memory
 memoryEntered frames pool words free-queue removal-list addresses states owners free-map active updating images used =
     memoryOf frames pool (words .entry .now) (free-queue .entry .now) (removal-list .entry .now) (addresses .entry .now) (states .entry .now) (owners .entry .now) (free-map .entry .now)
     (active .entry .now) (updating .entry .now) (images .entry .now) (used .entry .now)
 
--- ── the group of pages, records and slots: the disk rules are kept, listed records are marked, and counts start from zeros ──
+-- ── the group of pages, records and slots (`accounts`: who pays for each slot): the disk rules are kept, listed records are marked, and counts start from zeros ──
 abbrev pub FilesGiven : Sizes → (totals listed numbers accounts maps addresses states owners active updating images : Ref) → Type 0
 FilesGiven z totals listed numbers accounts maps addresses states owners active updating images =
     FilesLong z (numbers .now) (accounts .now) (maps .now) (addresses .now) (states .now) (owners .now) (active .now) (updating .now) (images .now)
@@ -47,7 +47,7 @@ abbrev pub FramesGiven : Sizes → (totals accounts records words free-queue rem
 FramesGiven z totals accounts records words free-queue removal-list addresses states active =
     FramesLong z (accounts .now) (records .now) (words .now) (free-queue .now) (removal-list .now) (addresses .now) (states .now) (active .now)
     × Holds (fit (length (addresses .now)) (z .records) (at (addresses .now)))
-    × Holds (each (z .slots) λ s. below (at (accounts .now) s) (z .accounts))
+    × Holds (each (length (accounts .now)) λ s. below (at (accounts .now) s) (z .accounts))
     × (length (totals .now) ≡ mostAccounts) × Holds (each mostAccounts λ q. below (at (totals .now) q) countRoom)
 
 abbrev pub framesEntered : Sizes → List Frame → (records words free-queue removal-list addresses states active : Table) → Rule

@@ -1,7 +1,7 @@
 -- The passes together, by subject: the disk, the files in memory, the frames, the counts; and the lengths that they need.
 use mathlib.Core.Path.{_≡_}
 use mathlib.Core.List.{List}
-use Prim.Native.Nat.{ℕ, suc, _+_, _*_, _/_}
+use Prim.Native.Nat.{ℕ, suc, _+_, _*_, _/_, _≤_}
 use lib.Dec.{eqb}
 use lib.ListN.{length}
 use Rattle.tables.specs.Base.{at, count}
@@ -10,13 +10,14 @@ use Rattle.tables.specs.Rule.{Rule, same, below, _and_, _or_, _then_, each, som
 use Rattle.model.specs.declared.frame.Frame.{Frame}
 use Rattle.model.specs.declared.sizes.Sizes.{Sizes}
 use Rattle.model.specs.Lines.{FREE, FILED, NULLED, LIVE, LEAVING}
+use Rattle.model.specs.Rules.{lower}
 use Rattle.model.specs.Fit.{Within}
 use Rattle.rules.specs.Passes.{distinct, diskSlot, newNumbers, emptyRows, memorySlot, allEntries, frameRow, cleanFrame, freeWords}
 
 -- ── the passes together, by subject ──
-abbrev pub diskPasses : (slots pages records accounts : ℕ) (numbers account maps : List ℕ) → Rule
-diskPasses slots pages records accounts numbers account maps = distinct (length maps) records (at maps) and (each slots λ s. diskSlot accounts (at numbers s) (at account s))
-    and newNumbers slots numbers and emptyRows slots pages numbers maps
+abbrev pub diskPasses : (slots pages records accounts : ℕ) (numbers account maps parents : List ℕ) → Rule
+diskPasses slots pages records accounts numbers account maps parents = distinct (length maps) records (at maps) and (each slots λ s. diskSlot accounts (at numbers s) (at account s))
+    and newNumbers slots numbers and emptyRows slots pages numbers maps and lower accounts (at parents)
 
 -- a record, by the pages that hold and list it
 abbrev pub recordHeld : (slots n : ℕ) (address map : ℕ → ℕ) (state owner : ℕ) (updating : ℕ → ℕ) (r : ℕ) → Rule
@@ -42,16 +43,18 @@ countPasses records accounts hand free states free-map used totals = below hand 
     and freeWords records free-map states ((records + 31) / 32) and each accounts λ q. same (at used q) (at totals q)
 
 -- ── the lengths that the passes of each subject need ──
-pub record DiskLong (z : Sizes) (numbers account maps : List ℕ) : Type 0 where
+pub record DiskLong (z : Sizes) (numbers account maps parents : List ℕ) : Type 0 where
   pub within : Within z
   pub numbers-long : length numbers ≡ z .slots
   pub accounts-long : length account ≡ z .slots
   pub maps-long : length maps ≡ z .slots * z .pages
+  pub parents-long : length parents ≡ z .accounts
 
+-- `account`: who pays for each slot
 pub record FilesLong (z : Sizes) (numbers account maps addresses states owners active updating images : List ℕ) : Type 0 where
   pub within : Within z
   pub numbers-long : length numbers ≡ z .slots
-  pub accounts-long : length account ≡ z .slots
+  pub accounts-long : z .slots ≤ length account
   pub maps-long : length maps ≡ z .slots * z .pages
   pub addresses-long : length addresses ≡ z .slots * z .pages
   pub states-long : length states ≡ z .records
@@ -62,7 +65,7 @@ pub record FilesLong (z : Sizes) (numbers account maps addresses states owners a
 
 pub record FramesLong (z : Sizes) (account records words free-queue removal-list addresses states active : List ℕ) : Type 0 where
   pub within : Within z
-  pub accounts-long : length account ≡ z .slots
+  pub accounts-long : z .slots ≤ length account
   pub records-long : length records ≡ z .records * z .words
   pub words-long : length words ≡ z .frames * z .words
   pub free-long : length free-queue ≡ z .frames

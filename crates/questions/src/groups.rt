@@ -19,18 +19,26 @@ pub const RECORD_MARKS: usize = Sizes::MOST_RECORDS / 32;
 const PAGE_MARKS: usize = Sizes::MOST_SLOTS * Sizes::MOST_PAGES / 32;
 
 // The disk rules; the listed records are marked, from marks that are off.
-pub fn disk(z: Sizes, numbers: &[u32], accounts: &[u16], maps: &[u16], listed: &mut [u32]) -> bool
-    requires { ⌜ DiskLong z (now numbers) (now accounts) (now maps) × (z .records ≤ 32 * length (now listed)) × Holds (each (length (now listed)) (λ k. same (at (now listed) k) 0)) ⌝ }
-    ensures { λ r. ⌜ (r ≡ test (diskPasses (z .slots) (z .pages) (z .records) (z .accounts) (now (numbers .entry)) (now (accounts .entry)) (now (maps .entry)))) × (r ≡ true → Holds (marked (z .records) (length (now (maps .entry))) (at (now (maps .entry))) (now (listed .exit)))) ⌝ }
+pub fn disk(
+    z: Sizes,
+    numbers: &[u32],
+    accounts: &[u16],
+    maps: &[u16],
+    parents: &[u16],
+    listed: &mut [u32],
+) -> bool
+    requires { ⌜ DiskLong z (now numbers) (now accounts) (now maps) (now parents) × (z .records ≤ 32 * length (now listed)) × Holds (each (length (now listed)) (λ k. same (at (now listed) k) 0)) ⌝ }
+    ensures { λ r. ⌜ (r ≡ test (diskPasses (z .slots) (z .pages) (z .records) (z .accounts) (now (numbers .entry)) (now (accounts .entry)) (now (maps .entry)) (now (parents .entry)))) × (r ≡ true → Holds (marked (z .records) (length (now (maps .entry))) (at (now (maps .entry))) (now (listed .exit)))) ⌝ }
 {
     rules::marks::mark_all(maps, z.records, listed)
         & rules::slots::disk_slots_ok(z.slots, z.accounts, numbers, accounts)
         & rules::slots::numbers_ok(z.slots, numbers)
         & rules::pages::empty_maps_ok(z.slots, z.pages, numbers, maps)
+        & rules::slots::parents_ok(z.accounts, parents)
 }
 
-// The memory rules of pages, records and slots; listed: the marks of the listed records. Each account's pages that count as
-// used by address or map are counted, from a table of zeros.
+// The memory rules of pages, records and slots; listed: the marks of the listed records; accounts: who pays for each slot. Each
+// payer's pages that count as used by address or map are counted, from a table of zeros.
 pub fn files(
     z: Sizes,
     totals: &mut [usize],

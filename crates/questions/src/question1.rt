@@ -26,15 +26,17 @@ pub fn disk_lengths_fit(
     accounts: &[u16],
     maps: &[u16],
     limits: &[u16],
+    parents: &[u16],
 ) -> bool
     requires { ⌜ Holds (sizesFit z) ⌝ }
-    ensures { λ r. ⌜ r ≡ test (diskLengths z (diskEntered records numbers accounts maps limits)) ⌝ }
+    ensures { λ r. ⌜ r ≡ test (diskLengths z (diskEntered records numbers accounts maps limits parents)) ⌝ }
 {
     (records.len() == z.records * z.words)
         & (numbers.len() == z.slots)
         & (accounts.len() == z.slots)
         & (maps.len() == z.slots * z.pages)
         & (limits.len() == z.accounts)
+        & (parents.len() == z.accounts)
 }
 
 // Every slice of the memory part of its exact length; `count` frames are lent.
@@ -79,13 +81,14 @@ pub fn disk_fit(
     accounts: &[u16],
     maps: &[u16],
     limits: &[u16],
+    parents: &[u16],
 ) -> bool
-    ensures { λ r. ⌜ r ≡ test (sizesFit z and diskLengths z (diskEntered records numbers accounts maps limits)) ⌝ }
+    ensures { λ r. ⌜ r ≡ test (sizesFit z and diskLengths z (diskEntered records numbers accounts maps limits parents)) ⌝ }
 {
     if sizes_fit(z) {} else {
         return false;
     }
-    disk_lengths_fit(z, records, numbers, accounts, maps, limits)
+    disk_lengths_fit(z, records, numbers, accounts, maps, limits, parents)
 }
 
 // Question 1 of every other call; `count` frames are lent.
@@ -97,6 +100,7 @@ pub fn all_fit(
     accounts: &[u16],
     maps: &[u16],
     limits: &[u16],
+    parents: &[u16],
     words: &[u32],
     free_queue: &[u16],
     removal_list: &[u16],
@@ -109,12 +113,12 @@ pub fn all_fit(
     images: &[u16],
     used: &[u16],
 ) -> bool
-    ensures { λ r. ⌜ ((frames : List Frame) (pool : Pool) → length frames ≡ count → r ≡ test (allFit z (entered frames pool records numbers accounts maps limits words «free_queue» «removal_list» addresses states owners «free_map» active updating images used))) ⌝ }
+    ensures { λ r. ⌜ ((frames : List Frame) (pool : Pool) → length frames ≡ count → r ≡ test (allFit z (entered frames pool records numbers accounts maps limits parents words «free_queue» «removal_list» addresses states owners «free_map» active updating images used))) ⌝ }
 {
     if sizes_fit(z) {} else {
         return false;
     }
-    disk_lengths_fit(z, records, numbers, accounts, maps, limits)
+    disk_lengths_fit(z, records, numbers, accounts, maps, limits, parents)
         & memory_lengths_fit(
             z,
             count,

@@ -9,6 +9,7 @@ ghost use Rattle.model.specs.Rules.{diskRules, allRules};
 ghost use Rattle.model.specs.Step.{diskLengths, allFit};
 ghost use Rattle.questions.specs.Contracts.{diskEntered};
 use crate::groups::RECORD_MARKS;
+use leaves::payer::fill_payers;
 use model::frame::Frame;
 use model::frame::Pool;
 use model::sizes::Sizes;
@@ -21,12 +22,13 @@ pub fn disk_rules(
     accounts: &[u16],
     maps: &[u16],
     limits: &[u16],
+    parents: &[u16],
 ) -> bool
-    requires { ⌜ Holds (sizesFit z and diskLengths z (diskOf (now records) (now numbers) (now accounts) (now maps) (now limits))) ⌝ }
-    ensures { λ r. ⌜ ((m : Memory) → r ≡ test (diskRules z (record { disk = diskEntered records numbers accounts maps limits; memory = m }))) ⌝ }
+    requires { ⌜ Holds (sizesFit z and diskLengths z (diskOf (now records) (now numbers) (now accounts) (now maps) (now limits) (now parents))) ⌝ }
+    ensures { λ r. ⌜ ((m : Memory) → r ≡ test (diskRules z (record { disk = diskEntered records numbers accounts maps limits parents; memory = m }))) ⌝ }
 {
     let mut listed: [u32; RECORD_MARKS] = [0; RECORD_MARKS];
-    crate::groups::disk(z, numbers, accounts, maps, &mut listed)
+    crate::groups::disk(z, numbers, accounts, maps, parents, &mut listed)
 }
 
 // Both sets of rules.
@@ -40,6 +42,7 @@ pub fn all_rules(
     accounts: &[u16],
     maps: &[u16],
     limits: &[u16],
+    parents: &[u16],
     words: &[u32],
     free_queue: &[u16],
     removal_list: &[u16],
@@ -52,20 +55,22 @@ pub fn all_rules(
     images: &[u16],
     used: &[u16],
 ) -> bool
-    requires { ⌜ Holds (allFit z (given (take count frames) pool records numbers accounts maps limits words «free_queue» «removal_list» addresses states owners «free_map» active updating images used)) ⌝ }
-    ensures { λ r. ⌜ r ≡ test (allRules z (entered (take count frames) pool records numbers accounts maps limits words «free_queue» «removal_list» addresses states owners «free_map» active updating images used)) ⌝ }
+    requires { ⌜ Holds (allFit z (given (take count frames) pool records numbers accounts maps limits parents words «free_queue» «removal_list» addresses states owners «free_map» active updating images used)) ⌝ }
+    ensures { λ r. ⌜ r ≡ test (allRules z (entered (take count frames) pool records numbers accounts maps limits parents words «free_queue» «removal_list» addresses states owners «free_map» active updating images used)) ⌝ }
 {
     let mut listed: [u32; RECORD_MARKS] = [0; RECORD_MARKS];
-    if crate::groups::disk(z, numbers, accounts, maps, &mut listed) {} else {
+    if crate::groups::disk(z, numbers, accounts, maps, parents, &mut listed) {} else {
         return false;
     }
+    let mut payers: [u16; Sizes::MOST_SLOTS] = [0; Sizes::MOST_SLOTS];
+    fill_payers(parents, limits, accounts, &mut payers);
     let mut totals: [usize; Sizes::MOST_ACCOUNTS] = [0; Sizes::MOST_ACCOUNTS];
     if crate::groups::files(
         z,
         &mut totals,
         &listed,
         numbers,
-        accounts,
+        &payers,
         maps,
         addresses,
         states,
@@ -80,7 +85,7 @@ pub fn all_rules(
         z,
         frames,
         &mut totals,
-        accounts,
+        &payers,
         records,
         words,
         free_queue,

@@ -13,7 +13,7 @@ use Rattle.model.specs.Step.{Outcome, restart, format}
 use Rattle.model.specs.Calls.{apply}
 use Rattle.fields.specs.Fields.{CUT}
 use Rattle.replay.specs.Input.{cut}
-use Rattle.replay.specs.Output.{sizes, carried, startedFrom}
+use Rattle.replay.specs.Output.{sizes, zeros, carried, startedFrom}
 
 abbrev setPool : Pool → Held → Held
 setPool p h = record { addresses = h .addresses; states = h .states; owners = h .owners; free-map = h .free-map; pool = p }
@@ -31,7 +31,7 @@ module _ {o : Outcome State} {z : Sizes} (st : State) (request : Request) (e : z
 pub by-pool : (o : Outcome State) {r : Outcome State} {p : Pool} → o ≡ r → p ≡ o .left .memory .held .pool → record { answer = o .answer; left = onHeld (setPool p) (o .left) } ≡ r
 by-pool o h e = (λ t. record { answer = o .answer; left = onHeld (setPool (e t)) (o .left) }) ∙ h
 
-pub by-start : {o : Outcome State} {z : Sizes} {request : Request} {a : Answer} (st : State) (d : Disk) → z ≡ sizes → record { answer = a; left = d } ≡ format z (st .disk) → request ≡ cut
+pub by-start : {o : Outcome State} {z : Sizes} {request : Request} {a : Answer} (st : State) (d : Disk) → z ≡ sizes → record { answer = a; left = d } ≡ format z (zeros 1) (st .disk) → request ≡ cut
     → o ≡ carried (record { disk = d; memory = st .memory }) request → o ≡ startedFrom st
 unfolding carried startedFrom
 by-start {o} {z} {request} {a} st d e f k h = h ∙ (rw (k, ← e) (ap (λ (x : Outcome Disk). restart z (record { disk = x .left; memory = st .memory })) f))

@@ -24,9 +24,13 @@ sizes = record { words = 2; records = 4; frames = 2; slots = 2; pages = 3; accou
 unfoldable pub carried : State → Request → Outcome State
 carried st request = if (eqb (request .kind) CUT) (restart sizes st) (apply sizes st request)
 
--- formatted, and restarted
+-- a table of zeros
+abbrev pub zeros : ℕ → List ℕ
+zeros n = replicate n 0
+
+-- formatted, and restarted: the one account has no parent
 unfoldable pub startedFrom : State → Outcome State
-startedFrom st = restart sizes (record { disk = format sizes (st .disk) .left; memory = st .memory })
+startedFrom st = restart sizes (record { disk = format sizes (zeros 1) (st .disk) .left; memory = st .memory })
 
 -- the line of the n-th event
 abbrev pub lineOfEvent : ℕ → Request → Outcome State → List ℕ
@@ -61,12 +65,9 @@ pub record Ran (s before after : List ℕ) (from count : ℕ) (st : State) (to s
   pub is : (offset : ℕ) (t : List ℕ) → printedFrom offset (s ++ t) from count st ≡ bytes ++ printedFrom offset (s ++ t) to n left
 
 -- ── all of it ──
--- the tables before anything is done: zeros
-abbrev zeros : ℕ → List ℕ
-zeros n = replicate n 0
-
+-- the tables before anything is done
 abbrev pub blank : State
-blank = allOf (replicate 2 noFrame) noPool (zeros 8) (zeros 2) (zeros 2) (zeros 6) (zeros 1)
+blank = allOf (replicate 2 noFrame) noPool (zeros 8) (zeros 2) (zeros 2) (zeros 6) (zeros 1) (zeros 1)
     (zeros 4) (zeros 2) (zeros 2) (zeros 6) (zeros 4) (zeros 4) (zeros 1) (zeros 2) (zeros 2) (zeros 6) (zeros 32) (zeros 1)
 
 unfoldable pub output : List ℕ → List ℕ

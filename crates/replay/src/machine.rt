@@ -52,6 +52,7 @@ pub fn carry(
     accounts: &mut [u16; 2],
     maps: &mut [u16; 6],
     limits: &mut [u16; 1],
+    parents: &[u16; 1],
     frame_words: &mut [u32; 4],
     free_queue: &mut [u16; 2],
     removal_list: &mut [u16; 2],
@@ -66,8 +67,8 @@ pub fn carry(
     used: &mut [u16; 1],
 ) -> Pooled
     ensures { λ r.
-        ⌜ record { answer = r .answer; left = allLeft (framesOf (r .frames) 2) (r .pool) records numbers accounts maps limits «frame_words» «free_queue» «removal_list» addresses states owners «free_map» active updating images line used }
-        ≡ carried (allEntered (framesOf (held .frames) 2) (held .pool) records numbers accounts maps limits «frame_words» «free_queue» «removal_list» addresses states owners «free_map» active updating images line used) asked ⌝ }
+        ⌜ record { answer = r .answer; left = allLeft (framesOf (r .frames) 2) (r .pool) records numbers accounts maps limits parents «frame_words» «free_queue» «removal_list» addresses states owners «free_map» active updating images line used }
+        ≡ carried (allEntered (framesOf (held .frames) 2) (held .pool) records numbers accounts maps limits parents «frame_words» «free_queue» «removal_list» addresses states owners «free_map» active updating images line used) asked ⌝ }
 {
     let frames = held.frames;
     let pool = held.pool;
@@ -82,6 +83,7 @@ pub fn carry(
             accounts,
             maps,
             limits,
+            parents,
             frame_words,
             free_queue,
             removal_list,
@@ -107,6 +109,7 @@ pub fn carry(
         accounts,
         maps,
         limits,
+        parents,
         frame_words,
         free_queue,
         removal_list,
@@ -131,13 +134,14 @@ pub fn carry(
     }
 }
 
-// Formats, and restarts.
+// Formats, and restarts. The one account has no parent.
 pub fn start(
     records: &mut [u32; 8],
     numbers: &mut [u32; 2],
     accounts: &mut [u16; 2],
     maps: &mut [u16; 6],
     limits: &mut [u16; 1],
+    parents: &mut [u16; 1],
     frame_words: &mut [u32; 4],
     free_queue: &mut [u16; 2],
     removal_list: &mut [u16; 2],
@@ -152,10 +156,20 @@ pub fn start(
     used: &mut [u16; 1],
 ) -> Pooled
     ensures { λ r.
-        ⌜ record { answer = r .answer; left = allLeft (framesOf (r .frames) 2) (r .pool) records numbers accounts maps limits «frame_words» «free_queue» «removal_list» addresses states owners «free_map» active updating images line used }
-        ≡ startedFrom (allEntered (framesOf (replicate 64 noFrame) 2) noPool records numbers accounts maps limits «frame_words» «free_queue» «removal_list» addresses states owners «free_map» active updating images line used) ⌝ }
+        ⌜ record { answer = r .answer; left = allLeft (framesOf (r .frames) 2) (r .pool) records numbers accounts maps limits parents «frame_words» «free_queue» «removal_list» addresses states owners «free_map» active updating images line used }
+        ≡ startedFrom (allEntered (framesOf (replicate 64 noFrame) 2) noPool records numbers accounts maps limits parents «frame_words» «free_queue» «removal_list» addresses states owners «free_map» active updating images line used) ⌝ }
 {
-    calls::format(sizes(), records, numbers, accounts, maps, limits);
+    let wanted = [0u16; 1];
+    calls::format(
+        sizes(),
+        &wanted,
+        records,
+        numbers,
+        accounts,
+        maps,
+        limits,
+        parents,
+    );
     carry(
         cut(),
         blank(),
@@ -164,6 +178,7 @@ pub fn start(
         accounts,
         maps,
         limits,
+        parents,
         frame_words,
         free_queue,
         removal_list,

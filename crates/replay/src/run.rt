@@ -74,6 +74,7 @@ pub fn run() {
     let mut accounts = [0u16; 2];
     let mut maps = [0u16; 6];
     let mut limits = [0u16; 1];
+    let mut parents = [0u16; 1];
     let mut frame_words = [0u32; 4];
     let mut free_queue = [0u16; 2];
     let mut removal_list = [0u16; 2];
@@ -92,6 +93,7 @@ pub fn run() {
         &mut accounts,
         &mut maps,
         &mut limits,
+        &mut parents,
         &mut frame_words,
         &mut free_queue,
         &mut removal_list,
@@ -125,6 +127,7 @@ pub fn run() {
             &mut accounts,
             &mut maps,
             &mut limits,
+            &parents,
             &mut frame_words,
             &mut free_queue,
             &mut removal_list,

@@ -20,28 +20,28 @@ use Rattle.model.specs.Own.{refusal}
 use Rattle.model.specs.Step.{Outcome, outcome, allFit, restart}
 use Rattle.restarts.specs.Restarts.{seen}
 
--- the restarted memory looks at the accounts and the maps alone
-pub restarted-seen : (z : Sizes) (d : Disk) → restarted z (seen (d .accounts) (d .maps)) .memory ≡ restarted z d .memory
+-- the restarted memory looks at the accounts, the maps, the limits and the parents alone
+pub restarted-seen : (z : Sizes) (d : Disk) → restarted z (seen (d .accounts) (d .maps) (d .limits) (d .parents)) .memory ≡ restarted z d .memory
 unfolding restarted counted isListed listedAt usedOf payer charged
 restarted-seen z d = refl
 
 -- a state whose disk part stands and whose memory is the restarted one
-pub restarted-whole : (z : Sizes) (d : Disk) → record { disk = d; memory = restarted z (seen (d .accounts) (d .maps)) .memory } ≡ restarted z d
+pub restarted-whole : (z : Sizes) (d : Disk) → record { disk = d; memory = restarted z (seen (d .accounts) (d .maps) (d .limits) (d .parents)) .memory } ≡ restarted z d
 unfolding restarted counted
 restarted-whole z d = ap (λ (m : Memory). record { disk = d; memory = m }) (restarted-seen z d)
 
 -- .. table by table
 module _ (z : Sizes) (d : Disk) where
   abbrev m : Memory
-  m = restarted z (seen (d .accounts) (d .maps)) .memory
+  m = restarted z (seen (d .accounts) (d .maps) (d .limits) (d .parents)) .memory
 
   pub restarted-tables : {frames : List Frame} {pool : Pool} {words free-queue removal-list addresses states owners free-map active updating images used : List ℕ}
       → frames ≡ m .core .frames → pool ≡ m .held .pool → words ≡ m .core .words → free-queue ≡ m .core .free-queue → removal-list ≡ m .core .removal-list
       → addresses ≡ m .held .addresses → states ≡ m .held .states → owners ≡ m .held .owners → free-map ≡ m .held .free-map
       → active ≡ m .slots .active → updating ≡ m .slots .updating → images ≡ m .slots .images → used ≡ m .used
-      → stateOf frames pool (d .records) (d .numbers) (d .accounts) (d .maps) (d .limits) words free-queue removal-list addresses states owners free-map active updating images used ≡ restarted z d
+      → stateOf frames pool (d .records) (d .numbers) (d .accounts) (d .maps) (d .limits) (d .parents) words free-queue removal-list addresses states owners free-map active updating images used ≡ restarted z d
   unfolding restarted counted
-  restarted-tables f p w q r a s o e c u i n = same-state f p refl refl refl refl refl w q r a s o e c u i n ∙ restarted-whole z d
+  restarted-tables f p w q r a s o e c u i n = same-state f p refl refl refl refl refl refl w q r a s o e c u i n ∙ restarted-whole z d
 
 module _ (z : Sizes) (st : State) where
   -- questions 1 and 2, tested

@@ -6,14 +6,14 @@ use Rattle.model.specs.Restart.{restarted}
 use Rattle.restarts.specs.Restarts.{seen, Recorded, Ready}
 
 -- the tables that follow from the maps
-abbrev pub RecordsGiven : Sizes → (accounts maps states owners free-map used : Ref) → Type 0
-RecordsGiven z accounts maps states owners free-map used = Recorded z (accounts .now) (maps .now) (states .now) (owners .now) (free-map .now) (used .now)
+abbrev pub RecordsGiven : Sizes → (accounts maps limits parents states owners free-map used : Ref) → Type 0
+RecordsGiven z accounts maps limits parents states owners free-map used = Recorded z (accounts .now) (maps .now) (limits .now) (parents .now) (states .now) (owners .now) (free-map .now) (used .now)
 
 -- all that restart is lent but the disk's other tables
-abbrev pub TablesGiven : Sizes → (accounts maps words free-queue removal-list addresses states owners free-map active updating images used : Ref) → Type 0
-TablesGiven z accounts maps words free-queue removal-list addresses states owners free-map active updating images used =
-    Ready z (accounts .now) (maps .now) (words .now) (free-queue .now) (removal-list .now) (addresses .now) (states .now) (owners .now) (free-map .now) (active .now) (updating .now) (images .now) (used .now)
+abbrev pub TablesGiven : Sizes → (accounts maps limits parents words free-queue removal-list addresses states owners free-map active updating images used : Ref) → Type 0
+TablesGiven z accounts maps limits parents words free-queue removal-list addresses states owners free-map active updating images used =
+    Ready z (accounts .now) (maps .now) (limits .now) (parents .now) (words .now) (free-queue .now) (removal-list .now) (addresses .now) (states .now) (owners .now) (free-map .now) (active .now) (updating .now) (images .now) (used .now)
 
 -- the memory part of the restarted state, from the tables that restart reads
-abbrev pub restartedFrom : Sizes → (accounts maps : Table) → Memory
-restartedFrom z accounts maps = restarted z (seen (accounts .entry .now) (maps .entry .now)) .memory
+abbrev pub restartedFrom : Sizes → (accounts maps limits parents : Table) → Memory
+restartedFrom z accounts maps limits parents = restarted z (seen (accounts .entry .now) (maps .entry .now) (limits .entry .now) (parents .entry .now)) .memory

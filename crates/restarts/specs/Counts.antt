@@ -12,6 +12,7 @@ use lib.ListN.{set, replicate, length-replicate}
 use borrow.Author.Tests.{lt-ltb, le-ltb, eq-eqb, ne-eqb}
 use Rattle.tables.specs.Base.{at, if, count, tab}
 use Rattle.tables.specs.Laws.{count-same, count-bound, at-zeros}
+use Rattle.tables.specs.TabLaws.{tab-same}
 use Rattle.tables.specs.Bits.{bits}
 use Rattle.tables.specs.BitLaws.{bits-none, bits-suc}
 use Rattle.model.specs.declared.sizes.Sizes.{Sizes}
@@ -20,7 +21,7 @@ use Rattle.model.specs.State.{Files, Frames, allPages, slotOf, mapWords, payer,
 use Rattle.tables.specs.Marks.{bitOf}
 use Rattle.model.specs.Parts.{isFree}
 use Rattle.leaves.specs.FreeMap.{freeMap, free-map, bit-off, free-map-set, free-map-same}
-use Rattle.restarts.specs.ByEntry.{Filled, filled-same, filled-set}
+use Rattle.leaves.specs.ByEntry.{Filled, filled-same, filled-set}
 
 -- ── used counts ──
 -- entry i is above 0 and of the account's slot
@@ -32,6 +33,11 @@ usedBy n pages account map q = count n (paid pages account map q)
 
 abbrev pub listedUsed : ℕ → ℕ → ℕ → (ℕ → ℕ) → (ℕ → ℕ) → List ℕ
 listedUsed accounts n pages account map = tab accounts (usedBy n pages account map) 0
+
+-- two who pay alike
+pub used-alike : (accounts n pages : ℕ) (account account′ map : ℕ → ℕ) → ((i : ℕ) → i < n → account (i / pages) ≡ account′ (i / pages)) → listedUsed accounts n pages account map ≡ listedUsed accounts n pages account′ map
+used-alike accounts n pages account account′ map e = tab-same accounts (usedBy n pages account map) (usedBy n pages account′ map)
+    (λ q h. count-same n (paid pages account map q) (paid pages account′ map q) (λ i l. ap (λ (a : ℕ). eqb a q && ltb 0 (map i)) (e i l)))
 
 pub used-none : (pages : ℕ) (account map : ℕ → ℕ) (q : ℕ) → 0 ≡ usedBy 0 pages account map q
 unfolding count
@@ -76,8 +82,8 @@ module _ (pages : ℕ) (account map : ℕ → ℕ) (k : ℕ) {n : ℕ} {l : List
   used-room q h = rw (d .entries q h) (used-bound pages account map k q)
 
 -- where no slot is active, the entries above 0 are all that an account is charged for
-pub used-inactive : (z : Sizes) (v : Files) (c : Frames) → ((s : ℕ) → v .active s ≡ 0) → (q : ℕ) → usedOf z v c q ≡ usedBy (allPages z) (z .pages) (v .account) (v .map) q
-unfolding usedOf payer
+pub used-inactive : (z : Sizes) (v : Files) (c : Frames) → ((s : ℕ) → v .active s ≡ 0) → (q : ℕ) → usedOf z v c q ≡ usedBy (allPages z) (z .pages) (payer v) (v .map) q
+unfolding usedOf
 used-inactive z v c off q = count-same (allPages z) _ _ (λ i h. rw (off (slotOf z i)))
 
 -- ── the count of free records ──

@@ -14,7 +14,7 @@ use Rattle.tables.specs.FindLaws.{find-at}
 use Rattle.tables.specs.Rule.{Holds}
 use Rattle.model.specs.Rules.{once}
 use Rattle.model.specs.Lines.{FREE, FILED}
-use Rattle.restarts.specs.ByEntry.{Filled, filled-same, filled-set}
+use Rattle.leaves.specs.ByEntry.{Filled, filled-same, filled-set}
 
 -- one of the first n entries lists the record; the first that does
 abbrev pub listed : ℕ → (ℕ → ℕ) → ℕ → Bool

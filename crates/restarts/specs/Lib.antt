@@ -1,5 +1,4 @@
 -- What restart and format set.
-pub mod ByEntry
 pub mod Formats
 pub mod Filed
 pub mod Counts

@@ -1,7 +1,7 @@
 -- What restart reads of the disk part, what it requires of the tables, and the restarted state table by table.
 use mathlib.Core.Path.{_≡_, refl, ap, sym, _∙_}
 use mathlib.Core.List.{List, [], _∷_}
-use Prim.Native.Nat.{ℕ, zero, suc, _*_, _<_, _≤_}
+use Prim.Native.Nat.{ℕ, zero, suc, _*_, _/_, _<_, _≤_}
 use native.Mathlib.Nat.{le-of-suc-le-suc, not-suc-le-zero, mul-le-mul-right}
 use native.Mathlib.Omega.{arith}
 use lib.Dec.{eqb}
@@ -14,7 +14,10 @@ use Rattle.tables.specs.Rule.{Holds, each, below}
 use Rattle.model.specs.declared.sizes.Sizes.{Sizes}
 use Rattle.model.specs.declared.frame.Frame.{Frame}
 use Rattle.model.specs.declared.frame.Pool.{Pool}
+use Rattle.model.specs.State
 use Rattle.model.specs.State.{Disk, State, files, noFrame, allPages, mapWords, freeCount}
+use Rattle.model.specs.Payer.{payer}
+use Rattle.model.specs.Index.{slot-below}
 use Rattle.model.specs.Sizes.{mostSlots}
 use Rattle.model.specs.Lines.{FREE}
 use Rattle.model.specs.Lent.{diskOf}
@@ -25,20 +28,21 @@ use Rattle.model.specs.Setters.{counted}
 use Rattle.model.specs.Restart.{restarted, isListed, listedAt}
 use Rattle.model.specs.Bounds.{pages-most}
 use Rattle.leaves.specs.FreeMap.{freeMap}
-use Rattle.restarts.specs.ByEntry.{Filled, filled-tab}
+use Rattle.leaves.specs.Payers.{who-below}
+use Rattle.leaves.specs.ByEntry.{Filled, filled-tab}
 use Rattle.restarts.specs.Filed.{filedStates, filedOwners}
-use Rattle.restarts.specs.Counts.{listedUsed, used-inactive}
+use Rattle.restarts.specs.Counts.{listedUsed, used-alike, used-inactive}
 
 -- the tables that restart reads; no definition of it looks at the others
-abbrev pub seen : List ℕ → List ℕ → Disk
-seen accounts maps = diskOf [] [] accounts maps []
+abbrev pub seen : List ℕ → List ℕ → List ℕ → List ℕ → Disk
+seen accounts maps limits parents = diskOf [] [] accounts maps limits parents
 
 -- hand 0, and so many free records
 abbrev pub poolOf : ℕ → Pool
 poolOf n = record { hand = 0; free = n }
 
 -- questions 1 and 2 of the tables that follow from the maps
-pub record Recorded (z : Sizes) (accounts maps states owners free-map used : List ℕ) : Type 0 where
+pub record Recorded (z : Sizes) (accounts maps limits parents states owners free-map used : List ℕ) : Type 0 where
   pub within : Within z
   pub accounts-long : length accounts ≡ z .slots
   pub maps-long : length maps ≡ allPages z
@@ -51,8 +55,8 @@ pub record Recorded (z : Sizes) (accounts maps states owners free-map used : Lis
   pub account-fit : Holds (each (z .slots) λ s. below (at accounts s) (z .accounts))
 
 -- and of all that restart sets anew
-pub record Ready (z : Sizes) (accounts maps words free-queue removal-list addresses states owners free-map active updating images used : List ℕ) : Type 0 where
-  pub recorded : Recorded z accounts maps states owners free-map used
+pub record Ready (z : Sizes) (accounts maps limits parents words free-queue removal-list addresses states owners free-map active updating images used : List ℕ) : Type 0 where
+  pub recorded : Recorded z accounts maps limits parents states owners free-map used
   pub words-long : length words ≡ z .frames * z .words
   pub free-queue-long : length free-queue ≡ z .frames
   pub removal-list-long : length removal-list ≡ z .frames
@@ -62,7 +66,7 @@ pub record Ready (z : Sizes) (accounts maps words free-queue removal-list addres
   pub images-long : length images ≡ allPages z
 
 -- what the questions give
-pub ready : (z : Sizes) (st : State) → Fit z st → OnDisk z (files st) → (let m = st .memory in Ready z (st .disk .accounts) (st .disk .maps) (m .core .words) (m .core .free-queue) (m .core .removal-list) (m .held .addresses) (m .held .states) (m .held .owners) (m .held .free-map) (m .slots .active) (m .slots .updating) (m .slots .images) (m .used))
+pub ready : (z : Sizes) (st : State) → Fit z st → OnDisk z (files st) → (let m = st .memory in Ready z (st .disk .accounts) (st .disk .maps) (st .disk .limits) (st .disk .parents) (m .core .words) (m .core .free-queue) (m .core .removal-list) (m .held .addresses) (m .held .states) (m .held .owners) (m .held .free-map) (m .slots .active) (m .slots .updating) (m .slots .images) (m .used))
 ready z st f d = record {
   recorded = record {
     within = f .sizes;
@@ -86,7 +90,7 @@ ready z st f d = record {
 }
 
 -- ── what the passes require ──
-module _ (z : Sizes) (accounts maps states owners free-map used : List ℕ) (r : Recorded z accounts maps states owners free-map used) where
+module _ (z : Sizes) (accounts maps limits parents states owners free-map used : List ℕ) (r : Recorded z accounts maps limits parents states owners free-map used) where
   pub to-file : (0 < z .pages) × (length maps ≤ mostSlots * z .pages) × (length owners ≡ length states) × Holds (fit (length maps) (length states) (at maps)) × Holds (once (length maps) (at maps))
   to-file = (
     r .within .pages,
@@ -96,13 +100,24 @@ module _ (z : Sizes) (accounts maps states owners free-map used : List ℕ) (r :
     rw (r .maps-long) (r .map-once),
   )
 
-  pub to-count : (0 < z .pages) × (length maps ≡ length accounts * z .pages) × (length maps < 65536) × Holds (each (length accounts) (λ s. below (at accounts s) (length used)))
-  to-count = (
+  -- who pays for each slot, as a table
+  abbrev who : ℕ → ℕ
+  who s = payer (at parents) (at limits) (at accounts s)
+
+  pub to-count : (payers : List ℕ) (n : ℕ) → n ≡ mostSlots → payers ≡ tab n (λ s. payer (at parents) (at limits) (at accounts s)) 0
+      → (0 < z .pages) × (length maps ≤ length payers * z .pages) × (length maps < 65536) × Holds (each (length payers) (λ s. below (at payers s) (length used)))
+  to-count payers n e t = let long : length payers ≡ 64 = ap length t ∙ length-tab n who 0 ∙ e in (
     r .within .pages,
-    r .maps-long ∙ ap (λ (n : ℕ). n * z .pages) (sym (r .accounts-long)),
+    (let h : z .slots * z .pages ≤ 64 * z .pages = mul-le-mul-right (z .pages) (omega (arith, r .within .slots-most)) in rw long (omega (arith, h, r .maps-long))),
     omega (arith, r .maps-long, pages-most z (r .within)),
-    rw (r .accounts-long, r .used-long) (r .account-fit),
+    λ s h. let f : at payers s ≡ who s = ap (λ (l : List ℕ). at l s) t ∙ at-tab0 n who s 0 (omega (arith, h, long, e)) in omega (arith, f, who-below z accounts (r .accounts-long) (r .account-fit) (r .within .accounts) parents limits s, r .used-long),
   )
+
+  -- the used counts by the table are those by who pays
+  pub by-payers : (payers : List ℕ) (n : ℕ) → n ≡ mostSlots → payers ≡ tab n (λ s. payer (at parents) (at limits) (at accounts s)) 0
+      → listedUsed (z .accounts) (allPages z) (z .pages) (at payers) (at maps) ≡ listedUsed (z .accounts) (allPages z) (z .pages) (λ s. payer (at parents) (at limits) (at accounts s)) (at maps)
+  by-payers payers n e t = used-alike (z .accounts) (allPages z) (z .pages) (at payers) who (at maps)
+      (λ i h. ap (λ (l : List ℕ). at l (i / z .pages)) t ∙ at-tab0 n who (i / z .pages) 0 (omega (arith, slot-below z (r .within .pages) i h, r .within .slots-most, e)))
 
 -- ── the queues and the frames ──
 pub queued-all : (n : ℕ) → Filled n suc (packed n (tab n (λ f. f) 0))
@@ -143,8 +158,8 @@ module _ (z : Sizes) (d : Disk) where
   unfolding restarted counted
   restarted-pool = refl
 
-  pub restarted-used : restarted z d .memory .used ≡ listedUsed (z .accounts) (allPages z) (z .pages) (at (d .accounts)) (at (d .maps))
-  unfolding restarted counted
+  pub restarted-used : restarted z d .memory .used ≡ listedUsed (z .accounts) (allPages z) (z .pages) (λ s. payer (at (d .parents)) (at (d .limits)) (at (d .accounts) s)) (at (d .maps))
+  unfolding restarted counted State.payer
   restarted-used = filled-tab (record { long = length-tab (z .accounts) _ 0; entries = λ q h. at-tab0 (z .accounts) _ q 0 h ∙ used-inactive z _ _ (λ s. at-zeros (z .slots) s) q })
 
   pub restarted-frames : restarted z d .memory .core .frames ≡ replicate (z .frames) noFrame

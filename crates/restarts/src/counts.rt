@@ -1,6 +1,6 @@
 // The counts of a memory in which no design is active: used counts, free map, count of free records.
 ghost use mathlib.Core.Path.{_≡_};
-ghost use Prim.Native.Nat.{_*_, _<_};
+ghost use Prim.Native.Nat.{_*_, _<_, _≤_};
 ghost use lib.ListN.{length};
 ghost use Rattle.tables.specs.Base.{at};
 ghost use Rattle.tables.specs.Rule.{Holds, each, below};
@@ -13,16 +13,16 @@ use leaves::marks::set_mark;
 use model::lines::FREE;
 use model::sizes::Sizes;
 
-// One pass over the maps: each entry above 0 counts for its slot's account.
-pub fn count_used(pages: usize, accounts: &[u16], maps: &[u16], used: &mut [u16])
-    requires { ⌜ (0 < pages) × (length (now maps) ≡ length (now accounts) * pages) × (length (now maps) < 65536) × Holds (each (length (now accounts)) (λ s. below (at (now accounts) s) (length (now used)))) ⌝ }
-    ensures { λ _. ⌜ now (used .exit) ≡ listedUsed (length (now (used .entry))) (length (now (maps .entry))) pages (at (now (accounts .entry))) (at (now (maps .entry))) ⌝ }
+// One pass over the maps: each entry above 0 counts for who pays for its slot.
+pub fn count_used(pages: usize, payers: &[u16], maps: &[u16], used: &mut [u16])
+    requires { ⌜ (0 < pages) × (length (now maps) ≤ length (now payers) * pages) × (length (now maps) < 65536) × Holds (each (length (now payers)) (λ s. below (at (now payers) s) (length (now used)))) ⌝ }
+    ensures { λ _. ⌜ now (used .exit) ≡ listedUsed (length (now (used .entry))) (length (now (maps .entry))) pages (at (now (payers .entry))) (at (now (maps .entry))) ⌝ }
 {
     zero16(used);
     let mut i = 0;
     while i < maps.len() {
         if maps[i] != 0 {
-            let q = accounts[i / pages] as usize;
+            let q = payers[i / pages] as usize;
             used[q] += 1;
         }
         i += 1;

@@ -10,6 +10,7 @@ use crate::queue::fill_queue;
 use crate::zero::zero8;
 use crate::zero::zero16;
 use crate::zero::zero32;
+use leaves::payer::fill_payers;
 use model::applied::Pooled;
 use model::event::Answer;
 use model::frame::Pool;
@@ -45,21 +46,25 @@ pub fn restart_records(
     sizes: Sizes,
     accounts: &[u16],
     maps: &[u16],
+    limits: &[u16],
+    parents: &[u16],
     states: &mut [u8],
     owners: &mut [u8],
     free_map: &mut [u32],
     used: &mut [u16],
 ) -> usize
-    requires { ⌜ RecordsGiven sizes accounts maps states owners «free_map» used ⌝ }
-    ensures states { λ _. ⌜ now (states .exit) ≡ restartedFrom sizes accounts maps .held .states ⌝ }
-    ensures owners { λ _. ⌜ now (owners .exit) ≡ restartedFrom sizes accounts maps .held .owners ⌝ }
-    ensures free { λ _. ⌜ now («free_map» .exit) ≡ restartedFrom sizes accounts maps .held .free-map ⌝ }
-    ensures used { λ _. ⌜ now (used .exit) ≡ restartedFrom sizes accounts maps .used ⌝ }
-    ensures pool { λ r. ⌜ poolOf r ≡ restartedFrom sizes accounts maps .held .pool ⌝ }
+    requires { ⌜ RecordsGiven sizes accounts maps limits parents states owners «free_map» used ⌝ }
+    ensures states { λ _. ⌜ now (states .exit) ≡ restartedFrom sizes accounts maps limits parents .held .states ⌝ }
+    ensures owners { λ _. ⌜ now (owners .exit) ≡ restartedFrom sizes accounts maps limits parents .held .owners ⌝ }
+    ensures free { λ _. ⌜ now («free_map» .exit) ≡ restartedFrom sizes accounts maps limits parents .held .free-map ⌝ }
+    ensures used { λ _. ⌜ now (used .exit) ≡ restartedFrom sizes accounts maps limits parents .used ⌝ }
+    ensures pool { λ r. ⌜ poolOf r ≡ restartedFrom sizes accounts maps limits parents .held .pool ⌝ }
 {
     let pages = sizes.pages;
     file_records(pages, maps, states, owners);
-    count_used(pages, accounts, maps, used);
+    let mut payers: [u16; Sizes::MOST_SLOTS] = [0; Sizes::MOST_SLOTS];
+    fill_payers(parents, limits, accounts, &mut payers);
+    count_used(pages, &payers, maps, used);
     build_free_map(sizes, states, free_map)
 }
 
@@ -68,6 +73,8 @@ pub fn restart_tables(
     sizes: Sizes,
     accounts: &[u16],
     maps: &[u16],
+    limits: &[u16],
+    parents: &[u16],
     words: &mut [u32],
     free_queue: &mut [u16],
     removal_list: &mut [u16],
@@ -80,25 +87,35 @@ pub fn restart_tables(
     images: &mut [u16],
     used: &mut [u16],
 ) -> Pooled
-    requires { ⌜ TablesGiven sizes accounts maps words «free_queue» «removal_list» addresses states owners «free_map» active updating images used ⌝ }
+    requires { ⌜ TablesGiven sizes accounts maps limits parents words «free_queue» «removal_list» addresses states owners «free_map» active updating images used ⌝ }
     ensures answer { λ r. ⌜ r .answer ≡ record { refusal = 0; result = 0 } ⌝ }
-    ensures frames { λ r. ⌜ take (sizes .frames) (r .frames) ≡ restartedFrom sizes accounts maps .core .frames ⌝ }
-    ensures words { λ _. ⌜ now (words .exit) ≡ restartedFrom sizes accounts maps .core .words ⌝ }
-    ensures queue { λ _. ⌜ now («free_queue» .exit) ≡ restartedFrom sizes accounts maps .core .free-queue ⌝ }
-    ensures removing { λ _. ⌜ now («removal_list» .exit) ≡ restartedFrom sizes accounts maps .core .removal-list ⌝ }
-    ensures addresses { λ _. ⌜ now (addresses .exit) ≡ restartedFrom sizes accounts maps .held .addresses ⌝ }
-    ensures states { λ _. ⌜ now (states .exit) ≡ restartedFrom sizes accounts maps .held .states ⌝ }
-    ensures owners { λ _. ⌜ now (owners .exit) ≡ restartedFrom sizes accounts maps .held .owners ⌝ }
-    ensures free { λ _. ⌜ now («free_map» .exit) ≡ restartedFrom sizes accounts maps .held .free-map ⌝ }
-    ensures pool { λ r. ⌜ r .pool ≡ restartedFrom sizes accounts maps .held .pool ⌝ }
-    ensures active { λ _. ⌜ now (active .exit) ≡ restartedFrom sizes accounts maps .slots .active ⌝ }
-    ensures updating { λ _. ⌜ now (updating .exit) ≡ restartedFrom sizes accounts maps .slots .updating ⌝ }
-    ensures images { λ _. ⌜ now (images .exit) ≡ restartedFrom sizes accounts maps .slots .images ⌝ }
-    ensures used { λ _. ⌜ now (used .exit) ≡ restartedFrom sizes accounts maps .used ⌝ }
+    ensures frames { λ r. ⌜ take (sizes .frames) (r .frames) ≡ restartedFrom sizes accounts maps limits parents .core .frames ⌝ }
+    ensures words { λ _. ⌜ now (words .exit) ≡ restartedFrom sizes accounts maps limits parents .core .words ⌝ }
+    ensures queue { λ _. ⌜ now («free_queue» .exit) ≡ restartedFrom sizes accounts maps limits parents .core .free-queue ⌝ }
+    ensures removing { λ _. ⌜ now («removal_list» .exit) ≡ restartedFrom sizes accounts maps limits parents .core .removal-list ⌝ }
+    ensures addresses { λ _. ⌜ now (addresses .exit) ≡ restartedFrom sizes accounts maps limits parents .held .addresses ⌝ }
+    ensures states { λ _. ⌜ now (states .exit) ≡ restartedFrom sizes accounts maps limits parents .held .states ⌝ }
+    ensures owners { λ _. ⌜ now (owners .exit) ≡ restartedFrom sizes accounts maps limits parents .held .owners ⌝ }
+    ensures free { λ _. ⌜ now («free_map» .exit) ≡ restartedFrom sizes accounts maps limits parents .held .free-map ⌝ }
+    ensures pool { λ r. ⌜ r .pool ≡ restartedFrom sizes accounts maps limits parents .held .pool ⌝ }
+    ensures active { λ _. ⌜ now (active .exit) ≡ restartedFrom sizes accounts maps limits parents .slots .active ⌝ }
+    ensures updating { λ _. ⌜ now (updating .exit) ≡ restartedFrom sizes accounts maps limits parents .slots .updating ⌝ }
+    ensures images { λ _. ⌜ now (images .exit) ≡ restartedFrom sizes accounts maps limits parents .slots .images ⌝ }
+    ensures used { λ _. ⌜ now (used .exit) ≡ restartedFrom sizes accounts maps limits parents .used ⌝ }
 {
     clear_tables(words, removal_list, addresses, active, updating, images);
     fill_queue(free_queue);
-    let free = restart_records(sizes, accounts, maps, states, owners, free_map, used);
+    let free = restart_records(
+        sizes,
+        accounts,
+        maps,
+        limits,
+        parents,
+        states,
+        owners,
+        free_map,
+        used,
+    );
     let frames = no_frames();
     let pool = Pool {
         hand: 0,

@@ -7,3 +7,4 @@ pub mod Words
 pub mod Places
 pub mod Tally
 pub mod Charges
+pub mod Used

@@ -14,7 +14,7 @@ use Rattle.model.specs.declared.sizes.Sizes.{Sizes}
 use Rattle.model.specs.declared.frame.Frame.{Frame}
 use Rattle.model.specs.Sizes.{mostFrames, mostSlots, mostPages, mostAccounts}
 use Rattle.model.specs.Lines.{FREE, FILED, NULLED, LIVE, RELEASED, LEAVING}
-use Rattle.model.specs.State.{NONE, READING, WRITING, frameAt}
+use Rattle.model.specs.State.{NONE, READING, WRITING, frameAt, Frames, allPages, slotOf}
 use Rattle.model.specs.Rules.{fit, once}
 
 -- the pages of all slots, at most
@@ -177,7 +177,7 @@ frameRows n w pages frames words records active addresses states queued removing
 pub record FramesFit (z : Sizes) (account active addresses states words records : List ℕ) : Type 0 where
   pub few : z .frames ≤ mostFrames
   pub pages : 0 < z .pages
-  pub accounts-long : length account ≡ length active
+  pub accounts-long : length active ≤ length account
   pub accounts-fit : Holds (each (length account) λ s. below (at account s) mostAccounts)
   pub addresses-long : length addresses ≡ length active * z .pages
   pub addresses-fit : Holds (fit (length addresses) (length states) (at addresses))
@@ -211,3 +211,9 @@ freeRecord records states r = ltb r records && eqb (at states r) FREE
 
 abbrev pub freeWords : (records : ℕ) (map states : List ℕ) (n : ℕ) → Rule
 freeWords records map states n = each n λ k. same (at map k) (bits 32 (freeRecord records states) (32 * k))
+
+-- what the counts by frames rest on: a frame's page is one of the pages, of an active design, and in no other frame
+pub record Seated (z : Sizes) (active : ℕ → ℕ) (c : Frames) : Type 0 where
+  pub fit : (f : ℕ) → f < z .frames → (i : ℕ) → c .frame f .page ≡ suc i → i < allPages z
+  pub on : (f : ℕ) → f < z .frames → (i : ℕ) → c .frame f .page ≡ suc i → active (slotOf z i) ≡ 1
+  pub once : (f : ℕ) → f < z .frames → (g : ℕ) → g < z .frames → (i : ℕ) → c .frame f .page ≡ suc i → c .frame g .page ≡ suc i → f ≡ g

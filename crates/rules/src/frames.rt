@@ -121,7 +121,7 @@ fn frame_ok(
 }
 
 // The entry of the page of a modified frame, or 0.
-fn woven_page(x: Frame) -> u16
+pub fn woven_page(x: Frame) -> u16
     ensures { λ r. ⌜ r ≡ wovenPage x ⌝ }
 {
     if x.modified == 1 {
@@ -131,7 +131,7 @@ fn woven_page(x: Frame) -> u16
 }
 
 // The page of a modified frame counts as used by that where its address is not live: one more for its account.
-fn charge(
+pub fn charge(
     page: u16,
     pages: usize,
     totals: &mut [usize],

@@ -4,6 +4,7 @@ ghost use Prim.Native.Nat.{_≤_, _<_};
 ghost use lib.ListN.{length};
 ghost use Rattle.tables.specs.Base.{at};
 ghost use Rattle.tables.specs.Rule.{same, below, _then_, each, test};
+ghost use Rattle.model.specs.Rules.{lower};
 ghost use Rattle.rules.specs.Passes.{diskSlot, memorySlot, newNumber, newNumbers};
 
 // An empty slot has account 0;
@@ -30,6 +31,28 @@ pub fn disk_slots_ok(slots: usize, accounts: usize, numbers: &[u32], account: &[
             return false;
         }
         s += 1;
+    }
+    true
+}
+
+// A parent is lower than its account; account 0's is never looked at.
+fn is_lower(account: usize, parent: u16) -> bool
+    ensures { λ r. ⌜ r ≡ test (below 0 account then below parent account) ⌝ }
+{
+    !(0 < account) | ((parent as usize) < account)
+}
+
+// Each account but 0 has a parent with a lower number.
+pub fn parents_ok(accounts: usize, parents: &[u16]) -> bool
+    requires { ⌜ accounts ≤ length (now parents) ⌝ }
+    ensures { λ r. ⌜ r ≡ test (lower accounts (at (now (parents .entry)))) ⌝ }
+{
+    let mut a = 0;
+    while a < accounts {
+        if is_lower(a, parents[a]) {} else {
+            return false;
+        }
+        a += 1;
     }
     true
 }

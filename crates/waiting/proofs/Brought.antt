@@ -48,7 +48,7 @@ module _ (z : Sizes) (st : State) (k : Kept z st) (w : Waiting z st) (away : ¬ 
   -- all tables, with those new that a turn changes
   abbrev after : List ℕ → List Frame → Pool → List ℕ → List ℕ → List ℕ → List ℕ → List ℕ → List ℕ → List ℕ → List ℕ → State
   after line fs pool ws fq rl ads ss os fm us =
-      stateIn line fs pool (disk .records) (disk .numbers) (disk .accounts) (disk .maps) (disk .limits) ws fq rl ads ss os fm (slots .active) (slots .updating) (slots .images) us
+      stateIn line fs pool (disk .records) (disk .numbers) (disk .accounts) (disk .maps) (disk .limits) (disk .parents) ws fq rl ads ss os fm (slots .active) (slots .updating) (slots .images) us
 
   module _ {fs : List Frame} (pool : Pool) {ws fq rl ads ss os fm : List ℕ} {a : Answer} (l : FaultLeft z sees (slotOf z i) (i % z .pages) fs pool ws fq rl ads ss os fm)
       (e : a ≡ own z sees (Event.Page (Fault (slotOf z i) (i % z .pages))) .answer) where
@@ -71,9 +71,9 @@ module _ (z : Sizes) (st : State) (k : Kept z st) (w : Waiting z st) (away : ¬ 
       kept-again : Kept z again
       kept-again = subst (Kept z) (sym same) k
 
-      pub claim-asked : ClaimReady z (core .frames) (disk .accounts) ws fq rl ads ss (st .memory .used)
+      pub claim-asked : ClaimReady z (core .frames) (disk .accounts) (disk .limits) (disk .parents) ws fq rl ads ss (st .memory .used)
       claim-asked = claim-ready z again (kept-again .fits) (kept-again .rules)
 
-      pub brought-by-claim : {gs : List Frame} {b : Answer} {fq′ rl′ ss′ us′ : List ℕ} → ClaimLeft z (stateOf (core .frames) noPool [] [] (disk .accounts) [] [] ws fq rl ads ss [] [] [] [] [] (st .memory .used)) gs b fq′ rl′ ss′ us′
+      pub brought-by-claim : {gs : List Frame} {b : Answer} {fq′ rl′ ss′ us′ : List ℕ} → ClaimLeft z (stateOf (core .frames) noPool [] [] (disk .accounts) [] (disk .limits) (disk .parents) ws fq rl ads ss [] [] [] [] [] (st .memory .used)) gs b fq′ rl′ ss′ us′
           → leaves (record { refusal = b .refusal; result = 0 }) (after (st .memory .line) (take (z .frames) gs) (held .pool) ws fq′ rl′ ads ss′ os fm us′) ≡ own z st (Event.Waiting Turn)
       brought-by-claim d = claimed-own z st w away faulted h _ (claim-own z again kept-again d ∙ ap (λ (x : State). own z x claim) same)

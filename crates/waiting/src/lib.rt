@@ -28,6 +28,7 @@ pub fn waiting_event(
     accounts: &[u16],
     maps: &[u16],
     limits: &[u16],
+    parents: &[u16],
     frame_words: &mut [u32],
     free_queue: &mut [u16],
     removal_list: &mut [u16],
@@ -42,13 +43,13 @@ pub fn waiting_event(
     used: &mut [u16],
 ) -> Applied
     requires { ⌜ Kept sizes
-        (allGiven (take (sizes .frames) frames) pool records numbers accounts maps limits
+        (allGiven (take (sizes .frames) frames) pool records numbers accounts maps limits parents
         «frame_words» «free_queue» «removal_list» addresses states owners «free_map» active updating images line used) ⌝ }
     ensures { λ r. ⌜ leaves (r .answer)
-        (allLeft (take (sizes .frames) (r .frames)) (deposited (r .deposited) (taken sizes (r .taken) pool)) records numbers accounts maps limits
+        (allLeft (take (sizes .frames) (r .frames)) (deposited (r .deposited) (taken sizes (r .taken) pool)) records numbers accounts maps limits parents
         «frame_words» «free_queue» «removal_list» addresses states owners «free_map» active updating images line used)
         ≡ own sizes
-        (allEntered (take (sizes .frames) frames) pool records numbers accounts maps limits
+        (allEntered (take (sizes .frames) frames) pool records numbers accounts maps limits parents
         «frame_words» «free_queue» «removal_list» addresses states owners «free_map» active updating images line used)
         (Event.Waiting event) ⌝ }
 {
@@ -71,6 +72,7 @@ pub fn waiting_event(
             accounts,
             maps,
             limits,
+            parents,
             frame_words,
             free_queue,
             removal_list,

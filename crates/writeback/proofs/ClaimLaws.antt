@@ -30,6 +30,7 @@ use Rattle.model.specs.Fit.{Fit}
 use Rattle.model.specs.Ruled.{Ruled}
 use Rattle.model.specs.Lent.{stateIn, same-state}
 use Rattle.leaves.specs.Counts.{counts, countsFor, usedCounts, counts-less}
+use Rattle.leaves.specs.Payers as Payers
 use Rattle.writeback.specs.Claim.{claim, payerOf, usedThen, Claimable, ClaimReady}
 use Rattle.writeback.proofs.Kept.{counts-alike, charged-alike, used-is, used-kept, map-kept, pool-kept}
 use Rattle.writeback.proofs.Looks.{Like, look-like, look-long, taken-in}
@@ -59,8 +60,7 @@ module _ (z : Sizes) (st : State) (fit : Fit z st) (ruled : Ruled z st) where
     slot-inside = slot-below z (fit .sizes .pages) (p .index) (p .page-inside)
 
     payer-below : payer v (slotOf z (p .index)) < z .accounts
-    unfolding payer
-    payer-below = ruled .disk .account-fit (slotOf z (p .index)) slot-inside
+    payer-below = Payers.payer-below z st (fit .disk .accounts) (ruled .disk .account-fit) (fit .sizes .accounts) (slotOf z (p .index))
 
     -- its payer's count is above 0
     payer-pays : c .frame f .modified ≡ 1 → 0 < at (st .memory .used) (payer v (slotOf z (p .index)))
@@ -68,7 +68,7 @@ module _ (z : Sizes) (st : State) (fit : Fit z st) (ruled : Ruled z st) where
     payer-pays m = let q = payer v (slotOf z (p .index)) in rw (ruled .counts .used q payer-below)
         (count-pos (allPages z) (countsFor z v c q) (p .index) (p .page-inside) (and-intro (eqb q q) (counts z v c (p .index)) (eq→T {a = q} refl) (counted-page m)))
 
-  listed : (f : ℕ) → f < z .frames → 0 < times (members (st .memory .core .removal-list)) f → Claimable z (c .frame f .page) (c .frame f .modified) (st .disk .accounts) (st .memory .core .free-queue) (st .memory .held .addresses) (st .memory .held .states) (st .memory .used)
+  listed : (f : ℕ) → f < z .frames → 0 < times (members (st .memory .core .removal-list)) f → Claimable z (c .frame f .page) (c .frame f .modified) (st .disk .accounts) (st .disk .limits) (st .disk .parents) (st .memory .core .free-queue) (st .memory .held .addresses) (st .memory .held .states) (st .memory .used)
   unfolding payer
   listed f h t =
       let q = unqueued f h t in
@@ -83,7 +83,7 @@ module _ (z : Sizes) (st : State) (fit : Fit z st) (ruled : Ruled z st) where
         pays = λ m. rw e (payer-pays f h p m);
       }
 
-  pub claim-ready : ClaimReady z (st .memory .core .frames) (st .disk .accounts) (st .memory .core .words) (st .memory .core .free-queue) (st .memory .core .removal-list) (st .memory .held .addresses) (st .memory .held .states) (st .memory .used)
+  pub claim-ready : ClaimReady z (st .memory .core .frames) (st .disk .accounts) (st .disk .limits) (st .disk .parents) (st .memory .core .words) (st .memory .core .free-queue) (st .memory .core .removal-list) (st .memory .held .addresses) (st .memory .held .states) (st .memory .used)
   claim-ready = record {
     most = fit .sizes .frames-most;
     pages-some = fit .sizes .pages;
@@ -237,23 +237,23 @@ module _ (z : Sizes) (st : State) (fit : Fit z st) (ruled : Ruled z st) where
     claimed = carried z st claim
 
     abbrev Left : State → Type 0
-    Left x = x ≡ stateIn (st .memory .line) (x .memory .core .frames) (st .memory .held .pool) (st .disk .records) (st .disk .numbers) (st .disk .accounts) (st .disk .maps) (st .disk .limits)
+    Left x = x ≡ stateIn (st .memory .line) (x .memory .core .frames) (st .memory .held .pool) (st .disk .records) (st .disk .numbers) (st .disk .accounts) (st .disk .maps) (st .disk .limits) (st .disk .parents)
         (st .memory .core .words) (x .memory .core .free-queue) (x .memory .core .removal-list) (st .memory .held .addresses) (x .memory .held .states) (st .memory .held .owners) (st .memory .held .free-map)
         (st .memory .slots .active) (st .memory .slots .updating) (st .memory .slots .images) (usedThen z st)
 
     left-writes : beginsWrite z st ≡ true → Left (counted z writes)
     unfolding counted payer usedThen
-    left-writes e = same-state refl (pool-kept z st fit (ruled .counts) writes (λ r b. refl) refl) refl refl refl refl refl refl refl refl refl refl refl
+    left-writes e = same-state refl (pool-kept z st fit (ruled .counts) writes (λ r b. refl) refl) refl refl refl refl refl refl refl refl refl refl refl refl
         (map-kept z st fit (ruled .counts) writes (λ r b. refl)) refl refl refl (used-kept z st fit (ruled .counts) writes (λ s. refl) writes-stay ∙ rw e)
 
     left-nulls : beginsWrite z st ≡ false → c .frame f .modified ≡ 1 → Left (counted z nulls)
     unfolding counted freeFrame usedThen
-    left-nulls e m = same-state refl (pool-kept z st fit (ruled .counts) nulls nulled-free refl) refl refl refl refl refl refl refl refl refl refl refl
+    left-nulls e m = same-state refl (pool-kept z st fit (ruled .counts) nulls nulled-free refl) refl refl refl refl refl refl refl refl refl refl refl refl
         (map-kept z st fit (ruled .counts) nulls nulled-free) refl refl refl (sym (nulled-less m) ∙ rw (e, eq-eqb _ _ m))
 
     left-frees : beginsWrite z st ≡ false → ¬ (c .frame f .modified ≡ 1) → Left (counted z frees)
     unfolding counted freeFrame usedThen
-    left-frees e m = same-state refl (pool-kept z st fit (ruled .counts) frees (λ r b. refl) refl) refl refl refl refl refl refl refl refl refl refl refl
+    left-frees e m = same-state refl (pool-kept z st fit (ruled .counts) frees (λ r b. refl) refl) refl refl refl refl refl refl refl refl refl refl refl refl
         (map-kept z st fit (ruled .counts) frees (λ r b. refl)) refl refl refl
         (frees-same m ∙ rw (e, ne-eqb _ _ m))
 

@@ -29,21 +29,22 @@ use Rattle.model.specs.Step.{Outcome, outcome, carried, result}
 use Rattle.model.specs.Own.{own, refusal, completed, first-no}
 use Rattle.leaves.specs.FrameLaws.{frame-take, take-frame}
 use Rattle.model.specs.OwnLaws.{own-yes, own-no}
+use Rattle.leaves.specs.Payers.{whoPays}
 use Rattle.writeback.specs.Claim.{claim, seen, payerOf, usedThen, LooksLeft, Claimable, ClaimReady, ClaimLeft}
 use Rattle.writeback.proofs.DoneWork.{answered}
 use Rattle.writeback.proofs.Looks.{cut, look-take, taken-in}
 use Rattle.tables.specs.StoreLoops.{part-fits}
 
 -- the frame that the looks end at, as the calls after them ask it
-pub record Taken (z : Sizes) (fs : List Frame) (ac ws fq ads ss us : List ℕ) (f : ℕ) : Type 0 where
+pub record Taken (z : Sizes) (fs : List Frame) (ac ls ps ws fq ads ss us : List ℕ) (f : ℕ) : Type 0 where
   pub words-fit : f * z .words + z .words ≤ length ws
   pub room : (f < 65535) × ((m : ℕ) × Holds (queueOf (length fq) m fq)) × (size fq < length fq)
-  pub pays : frameAt fs f .modified ≡ 1 → 0 < at us (at ac (pred (frameAt fs f .page) / z .pages))
+  pub pays : frameAt fs f .modified ≡ 1 → 0 < at us (whoPays ac ls ps (pred (frameAt fs f .page) / z .pages))
   pub moves : (r : ℕ) → r ≡ pred (at ads (pred (frameAt fs f .page))) → (at ss r ≡ NULLED) ⊎ (at ss r ≡ LIVE)
 
-module _ (z : Sizes) (fs : List Frame) (ac ws fq rl ads ss us : List ℕ) where
+module _ (z : Sizes) (fs : List Frame) (ac ls ps ws fq rl ads ss us : List ℕ) where
   abbrev st : State
-  st = seen z fs ac ws fq rl ads ss us
+  st = seen z fs ac ls ps ws fq rl ads ss us
 
   abbrev Left : Framed → List ℕ → List ℕ → List ℕ → List ℕ → Type 0
   Left x fq' rl' ss' us' = ClaimLeft z st (x .frames) (x .answer) fq' rl' ss' us'
@@ -71,7 +72,7 @@ module _ (z : Sizes) (fs : List Frame) (ac ws fq rl ads ss us : List ℕ) where
     says : firstNo (questions z st claim) ≡ 0
     says = yes-all (questions z st claim) (some, tt)
 
-    module _ (ready : ClaimReady z (take (z .frames) fs) ac ws fq rl ads ss us) {kept : List Frame} {looks f : ℕ} {list : List ℕ} (t : LooksLeft fs rl kept looks list) (here : f ≡ first list) where
+    module _ (ready : ClaimReady z (take (z .frames) fs) ac ls ps ws fq rl ads ss us) {kept : List Frame} {looks f : ℕ} {list : List ℕ} (t : LooksLeft fs rl kept looks list) (here : f ≡ first list) where
       looked-is : looking z st ≡ cut (z .frames) (look (suc (size rl)) 0 fs (members rl))
       unfolding looking
       looked-is = ap (λ (n : ℕ). look (suc n) 0 (take (z .frames) fs) (members rl)) (sym (size-members rl)) ∙ look-take (z .frames) (suc (size rl)) 0 fs (members rl) (members-within rl (ready .list-long) (ready .listed))
@@ -100,8 +101,8 @@ module _ (z : Sizes) (fs : List Frame) (ac ws fq rl ads ss us : List ℕ) where
       same-frame : frameAt (take (z .frames) fs) f ≡ old
       same-frame = frame-take (z .frames) fs f below
 
-      held : Claimable z (old .page) (old .modified) ac fq ads ss us
-      held = subst (λ (g : Frame). Claimable z (g .page) (g .modified) ac fq ads ss us) same-frame (ready .held f below in-list)
+      held : Claimable z (old .page) (old .modified) ac ls ps fq ads ss us
+      held = subst (λ (g : Frame). Claimable z (g .page) (g .modified) ac ls ps fq ads ss us) same-frame (ready .held f below in-list)
 
       module _ {r : ℕ} (found : r ≡ pred (at ads (pred (old .page)))) where
         item-is : r ≡ held .item
@@ -110,7 +111,7 @@ module _ (z : Sizes) (fs : List Frame) (ac ws fq rl ads ss us : List ℕ) where
         record-is : recordIn z st (looking z st .taken) ≡ r
         record-is = rw (taken-is, same-frame) (sym found)
 
-      pub taken : Taken z fs ac ws fq ads ss us f
+      pub taken : Taken z fs ac ls ps ws fq ads ss us f
       taken = record {
         words-fit = rw (ready .words-long) (part-fits (z .frames) (z .words) f below);
         room = (omega (arith, below, ready .most), (z .frames, rw (ready .queue-long) (ready .queued)), omega (arith, held .room, ready .queue-long));
@@ -154,7 +155,7 @@ module _ (z : Sizes) (fs : List Frame) (ac ws fq rl ads ss us : List ℕ) where
           mod-is = rw (taken-is, same-frame)
 
           abbrev payer-at : ℕ
-          payer-at = at ac (pred (old .page) / z .pages)
+          payer-at = whoPays ac ls ps (pred (old .page) / z .pages)
 
           abbrev less : List ℕ
           less = set us payer-at (at us payer-at - 1)

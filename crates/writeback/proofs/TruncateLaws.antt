@@ -32,6 +32,7 @@ use Rattle.model.specs.Fit.{Fit}
 use Rattle.model.specs.Ruled.{Ruled, once-free, once-list}
 use Rattle.model.specs.Lent.{stateIn, same-state}
 use Rattle.leaves.specs.Counts.{counts, countsFor, usedCounts}
+use Rattle.leaves.specs.Payers as Payers
 use Rattle.writeback.specs.Truncate.{truncate, usedThen, TruncateReady}
 use Rattle.writeback.proofs.Cut.{from-up, not-up}
 use Rattle.writeback.proofs.Kept.{counts-alike, charged-alike, used-is, map-kept, pool-kept}
@@ -75,10 +76,10 @@ module _ (z : Sizes) (st : State) (fit : Fit z st) (ruled : Ruled z st) where
       arith,
       count-le (z .pages) cutCharge (λ p. countsFor z v c (payer v s) (pageOf z s p)) row-counts,
       count-parts (z .slots) (z .pages) s (countsFor z v c (payer v s)) inside,
-      ruled .counts .used (payer v s) (ruled .disk .account-fit s inside),
+      ruled .counts .used (payer v s) (Payers.payer-below z st (fit .disk .accounts) (ruled .disk .account-fit) (fit .sizes .accounts) s),
     )
 
-  pub truncate-ready : TruncateReady z (st .memory .core .frames) (st .disk .accounts) (st .memory .core .free-queue) (st .memory .core .removal-list) (st .memory .held .addresses) (st .memory .held .states) (st .memory .used)
+  pub truncate-ready : TruncateReady z (st .memory .core .frames) (st .disk .accounts) (st .disk .limits) (st .disk .parents) (st .memory .core .free-queue) (st .memory .core .removal-list) (st .memory .held .addresses) (st .memory .held .states) (st .memory .used)
   unfolding payer charged
   truncate-ready = record {
     most = fit .sizes .frames-most;
@@ -273,16 +274,15 @@ module _ (z : Sizes) (st : State) (fit : Fit z st) (ruled : Ruled z st) where
     ])
 
     payer-below : q < z .accounts
-    unfolding payer
-    payer-below = ruled .disk .account-fit s inside
+    payer-below = Payers.payer-below z st (fit .disk .accounts) (ruled .disk .account-fit) (fit .sizes .accounts) s
 
     used-then : usedThen z st s k ≡ usedCounts z v' c'
     unfolding usedThen
     used-then = ap (λ (u : List ℕ). set u q (at u q - count (z .pages) (cutCharge s k inside))) (used-is z st fit (ruled .counts))
         ∙ set-tab (z .accounts) (usedOf z v c) (usedOf z v' c') q _ (omega (arith, at-tab0 (z .accounts) (usedOf z v c) q 0 payer-below, used-split, taken-count)) (λ a h d. other-used a d)
 
-    pub truncate-left : cut ≡ stateIn (st .memory .line) (cut .memory .core .frames) (st .memory .held .pool) (st .disk .records) (st .disk .numbers) (st .disk .accounts) (st .disk .maps) (st .disk .limits)
+    pub truncate-left : cut ≡ stateIn (st .memory .line) (cut .memory .core .frames) (st .memory .held .pool) (st .disk .records) (st .disk .numbers) (st .disk .accounts) (st .disk .maps) (st .disk .limits) (st .disk .parents)
         (st .memory .core .words) (cut .memory .core .free-queue) (cut .memory .core .removal-list) (cut .memory .held .addresses) (cut .memory .held .states) (st .memory .held .owners) (st .memory .held .free-map)
         (st .memory .slots .active) (st .memory .slots .updating) (st .memory .slots .images) (usedThen z st s k)
     unfolding carried Writeback.truncate counted
-    truncate-left = same-state refl (pool-kept z st fit (ruled .counts) cut free-alike refl) refl refl refl refl refl refl refl refl refl refl refl (map-kept z st fit (ruled .counts) cut free-alike) refl refl refl (sym used-then)
+    truncate-left = same-state refl (pool-kept z st fit (ruled .counts) cut free-alike refl) refl refl refl refl refl refl refl refl refl refl refl refl (map-kept z st fit (ruled .counts) cut free-alike) refl refl refl (sym used-then)

@@ -32,6 +32,7 @@ use Rattle.model.specs.Own.{own, completed}
 use Rattle.leaves.specs.FrameLaws.{frameIn, frame-take, frame-found}
 use Rattle.leaves.specs.Released.{Releasing}
 use Rattle.model.specs.OwnLaws.{own-yes, own-no}
+use Rattle.leaves.specs.Payers.{whoPays}
 use Rattle.writeback.specs.Pages.{framed, charged}
 use Rattle.writeback.specs.Truncate.{truncate, quiet, allQuiet, chargesFrom, cutFrame, cutFrames, CutReady, FramesReady, seen, usedThen, TruncateReady, TruncateLeft}
 use Rattle.writeback.proofs.CutFrames.{without-alike}
@@ -61,16 +62,16 @@ module _ (n : ℕ) (fs : List Frame) where
       (λ h. elim h [ inl l ↦ inl l | inr q ↦ inr (q .0, q .1, rw (frame-take n fs (q .0) (q .1)) at (q .2)) ])
 
 -- what the answers tell, as the passes ask it
-pub record Passed (z : Sizes) (fs : List Frame) (ac fq rl ds ss us : List ℕ) (s k : ℕ) : Type 0 where
+pub record Passed (z : Sizes) (fs : List Frame) (ac ls ps fq rl ds ss us : List ℕ) (s k : ℕ) : Type 0 where
   pub sized : CutReady (z .frames) (z .pages) s k
   pub addresses-fit : s * z .pages + z .pages ≤ length ds
   pub frames-ready : FramesReady (z .frames) (z .pages) s k fs fq rl
   pub releasing : Releasing z s k ss ds
-  pub pays : (m : ℕ) → m ≡ chargesFrom (z .frames) (z .pages) s k fs ds ss → m ≤ at us (at ac s)
+  pub pays : (m : ℕ) → m ≡ chargesFrom (z .frames) (z .pages) s k fs ds ss → m ≤ at us (whoPays ac ls ps s)
 
-module _ (z : Sizes) (fs : List Frame) (ns ac fq rl ds ss act us : List ℕ) (s k : ℕ) where
+module _ (z : Sizes) (fs : List Frame) (ns ac ls ps fq rl ds ss act us : List ℕ) (s k : ℕ) where
   abbrev st : State
-  st = seen z fs ns ac fq rl ds ss act us
+  st = seen z fs ns ac ls ps fq rl ds ss act us
 
   abbrev out : Outcome State
   out = own z st (truncate s k)
@@ -97,7 +98,7 @@ module _ (z : Sizes) (fs : List Frame) (ns ac fq rl ds ss act us : List ℕ) (s 
         stays zero d = absurd (d refl)
         stays (suc m) d = refl
 
-    module _ (yes : n ≡ 0) (ready : TruncateReady z (take (z .frames) fs) ac fq rl ds ss us) where
+    module _ (yes : n ≡ 0) (ready : TruncateReady z (take (z .frames) fs) ac ls ps fq rl ds ss us) where
       asked : Asked (questions z st (truncate s k))
       asked = all-yes 2 (questions z st (truncate s k)) tt (sym e ∙ yes)
 
@@ -140,7 +141,7 @@ module _ (z : Sizes) (fs : List Frame) (ns ac fq rl ds ss act us : List ℕ) (s 
       charges-are : chargesFrom (z .frames) (z .pages) s k fs ds ss ≡ chargesFrom (z .frames) (z .pages) s k (take (z .frames) fs) ds ss
       charges-are = count-same (z .pages) _ _ (λ p h. ap (λ (b : Bool). leb k p && b) (charged-alike (z .frames) fs ds ss (s * z .pages + p)))
 
-      pub passed : Passed z fs ac fq rl ds ss us s k
+      pub passed : Passed z fs ac ls ps fq rl ds ss us s k
       passed = record {
         sized = sized;
         addresses-fit = addresses-fit;
@@ -181,12 +182,12 @@ module _ (z : Sizes) (fs : List Frame) (ns ac fq rl ds ss act us : List ℕ) (s 
       list-is : without (λ f. test (cutFrame (z .pages) s k (z .pages) (frameAt fs f))) (members rl) ≡ without (λ f. test (Writeback.cutFrame z st s k f)) (members rl)
       list-is = without-alike _ _ (members rl) (λ f h. cut-alike f (members-within rl (ready .list-long) (ready .listed) f h))
 
-      used-is : {m : ℕ} → m ≡ chargesFrom (z .frames) (z .pages) s k fs ds ss → set us (at ac s) (at us (at ac s) - m) ≡ usedThen z st s k
+      used-is : {m : ℕ} → m ≡ chargesFrom (z .frames) (z .pages) s k fs ds ss → set us (whoPays ac ls ps s) (at us (whoPays ac ls ps s) - m) ≡ usedThen z st s k
       unfolding usedThen payer Model.charged
-      used-is q = ap (λ (m : ℕ). set us (at ac s) (at us (at ac s) - m)) (q ∙ charges-are)
+      used-is q = ap (λ (m : ℕ). set us (whoPays ac ls ps s) (at us (whoPays ac ls ps s) - m)) (q ∙ charges-are)
 
       pub cut-off : {m : ℕ} {gs : List Frame} {fq' rl' ds' ss' us' : List ℕ} {x : Framed} → length fs ≡ 64 → m ≡ chargesFrom (z .frames) (z .pages) s k fs ds ss
-          → us' ≡ set us (at ac s) (at us (at ac s) - m) → fq' ≡ packed (length fq) (members fq ++ cutFrames (z .frames) (z .pages) s k fs (z .pages))
+          → us' ≡ set us (whoPays ac ls ps s) (at us (whoPays ac ls ps s) - m) → fq' ≡ packed (length fq) (members fq ++ cutFrames (z .frames) (z .pages) s k fs (z .pages))
           → rl' ≡ packed (length rl) (without (λ f. test (cutFrame (z .pages) s k (z .pages) (frameAt fs f))) (members rl))
           → ss' ≡ store ss (λ r. some (allPages z) λ i. fromPage z s k i and same (at ds i) (suc r)) (λ r. RELEASED) → ds' ≡ store ds (fromPage z s k) (λ i. 0)
           → (length gs ≡ length fs) × ((f : ℕ) → f < z .frames → Split (Holds (cutFrame (z .pages) s k (z .pages) (frameAt fs f))) (frameAt gs f) noFrame (frameAt fs f))

@@ -22,16 +22,17 @@ use Rattle.model.specs.Questions.{questions}
 use Rattle.model.specs.Writeback.{look, looking, beginsWrite}
 use Rattle.model.specs.Step.{outcome}
 use Rattle.model.specs.Own.{own}
-use Rattle.model.specs.Setters.{onDisk, onCore, onHeld, setAccounts, setFrames, setWords, setFreeQueue, setRemovalList, setAddresses, setStates, setUsed}
+use Rattle.model.specs.Setters.{onDisk, onCore, onHeld, setAccounts, setLimits, setParents, setFrames, setWords, setFreeQueue, setRemovalList, setAddresses, setStates, setUsed}
 use Rattle.model.specs.Lent.{Ref, Table, noState}
+use Rattle.leaves.specs.Payers.{whoPays}
 
 abbrev pub claim : Event
 claim = Event.Writeback Claim
 
 -- the tables that claim reads; no definition of it looks at the others
-abbrev pub seen : Sizes → List Frame → List ℕ → List ℕ → List ℕ → List ℕ → List ℕ → List ℕ → List ℕ → State
-seen z fs accounts words free-queue removal-list addresses states used =
-    onDisk (setAccounts accounts)
+abbrev pub seen : Sizes → List Frame → List ℕ → List ℕ → List ℕ → List ℕ → List ℕ → List ℕ → List ℕ → List ℕ → List ℕ → State
+seen z fs accounts limits parents words free-queue removal-list addresses states used =
+    onDisk (λ d. setAccounts accounts (setLimits limits (setParents parents d)))
     (onCore (λ c. setFrames (take (z .frames) fs) (setWords words (setFreeQueue free-queue (setRemovalList removal-list c))))
     (onHeld (λ h. setAddresses addresses (setStates states h)) (setUsed used noState)))
 
@@ -56,16 +57,16 @@ pub record LooksLeft (fs : List Frame) (list : List ℕ) (kept : List Frame) (lo
   pub taken-some : 0 < size list'
 
 -- a frame in the list: its page's record, who pays for it if it is modified, and room for it in the free queue
-pub record Claimable (z : Sizes) (page modified : ℕ) (accounts free-queue addresses states used : List ℕ) : Type 0 where
+pub record Claimable (z : Sizes) (page modified : ℕ) (accounts limits parents free-queue addresses states used : List ℕ) : Type 0 where
   pub item : ℕ
   pub named : 0 < page
   pub holds : at addresses (pred page) ≡ suc item
   pub inside : item < length states
   pub moves : (at states item ≡ NULLED) ⊎ (at states item ≡ LIVE)
   pub room : size free-queue < z .frames
-  pub pays : modified ≡ 1 → 0 < at used (at accounts (slotOf z (pred page)))
+  pub pays : modified ≡ 1 → 0 < at used (whoPays accounts limits parents (slotOf z (pred page)))
 
-pub record ClaimReady (z : Sizes) (fs : List Frame) (accounts words free-queue removal-list addresses states used : List ℕ) : Type 0 where
+pub record ClaimReady (z : Sizes) (fs : List Frame) (accounts limits parents words free-queue removal-list addresses states used : List ℕ) : Type 0 where
   pub most : z .frames < 65
   pub pages-some : 0 < z .pages
   pub words-long : length words ≡ z .frames * z .words
@@ -73,7 +74,7 @@ pub record ClaimReady (z : Sizes) (fs : List Frame) (accounts words free-queue r
   pub list-long : length removal-list ≡ z .frames
   pub queued : Holds (queue (z .frames) free-queue)
   pub listed : Holds (queue (z .frames) removal-list)
-  pub held : (f : ℕ) → f < z .frames → 0 < times (members removal-list) f → Claimable z (frameAt fs f .page) (frameAt fs f .modified) accounts free-queue addresses states used
+  pub held : (f : ℕ) → f < z .frames → 0 < times (members removal-list) f → Claimable z (frameAt fs f .page) (frameAt fs f .modified) accounts limits parents free-queue addresses states used
 
 -- the answer and every table that claim changes, by the outcome
 pub record ClaimLeft (z : Sizes) (st : State) (fs : List Frame) (a : Answer) (fq rl ss us : List ℕ) : Type 0 where
@@ -85,12 +86,12 @@ pub record ClaimLeft (z : Sizes) (st : State) (fs : List Frame) (a : Answer) (fq
   pub used : us ≡ outcome (firstNo (questions z st claim)) 0 (st .memory .used) (usedThen z st) .left
 
 -- ── by bare names: what the contract says ──
-abbrev pub Given : Sizes → List Frame → Ref → Ref → Ref → Ref → Ref → Ref → Ref → Type 0
-Given z fs accounts words free-queue removal-list addresses states used =
-    ClaimReady z (take (z .frames) fs) (accounts .now) (words .now) (free-queue .now) (removal-list .now) (addresses .now) (states .now) (used .now)
+abbrev pub Given : Sizes → List Frame → Ref → Ref → Ref → Ref → Ref → Ref → Ref → Ref → Ref → Type 0
+Given z fs accounts limits parents words free-queue removal-list addresses states used =
+    ClaimReady z (take (z .frames) fs) (accounts .now) (limits .now) (parents .now) (words .now) (free-queue .now) (removal-list .now) (addresses .now) (states .now) (used .now)
 
-abbrev pub Left : Sizes → List Frame → Table → Table → Table → Table → Table → Table → Table → Framed → Type 0
-Left z fs accounts words free-queue removal-list addresses states used r =
+abbrev pub Left : Sizes → List Frame → Table → Table → Table → Table → Table → Table → Table → Table → Table → Framed → Type 0
+Left z fs accounts limits parents words free-queue removal-list addresses states used r =
     ClaimLeft z
-    (seen z fs (accounts .entry .now) (words .entry .now) (free-queue .entry .now) (removal-list .entry .now) (addresses .entry .now) (states .entry .now) (used .entry .now))
+    (seen z fs (accounts .entry .now) (limits .entry .now) (parents .entry .now) (words .entry .now) (free-queue .entry .now) (removal-list .entry .now) (addresses .entry .now) (states .entry .now) (used .entry .now))
     (r .frames) (r .answer) (free-queue .exit .now) (removal-list .exit .now) (states .exit .now) (used .exit .now)

@@ -21,7 +21,7 @@ mapDone s good = Event.Writeback (MapDone s good)
 -- the tables that map done reads; no definition of it looks at the others
 abbrev pub seen : Pool → List ℕ → List ℕ → List ℕ → List ℕ → List ℕ → List ℕ → List ℕ → List ℕ → State
 seen pool numbers maps states owners free-map active updating images =
-    stateOf [] pool [] numbers [] maps [] [] [] [] [] states owners free-map active updating images []
+    stateOf [] pool [] numbers [] maps [] [] [] [] [] [] states owners free-map active updating images []
 
 -- .. and its questions
 abbrev pub asked : List ℕ → List ℕ → List ℕ → State

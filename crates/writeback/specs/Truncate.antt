@@ -23,8 +23,9 @@ use Rattle.model.specs.Rules.{once}
 use Rattle.model.specs.Questions.{questions}
 use Rattle.model.specs.Step.{outcome}
 use Rattle.model.specs.Own.{own}
-use Rattle.model.specs.Setters.{onDisk, onCore, onHeld, onSlots, setNumbers, setAccounts, setFrames, setFreeQueue, setRemovalList, setAddresses, setStates, setActive, setUsed}
+use Rattle.model.specs.Setters.{onDisk, onCore, onHeld, onSlots, setNumbers, setAccounts, setLimits, setParents, setFrames, setFreeQueue, setRemovalList, setAddresses, setStates, setActive, setUsed}
 use Rattle.model.specs.Lent.{Ref, Table, noState}
+use Rattle.leaves.specs.Payers.{whoPays}
 use Rattle.leaves.specs.FrameLaws.{frameIn, isStill, isUnwired}
 use Rattle.writeback.specs.Pages.{framed}
 use Rattle.writeback.specs.Pages
@@ -79,9 +80,9 @@ FramesLeft n pages s k fs free-queue removal-list =
     × (removal-list .exit .now ≡ packed (length (removal-list .entry .now)) (without (λ f. test (cutFrame pages s k pages (frameAt fs f))) (members (removal-list .entry .now))))
 
 -- the tables that truncate reads; no definition of it looks at the others
-abbrev pub seen : Sizes → List Frame → List ℕ → List ℕ → List ℕ → List ℕ → List ℕ → List ℕ → List ℕ → List ℕ → State
-seen z fs numbers accounts free-queue removal-list addresses states active used =
-    onDisk (λ d. setNumbers numbers (setAccounts accounts d))
+abbrev pub seen : Sizes → List Frame → List ℕ → List ℕ → List ℕ → List ℕ → List ℕ → List ℕ → List ℕ → List ℕ → List ℕ → List ℕ → State
+seen z fs numbers accounts limits parents free-queue removal-list addresses states active used =
+    onDisk (λ d. setNumbers numbers (setAccounts accounts (setLimits limits (setParents parents d))))
     (onCore (λ c. setFrames (take (z .frames) fs) (setFreeQueue free-queue (setRemovalList removal-list c)))
     (onHeld (λ h. setAddresses addresses (setStates states h)) (onSlots (setActive active) (setUsed used noState))))
 
@@ -95,7 +96,7 @@ usedThen z st s k =
     let q = payer (files st) s in let u = st .memory .used in
     set u q (at u q - count (z .pages) (λ p. leb k p && test (charged z (files st) (frames st) (pageOf z s p))))
 
-pub record TruncateReady (z : Sizes) (fs : List Frame) (accounts free-queue removal-list addresses states used : List ℕ) : Type 0 where
+pub record TruncateReady (z : Sizes) (fs : List Frame) (accounts limits parents free-queue removal-list addresses states used : List ℕ) : Type 0 where
   pub most : z .frames < 65
   pub pages-some : 0 < z .pages
   pub pages-most : z .pages < 257
@@ -111,7 +112,7 @@ pub record TruncateReady (z : Sizes) (fs : List Frame) (accounts free-queue remo
   pub framed-once : (f g : ℕ) → f < z .frames → g < z .frames → 0 < frameAt fs f .page → frameAt fs g .page ≡ frameAt fs f .page → f ≡ g
   pub held-once : Holds (once (allPages z) (at addresses))
   pub along : (i r : ℕ) → i < allPages z → at addresses i ≡ suc r → (r < length states) × T (allowed (at states r) RELEASED)
-  pub pays : (s k : ℕ) → s < z .slots → chargesFrom (z .frames) (z .pages) s k fs addresses states ≤ at used (at accounts s)
+  pub pays : (s k : ℕ) → s < z .slots → chargesFrom (z .frames) (z .pages) s k fs addresses states ≤ at used (whoPays accounts limits parents s)
 
 -- the answer and every table that truncate changes, by the outcome
 pub record TruncateLeft (z : Sizes) (st : State) (s k : ℕ) (fs : List Frame) (a : Answer) (fq rl ds ss us : List ℕ) : Type 0 where
@@ -124,12 +125,12 @@ pub record TruncateLeft (z : Sizes) (st : State) (s k : ℕ) (fs : List Frame) (
   pub used : us ≡ outcome (firstNo (questions z st (truncate s k))) 0 (st .memory .used) (usedThen z st s k) .left
 
 -- ── by bare names: what the contract says ──
-abbrev pub Given : Sizes → List Frame → Ref → Ref → Ref → Ref → Ref → Ref → Type 0
-Given z fs accounts free-queue removal-list addresses states used =
-    TruncateReady z (take (z .frames) fs) (accounts .now) (free-queue .now) (removal-list .now) (addresses .now) (states .now) (used .now)
+abbrev pub Given : Sizes → List Frame → Ref → Ref → Ref → Ref → Ref → Ref → Ref → Ref → Type 0
+Given z fs accounts limits parents free-queue removal-list addresses states used =
+    TruncateReady z (take (z .frames) fs) (accounts .now) (limits .now) (parents .now) (free-queue .now) (removal-list .now) (addresses .now) (states .now) (used .now)
 
-abbrev pub Left : Sizes → ℕ → ℕ → List Frame → Table → Table → Table → Table → Table → Table → Table → Table → Framed → Type 0
-Left z s k fs numbers accounts free-queue removal-list addresses states active used r =
+abbrev pub Left : Sizes → ℕ → ℕ → List Frame → Table → Table → Table → Table → Table → Table → Table → Table → Table → Table → Framed → Type 0
+Left z s k fs numbers accounts limits parents free-queue removal-list addresses states active used r =
     TruncateLeft z
-    (seen z fs (numbers .entry .now) (accounts .entry .now) (free-queue .entry .now) (removal-list .entry .now) (addresses .entry .now) (states .entry .now) (active .entry .now) (used .entry .now))
+    (seen z fs (numbers .entry .now) (accounts .entry .now) (limits .entry .now) (parents .entry .now) (free-queue .entry .now) (removal-list .entry .now) (addresses .entry .now) (states .entry .now) (active .entry .now) (used .entry .now))
     s k (r .frames) (r .answer) (free-queue .exit .now) (removal-list .exit .now) (addresses .exit .now) (states .exit .now) (used .exit .now)

@@ -8,6 +8,7 @@ ghost use lib.ListN.{length, set};
 ghost use Rattle.tables.specs.Base.{at, all, if};
 ghost use Rattle.tables.specs.Queue.{queue, size};
 ghost use Rattle.tables.specs.Rule.{Holds};
+ghost use Rattle.leaves.specs.Payers.{whoPays};
 ghost use Rattle.model.specs.Lines.{NULLED, LIVE};
 ghost use Rattle.model.specs.Writeback.{warm};
 ghost use Rattle.writeback.specs.Claim.{LooksLeft, Given, Left};
@@ -96,13 +97,20 @@ fn make_nulled(states: &mut [u8], r: usize, modified: u8)
     }
 }
 
-// One charge less for the slot's account where the frame was modified.
-fn uncharge_modified(used: &mut [u16], modified: u8, accounts: &[u16], slot: usize)
-    requires { ⌜ (modified ≡ 1 → 0 < at (now used) (at (now accounts) slot)) ⌝ }
-    ensures { λ _. ⌜ now (used .exit) ≡ if (eqb modified 1) (set (now (used .entry)) (at (now (accounts .entry)) slot) (at (now (used .entry)) (at (now (accounts .entry)) slot) - 1)) (now (used .entry)) ⌝ }
+// One charge less for who pays for the slot where the frame was modified.
+fn uncharge_modified(
+    used: &mut [u16],
+    modified: u8,
+    accounts: &[u16],
+    limits: &[u16],
+    parents: &[u16],
+    slot: usize,
+)
+    requires { ⌜ (modified ≡ 1 → 0 < at (now used) (whoPays (now accounts) (now limits) (now parents) slot)) ⌝ }
+    ensures { λ _. ⌜ now (used .exit) ≡ if (eqb modified 1) (set (now (used .entry)) (whoPays (now (accounts .entry)) (now (limits .entry)) (now (parents .entry)) slot) (at (now (used .entry)) (whoPays (now (accounts .entry)) (now (limits .entry)) (now (parents .entry)) slot) - 1)) (now (used .entry)) ⌝ }
 {
     if modified == 1 {
-        uncharge(used, accounts, slot, 1);
+        uncharge(used, accounts, limits, parents, slot, 1);
     }
 }
 
@@ -110,6 +118,8 @@ pub fn claim(
     sizes: Sizes,
     frames: [Frame; 64],
     accounts: &[u16],
+    limits: &[u16],
+    parents: &[u16],
     words: &[u32],
     free_queue: &mut [u16],
     removal_list: &mut [u16],
@@ -117,8 +127,8 @@ pub fn claim(
     states: &mut [u8],
     used: &mut [u16],
 ) -> Framed
-    requires { ⌜ Given sizes frames accounts words «free_queue» «removal_list» addresses states used ⌝ }
-    ensures { λ r. ⌜ Left sizes frames accounts words «free_queue» «removal_list» addresses states used r ⌝ }
+    requires { ⌜ Given sizes frames accounts limits parents words «free_queue» «removal_list» addresses states used ⌝ }
+    ensures { λ r. ⌜ Left sizes frames accounts limits parents words «free_queue» «removal_list» addresses states used r ⌝ }
 {
     if at16(removal_list, 0) == 0 {
         return answered(frames, NOTHING_TO_CLAIM, 0);
@@ -137,7 +147,14 @@ pub fn claim(
     }
     let r = record_of(addresses, old.page);
     make_nulled(states, r, old.modified);
-    uncharge_modified(used, old.modified, accounts, named(old.page) / sizes.pages);
+    uncharge_modified(
+        used,
+        old.modified,
+        accounts,
+        limits,
+        parents,
+        named(old.page) / sizes.pages,
+    );
     push_back(free_queue, f);
     answered(with_frame(kept, f, no_frame()), 0, looked.looks)
 }

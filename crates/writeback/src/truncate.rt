@@ -193,6 +193,8 @@ pub fn truncate(
     frames: [Frame; 64],
     numbers: &[u32],
     accounts: &[u16],
+    limits: &[u16],
+    parents: &[u16],
     free_queue: &mut [u16],
     removal_list: &mut [u16],
     addresses: &mut [u16],
@@ -200,8 +202,8 @@ pub fn truncate(
     active: &[u8],
     used: &mut [u16],
 ) -> Framed
-    requires { ⌜ Given sizes frames accounts «free_queue» «removal_list» addresses states used ⌝ }
-    ensures { λ r. ⌜ Left sizes slot k frames numbers accounts «free_queue» «removal_list» addresses states active used r ⌝ }
+    requires { ⌜ Given sizes frames accounts limits parents «free_queue» «removal_list» addresses states used ⌝ }
+    ensures { λ r. ⌜ Left sizes slot k frames numbers accounts limits parents «free_queue» «removal_list» addresses states active used r ⌝ }
 {
     let refusal = ask_truncate(sizes, slot, k, frames, numbers, active);
     if refusal != 0 {
@@ -210,7 +212,7 @@ pub fn truncate(
     let count = sizes.frames;
     let pages = sizes.pages;
     let n = charges(count, pages, slot, k, frames, addresses, states);
-    uncharge(used, accounts, slot, n);
+    uncharge(used, accounts, limits, parents, slot, n);
     free_frames(count, pages, slot, k, frames, free_queue, removal_list);
     release_from(sizes, states, addresses, slot, k);
     clear_from(addresses, pages, slot, k);

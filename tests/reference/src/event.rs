@@ -1,6 +1,6 @@
 //! Requests as numbers, the events they ask for, and answers.
 
-/// kind: the event program's tag, or the library's own, 18 join and 19 turn; then the event's values in that program's order.
+/// kind: the event program's tag, or from 17 on the library's own; then the event's values in order.
 #[repr(C)]
 #[derive(Clone, Copy, Debug, Default, PartialEq, Eq)]
 pub struct Request {
@@ -68,6 +68,7 @@ pub enum Event {
     PageDone { frame: usize, good: usize },
     MapDone { slot: usize, good: usize },
     Limit { account: usize, pages: usize },
+    Move { giver: usize, taker: usize, pages: usize },
     Join { slot: usize, page: usize },
     Turn,
     Look { slot: usize, page: usize },
@@ -95,6 +96,7 @@ impl Event {
             0x0D => Event::PageDone { frame: first, good: second },
             0x0E => Event::MapDone { slot, good: second },
             0x0F => Event::Limit { account: first, pages: second },
+            17 => Event::Move { giver: first, taker: second, pages: third },
             18 => Event::Join { slot, page },
             19 => Event::Turn,
             _ => return None,
@@ -118,7 +120,7 @@ impl Event {
             | Event::MapDone { slot, .. }
             | Event::Join { slot, .. }
             | Event::Look { slot, .. } => Some(slot),
-            Event::Claim | Event::PageDone { .. } | Event::Limit { .. } | Event::Turn => None,
+            Event::Claim | Event::PageDone { .. } | Event::Limit { .. } | Event::Move { .. } | Event::Turn => None,
         }
     }
 }

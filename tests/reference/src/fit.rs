@@ -9,6 +9,7 @@ pub fn disk_fits(sizes: &Sizes, disk: &Disk) -> bool {
         && disk.accounts.len() == sizes.slots
         && disk.maps.len() == sizes.all_pages()
         && disk.limits.len() == sizes.accounts
+        && disk.parents.len() == sizes.accounts
 }
 
 pub fn memory_fits(sizes: &Sizes, memory: &Memory) -> bool {

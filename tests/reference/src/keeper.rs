@@ -2,7 +2,7 @@
 
 use crate::event::{Answer, Event, Part, Request};
 use crate::tables::{Disk, Memory, Sizes, LIVE};
-use crate::{events, fit, questions, restart, rules};
+use crate::{accounts, events, fit, questions, restart, rules};
 use std::ops::Range;
 
 /// Everything that a caller lends.
@@ -19,12 +19,16 @@ impl Keeper {
         Keeper { sizes, disk: Disk::zeros(&sizes), memory: Memory::zeros(&sizes) }
     }
 
-    /// Zeroes the disk part. Memory is not lent to it.
-    pub fn format(&mut self) -> Answer {
-        if !fit::disk_fits(&self.sizes, &self.disk) {
+    /// Zeroes the disk part and stores the wanted parents, account 0's always as 0. Memory is not lent to it.
+    pub fn format(&mut self, wanted: &[u16]) -> Answer {
+        if !fit::disk_fits(&self.sizes, &self.disk) || wanted.len() != self.sizes.accounts {
             return Answer::refused(1);
         }
+        if !rules::disk::lower(wanted) {
+            return Answer::refused(3);
+        }
         self.disk = Disk::zeros(&self.sizes);
+        self.disk.parents[1..].copy_from_slice(&wanted[1..]);
         Answer::done(0)
     }
 
@@ -119,6 +123,12 @@ impl Keeper {
     pub fn charged(&self, page: usize) -> bool {
         let woven = self.frame_of(page).is_some_and(|frame| self.memory.frames[frame].modified == 1);
         woven || self.holds(page, LIVE)
+    }
+
+    /// The account that pays for a slot's pages.
+    pub fn payer(&self, slot: usize) -> usize {
+        let Disk { accounts, limits, parents, .. } = &self.disk;
+        accounts::payer(parents, limits, accounts[slot] as usize)
     }
 
     pub fn words_of_frame(&self, frame: usize) -> Range<usize> {

@@ -1,6 +1,7 @@
 //! The page keeper of paper 01 written plainly, from the paper alone, to compare the proved keeper with.
 //! It shares no code with it: only the layout of the lent tables is the same.
 
+pub mod accounts; // who pays, and for what
 pub mod bench; // the lists that speed is measured over, and the measuring
 pub mod drive; // random lists of events, and what must hold along them
 pub mod event; // requests as numbers, and their events
@@ -10,7 +11,7 @@ pub mod keeper; // the public calls
 pub mod linked; // keepers that are linked in, to drive beside this one
 pub mod mend; // a pack that restart turns away, mended
 pub mod program; // the event program
-pub mod questions; // questions 3 to 22 and 27
+pub mod questions; // questions 3 to 27
 pub mod queue; // the free queue, the removal list and the waiting line
 pub mod restart; // memory built anew from the disk part
 pub mod rules; // question 2

@@ -59,7 +59,7 @@ fn cut(keeper: &mut Keeper) -> Answer {
 pub fn run(input: &[u8]) -> String {
     let mut output = String::from("n tag answer result\n");
     let mut keeper = Keeper::lent(SIZES);
-    keeper.format();
+    keeper.format(&[0; SIZES.accounts]);
     keeper.restart();
     let (mut at, mut count) = (0, 0);
     while at < input.len() {

@@ -1,15 +1,17 @@
-//! Questions 3 to 22 and 27, asked in number order; each says yes to the events that it does not concern.
+//! Questions 3 to 27, asked in number order; each says yes to the events that it does not concern.
 
+use crate::accounts;
 use crate::event::Event;
 use crate::events::line::{treatment, Treatment};
 use crate::keeper::Keeper;
 use crate::queue;
+use crate::rules::View;
 use crate::tables::{LINE, LIVE, NO_TRANSFER, NULLED, READING, RELEASED};
 use std::ops::Range;
 
 type Question = fn(&Keeper, Event) -> bool;
 
-const ASKED: [(u32, Question); 21] = [
+const ASKED: [(u32, Question); 23] = [
     (3, in_range),
     (4, slot_filled),
     (5, slot_empty),
@@ -30,6 +32,8 @@ const ASKED: [(u32, Question); 21] = [
     (20, frame_free),
     (21, list_not_empty),
     (22, under_way),
+    (25, can_move),
+    (26, within_limits),
     (27, room_in_line),
 ];
 
@@ -46,6 +50,7 @@ fn in_range(keeper: &Keeper, event: Event) -> bool {
         && match event {
             Event::Create { account, number, .. } => account < sizes.accounts && number > 0,
             Event::Limit { account, pages } => account < sizes.accounts && pages <= 65_535,
+            Event::Move { giver, taker, .. } => giver < sizes.accounts && taker < sizes.accounts,
             Event::Read { page, word, .. } | Event::Write { page, word, .. } => {
                 page < sizes.pages && word < sizes.words
             }
@@ -193,8 +198,8 @@ fn wired(keeper: &Keeper, event: Event) -> bool {
 fn below_limit(keeper: &Keeper, event: Event) -> bool {
     match event {
         Event::Write { slot, page, .. } if !keeper.charged(keeper.flat(slot, page)) => {
-            let account = keeper.disk.accounts[slot] as usize;
-            keeper.memory.used[account] < keeper.disk.limits[account]
+            let payer = keeper.payer(slot);
+            keeper.memory.used[payer] < keeper.disk.limits[payer]
         }
         _ => true,
     }
@@ -232,6 +237,30 @@ fn under_way(keeper: &Keeper, event: Event) -> bool {
         Event::MapDone { slot, .. } => keeper.memory.updating[slot] == 1,
         _ => true,
     }
+}
+
+/// The two are parent and child, m is above 0, the giver has m, and the taker stays at 65,535 or below.
+fn can_move(keeper: &Keeper, event: Event) -> bool {
+    let Event::Move { giver, taker, pages } = event else {
+        return true;
+    };
+    let limit = |account: usize| keeper.disk.limits[account] as usize;
+    let kin = accounts::kin(&keeper.disk.parents, giver, taker);
+    kin && pages > 0 && limit(giver) >= pages && limit(taker) + pages <= 65_535
+}
+
+/// Each account whose limit or used count the move changes has used at most its limit afterwards.
+fn within_limits(keeper: &Keeper, event: Event) -> bool {
+    let Event::Move { giver, taker, pages } = event else {
+        return true;
+    };
+    let (limits, used) = (&keeper.disk.limits, &keeper.memory.used);
+    let after = accounts::moved(limits, giver, taker, pages);
+    let counts = accounts::counts(&View::of(keeper), &after);
+    (0..keeper.sizes.accounts).all(|account| {
+        let same = after[account] == limits[account] && counts[account] == used[account];
+        same || counts[account] <= after[account]
+    })
 }
 
 fn room_in_line(keeper: &Keeper, event: Event) -> bool {

@@ -1,5 +1,6 @@
 //! Memory as restart leaves it, from the disk part alone.
 
+use crate::accounts::payer;
 use crate::tables::{Disk, Memory, Pool, Sizes, FILED, FREE};
 
 pub fn memory(sizes: &Sizes, disk: &Disk) -> Memory {
@@ -12,7 +13,7 @@ pub fn memory(sizes: &Sizes, disk: &Disk) -> Memory {
             let slot = page / sizes.pages;
             memory.states[entry as usize - 1] = FILED;
             memory.owners[entry as usize - 1] = slot as u8;
-            memory.used[disk.accounts[slot] as usize] += 1;
+            memory.used[payer(&disk.parents, &disk.limits, disk.accounts[slot] as usize)] += 1;
         }
     }
     let mut pool = Pool::default();

@@ -78,6 +78,7 @@ pub struct Disk {
     pub accounts: Vec<u16>,
     pub maps: Vec<u16>,
     pub limits: Vec<u16>,
+    pub parents: Vec<u16>,
 }
 
 /// Queues hold frame + 1, packed at the front; addresses and images hold record + 1, or 0; the line holds flat page numbers + 1.
@@ -108,6 +109,7 @@ impl Disk {
             accounts: vec![0; sizes.slots],
             maps: vec![0; sizes.all_pages()],
             limits: vec![0; sizes.accounts],
+            parents: vec![0; sizes.accounts],
         }
     }
 }

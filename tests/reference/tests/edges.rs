@@ -8,7 +8,7 @@ use reference::tables::{Sizes, FREE, LEAVING, LIVE, NULLED, RELEASED};
 /// A formatted and restarted keeper of the event program's sizes, but for what is given.
 fn fresh(sizes: Sizes) -> Keeper {
     let mut keeper = Keeper::lent(sizes);
-    assert_eq!(keeper.format(), Answer::done(0));
+    assert_eq!(keeper.format(&vec![0; sizes.accounts]), Answer::done(0));
     assert_eq!(keeper.restart(), Answer::done(0));
     keeper
 }
@@ -79,7 +79,7 @@ fn state_of(keeper: &Keeper, page: usize) -> u8 {
 fn edge_1_records_within_limits() {
     for (records, refusal) in [(0, 1), (1, 0), (4096, 0), (4097, 1)] {
         let mut keeper = Keeper::lent(Sizes { records, ..SIZES });
-        assert_eq!(keeper.format(), Answer::refused(refusal));
+        assert_eq!(keeper.format(&[0]), Answer::refused(refusal));
         assert_eq!(keeper.restart(), Answer::refused(refusal));
         assert_eq!(ask(&mut keeper, 0x0F, &[0, 1]), Answer::refused(refusal));
         assert_eq!(keeper.page_look(0, 0).refusal, if refusal == 1 { 1 } else { 4 });

@@ -54,25 +54,29 @@ fn count(answer: Answer) -> usize {
 
 #[test]
 fn mended_alike() {
-    let (mut reasons, mut sound) = ([0u64; 6], 0);
+    let (mut reasons, mut sound, mut beyond) = ([0u64; 6], 0, 0);
     for seed in 0..PACKS {
         let (sizes, disk) = pack(seed);
         let room = places(&sizes) + (seed % 3) as usize;
         let (answer, after, list) = mended(&sizes, &disk, room, seed);
         let changes = count(answer);
-        // a sound pack is unchanged; a mended one passes, and mending it again changes nothing
+        // a sound pack is unchanged; a mended one passes, but for parents that are not lower; mending it again changes nothing
         let kept = rules::disk::kept(&sizes, &disk);
         assert!(!kept || changes == 0, "pack {seed}");
         assert_eq!(changes == 0, after == disk, "pack {seed}");
-        assert!(rules::disk::kept(&sizes, &after), "pack {seed}");
+        assert_eq!((&after.parents, &after.limits), (&disk.parents, &disk.limits), "pack {seed}");
+        let lower = rules::disk::lower(&disk.parents);
+        let broken: &[&str] = if lower { &[] } else { &["a parent is a lower account"] };
+        assert_eq!(rules::disk::broken(&sizes, &after), broken, "pack {seed}");
+        beyond += !lower as u64;
         let (answer, again, _) = mended(&sizes, &after, room, seed);
         assert_eq!((count(answer), again), (0, after), "pack {seed}");
         assert!(list[changes..].iter().all(|&place| place == UNTOUCHED), "pack {seed}");
         list[..changes].iter().for_each(|change| reasons[change.reason as usize] += 1);
         sound += kept as u64;
     }
-    println!("{PACKS} packs, {sound} of them sound; changes by reason {:?}", &reasons[1..]);
-    assert!(sound > PACKS / 10 && reasons[1..].iter().all(|&changes| changes > PACKS / 10));
+    println!("{PACKS} packs, {sound} of them sound, {beyond} with a wrong parent; changes by reason {:?}", &reasons[1..]);
+    assert!(sound > PACKS / 10 && beyond > PACKS / 50 && reasons[1..].iter().all(|&changes| changes > PACKS / 10));
 }
 
 #[test]
@@ -83,12 +87,13 @@ fn refusals() {
         assert_eq!(mended(&sizes, &disk, short, seed), (Answer::refused(24), disk.clone(), vec![UNTOUCHED; short]));
         // 1 is asked before 24
         let mut other = disk.clone();
-        match seed % 5 {
+        match seed % 6 {
             0 => other.records.push(0),
             1 => other.numbers.push(0),
             2 => other.accounts.push(0),
             3 => other.maps.push(0),
-            _ => other.limits.push(0),
+            4 => other.limits.push(0),
+            _ => other.parents.push(0),
         }
         assert_eq!(mended(&sizes, &other, short, seed), (Answer::refused(1), other.clone(), vec![UNTOUCHED; short]));
         let none = Sizes { records: 0, ..sizes };

@@ -13,6 +13,7 @@ fn lists_keep_the_promises() {
     assert!(!counts.taken.rare(), "records taken near another, out of order, of two equally near: {:?}", counts.taken);
     assert!(!counts.written.rare(), "reads and looks of pages being written, failed writes of pages read: {:?}", counts.written);
     assert!(!counts.batches.rare(), "lists in one call: {:?}", counts.batches);
+    assert!(!counts.moves.rarer_than(20), "limits, moves and who pays: {:?}", counts.moves);
     assert!(!counts.turns.rare(), "turns: {:?}", counts.turns);
     assert!(!counts.bound.rare(), "runs to the bound on waiting: {:?}", counts.bound);
     let rules = rules::disk::DISK.iter().map(|rule| rule.0).chain(rules::MEMORY.iter().map(|rule| rule.0));

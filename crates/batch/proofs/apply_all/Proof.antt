@@ -23,7 +23,7 @@ use Rattle.batch.proofs.apply_all.Tie as tie
 abbrev at : tie.Start → List Frame → State
 at s l =
     let a = s .args in
-    allGiven l (a .pool) (a .records) (a .numbers) (a .accounts) (a .maps) (a .limits)
+    allGiven l (a .pool) (a .records) (a .numbers) (a .accounts) (a .maps) (a .limits) (a .parents)
     (a .frame-words) (a .free-queue) (a .removal-list) (a .addresses) (a .states) (a .owners) (a .free-map) (a .active) (a .updating) (a .images) (a .line) (a .used)
 
 abbrev lent : tie.Start → State
@@ -120,7 +120,6 @@ apply-all-spec =
     (λ c. worked c .in-turn .kept .1 .1 .1 .1 .1 .1 .1 .1 .0)
     (λ c. worked c .in-turn .kept .1 .1 .1 .1 .1 .1 .1 .1 .1 .0)
     (λ c. worked c .in-turn .kept .1 .1 .1 .1 .1 .1 .1 .1 .1 .1 .0)
-    (λ c. worked c .in-turn .kept .1 .1 .1 .1 .1 .1 .1 .1 .1 .1 .1 .0)
     (λ c. worked c .in-turn .kept .1 .1 .1 .1 .1 .1 .1 .1 .1 .1 .1 .1 .0)
     (λ c. worked c .in-turn .kept .1 .1 .1 .1 .1 .1 .1 .1 .1 .1 .1 .1 .1 .0)
     (λ c. worked c .in-turn .kept .1 .1 .1 .1 .1 .1 .1 .1 .1 .1 .1 .1 .1 .1 .0)
@@ -132,4 +131,5 @@ apply-all-spec =
     (λ c. worked c .in-turn .kept .1 .1 .1 .1 .1 .1 .1 .1 .1 .1 .1 .1 .1 .1 .1 .1 .1 .1 .1 .1 .0)
     (λ c. worked c .in-turn .kept .1 .1 .1 .1 .1 .1 .1 .1 .1 .1 .1 .1 .1 .1 .1 .1 .1 .1 .1 .1 .1 .0)
     (λ c. worked c .in-turn .kept .1 .1 .1 .1 .1 .1 .1 .1 .1 .1 .1 .1 .1 .1 .1 .1 .1 .1 .1 .1 .1 .1 .0)
+    (λ c. worked c .in-turn .kept .1 .1 .1 .1 .1 .1 .1 .1 .1 .1 .1 .1 .1 .1 .1 .1 .1 .1 .1 .1 .1 .1 .1 .0)
     returns-2)

@@ -8,16 +8,16 @@ use Rattle.batch.proofs.Together.{Turned, turned-none, turned-next, tur
 use Rattle.batch.proofs.in_turn.Statement.{statement}
 use Rattle.batch.proofs.in_turn.Tie as tie
 
--- the tables, in the order in which they are lent: a to u
+-- the tables, in the order in which they are lent: a to u, and the parents p, which stay
 abbrev Inv-loop : tie.InvT-loop
-Inv-loop z n requests answers₀ a₀ b₀ c₀ d₀ e₀ f₀ g₀ h₀ i₀ j₀ k₀ l₀ m₀ o₀ q₀ r₀ u₀ held₀ t₀
+Inv-loop z n requests answers₀ a₀ b₀ c₀ d₀ e₀ p f₀ g₀ h₀ i₀ j₀ k₀ l₀ m₀ o₀ q₀ r₀ u₀ held₀ t₀
     answers a b c d e f g h i j k l m o q r u held t =
     (t ≤ n) × Turned z requests answers₀
-    (allOf (take (z .frames) (held₀ .frames)) (held₀ .pool) a₀ b₀ c₀ d₀ e₀ f₀ g₀ h₀ i₀ j₀ k₀ l₀ m₀ o₀ q₀ r₀ u₀) t (held .answer) answers
-    (allOf (take (z .frames) (held .frames)) (held .pool) a b c d e f g h i j k l m o q r u)
+    (allOf (take (z .frames) (held₀ .frames)) (held₀ .pool) a₀ b₀ c₀ d₀ e₀ p f₀ g₀ h₀ i₀ j₀ k₀ l₀ m₀ o₀ q₀ r₀ u₀) t (held .answer) answers
+    (allOf (take (z .frames) (held .frames)) (held .pool) a b c d e p f g h i j k l m o q r u)
 
 abbrev μ-loop : tie.MeasureT-loop
-μ-loop z n requests answers₀ a₀ b₀ c₀ d₀ e₀ f₀ g₀ h₀ i₀ j₀ k₀ l₀ m₀ o₀ q₀ r₀ u₀ held₀ t₀
+μ-loop z n requests answers₀ a₀ b₀ c₀ d₀ e₀ p f₀ g₀ h₀ i₀ j₀ k₀ l₀ m₀ o₀ q₀ r₀ u₀ held₀ t₀
     answers a b c d e f g h i j k l m o q r u held t = n - t
 
 -- from the loop back to the start; from the call, from what follows it and from the end back to the loop

@@ -23,15 +23,21 @@ use Rattle.calls.proofs.apply_core.Tie as tie
 abbrev at : tie.Start → List Frame → State
 at s l =
     let a = s .args in
-    allGiven l (a .pool) (a .records) (a .numbers) (a .accounts) (a .maps) (a .limits) (a .frame-words) (a .free-queue) (a .removal-list)
+    allGiven l (a .pool) (a .records) (a .numbers) (a .accounts) (a .maps) (a .limits) (a .parents) (a .frame-words) (a .free-queue) (a .removal-list)
     (a .addresses) (a .states) (a .owners) (a .free-map) (a .active) (a .updating) (a .images) (a .line) (a .used)
 
 -- from the work back to the decoded event, and from questions 1 and 2 to the start
 abbrev known : tie.After-carry → tie.After-decoded
 known t = search
 
+abbrev begun : tie.After-common-arg → tie.Start
+begun q = search
+
+abbrev asked : tie.After-common → tie.After-common-arg
+asked q = search
+
 abbrev start : tie.After-common → tie.Start
-start q = search
+start q = begun (asked q)
 
 abbrev lent : tie.Start → State
 lent s = at s (framesOf (s .args .frames) (s .args .lent))
@@ -76,10 +82,10 @@ after w l =
     let t = w .carry in
     let b = start (known w .before .before .before .before) .args in
     let r = t .last .1 .1 .1 .1 in
-    let m = r .1 .1 .1 .1 .1 in
+    let m = r .1 .1 .1 .1 .1 .1 in
     let h = m .1 .1 .1 in
     let a = h .1 .1 .1 .1 in
-    allOf l (deposited (t .result .deposited) (taken (b .sizes) (t .result .taken) (b .pool))) (r .0) (r .1 .0) (r .1 .1 .0) (r .1 .1 .1 .0) (r .1 .1 .1 .1 .0) (m .0) (m .1 .0) (m .1 .1 .0) (h .0) (h .1 .0) (h .1 .1 .0) (h .1 .1 .1 .0) (a .0) (a .1 .0) (a .1 .1 .0) (a .1 .1 .1 .0) (a .1 .1 .1 .1 .0)
+    allOf l (deposited (t .result .deposited) (taken (b .sizes) (t .result .taken) (b .pool))) (r .0) (r .1 .0) (r .1 .1 .0) (r .1 .1 .1 .0) (r .1 .1 .1 .1 .0) (b .parents .now) (m .0) (m .1 .0) (m .1 .1 .0) (h .0) (h .1 .0) (h .1 .1 .0) (h .1 .1 .1 .0) (a .0) (a .1 .0) (a .1 .1 .0) (a .1 .1 .1 .0) (a .1 .1 .1 .1 .0)
 
 returns-3 : tie.Need-returns-3
 returns-3 c =
@@ -144,7 +150,6 @@ apply-core-spec =
     (λ c. let w : tie.After-carry = search in w .carry .kept .1 .1 .1 .1 .1 .1 .0)
     (λ c. let w : tie.After-carry = search in w .carry .kept .1 .1 .1 .1 .1 .1 .1 .0)
     (λ c. let w : tie.After-carry = search in w .carry .kept .1 .1 .1 .1 .1 .1 .1 .1 .0)
-    (λ c. let w : tie.After-carry = search in w .carry .kept .1 .1 .1 .1 .1 .1 .1 .1 .1 .0)
     (λ c. let w : tie.After-carry = search in w .carry .kept .1 .1 .1 .1 .1 .1 .1 .1 .1 .1 .0)
     (λ c. let w : tie.After-carry = search in w .carry .kept .1 .1 .1 .1 .1 .1 .1 .1 .1 .1 .1 .0)
     (λ c. let w : tie.After-carry = search in w .carry .kept .1 .1 .1 .1 .1 .1 .1 .1 .1 .1 .1 .1 .0)
@@ -156,4 +161,5 @@ apply-core-spec =
     (λ c. let w : tie.After-carry = search in w .carry .kept .1 .1 .1 .1 .1 .1 .1 .1 .1 .1 .1 .1 .1 .1 .1 .1 .1 .1 .0)
     (λ c. let w : tie.After-carry = search in w .carry .kept .1 .1 .1 .1 .1 .1 .1 .1 .1 .1 .1 .1 .1 .1 .1 .1 .1 .1 .1 .0)
     (λ c. let w : tie.After-carry = search in w .carry .kept .1 .1 .1 .1 .1 .1 .1 .1 .1 .1 .1 .1 .1 .1 .1 .1 .1 .1 .1 .1 .0)
+    (λ c. let w : tie.After-carry = search in w .carry .kept .1 .1 .1 .1 .1 .1 .1 .1 .1 .1 .1 .1 .1 .1 .1 .1 .1 .1 .1 .1 .1 .0)
     returns-3)

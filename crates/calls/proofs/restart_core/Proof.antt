@@ -24,7 +24,7 @@ use Rattle.calls.proofs.restart_core.Tie as tie
 abbrev at : tie.Start → List Frame → State
 at s l =
     let a = s .args in
-    allOf l (a .pool) (a .records .now) (a .numbers .now) (a .accounts .now) (a .maps .now) (a .limits .now) (a .frame-words .now) (a .free-queue .now) (a .removal-list .now)
+    allOf l (a .pool) (a .records .now) (a .numbers .now) (a .accounts .now) (a .maps .now) (a .limits .now) (a .parents .now) (a .frame-words .now) (a .free-queue .now) (a .removal-list .now)
     (a .addresses .now) (a .states .now) (a .owners .now) (a .free-map .now) (a .active .now) (a .updating .now) (a .images .now) (a .line .now) (a .used .now)
 
 -- from the work back to question 2 and to the line, and from question 1 to the start
@@ -80,10 +80,10 @@ abbrev after : tie.After-restart-tables → State
 after w =
     let t = w .restart-tables in
     let a = start (ruled w .before .before .before) .args in
-    let r = t .last .1 .1 .1 in
+    let r = t .last .1 .1 .1 .1 .1 in
     let h = r .1 .1 .1 in
     let n = h .1 .1 .1 .1 in
-    stateOf (framesOf (t .result .frames) (a .lent)) (t .result .pool) (a .records .now) (a .numbers .now) (a .accounts .now) (a .maps .now) (a .limits .now)
+    stateOf (framesOf (t .result .frames) (a .lent)) (t .result .pool) (a .records .now) (a .numbers .now) (a .accounts .now) (a .maps .now) (a .limits .now) (a .parents .now)
     (r .0) (r .1 .0) (r .1 .1 .0) (h .0) (h .1 .0) (h .1 .1 .0) (h .1 .1 .1 .0) (n .0) (n .1 .0) (n .1 .1 .0) (n .1 .1 .1 .0)
 
 returns-3 : tie.Need-returns-3
@@ -97,7 +97,7 @@ returns-3 c =
     let e = t .ensures in
     restart-left (a .sizes) (lent s) (after w) _ (t .result .answer) (e .0)
     (restarted-tables (a .sizes) (lent s .disk)
-    (restarted-lent (a .sizes) (seen (a .accounts .now) (a .maps .now)) (t .result .frames) (a .lent) (all-lent (a .sizes) (at s) (λ l. refl) (a .frames) (a .lent) (learn (allFit (a .sizes) (lent s)) (fitted k))) (e .1 .0))
+    (restarted-lent (a .sizes) (seen (a .accounts .now) (a .maps .now) (a .limits .now) (a .parents .now)) (t .result .frames) (a .lent) (all-lent (a .sizes) (at s) (λ l. refl) (a .frames) (a .lent) (learn (allFit (a .sizes) (lent s)) (fitted k))) (e .1 .0))
     (e .1 .1 .1 .1 .1 .1 .1 .1 .1 .0) (e .1 .1 .0) (e .1 .1 .1 .0) (e .1 .1 .1 .1 .0) (e .1 .1 .1 .1 .1 .0) (e .1 .1 .1 .1 .1 .1 .0) (e .1 .1 .1 .1 .1 .1 .1 .0) (e .1 .1 .1 .1 .1 .1 .1 .1 .0)
     (e .1 .1 .1 .1 .1 .1 .1 .1 .1 .1 .0) (e .1 .1 .1 .1 .1 .1 .1 .1 .1 .1 .1 .0) (e .1 .1 .1 .1 .1 .1 .1 .1 .1 .1 .1 .1 .0) (e .1 .1 .1 .1 .1 .1 .1 .1 .1 .1 .1 .1 .1))
     (emptied w .zero16 .ensures ∙ no-line-zeros (a .line .now) (fit-told (a .sizes) (lent s) (fitted k) .memory .line)) (fitted k) (listed h)
@@ -136,8 +136,6 @@ restart-core-spec =
     returns-2
     (λ c κs. search needs)
     restart-tables-requires
-    (λ c. let w : tie.After-restart-tables = search in w .restart-tables .kept .1 .1 .1 .0)
-    (λ c. let w : tie.After-restart-tables = search in w .restart-tables .kept .1 .1 .1 .1 .0)
     (λ c. let w : tie.After-restart-tables = search in w .restart-tables .kept .1 .1 .1 .1 .1 .0)
     (λ c. let w : tie.After-restart-tables = search in w .restart-tables .kept .1 .1 .1 .1 .1 .1 .0)
     (λ c. let w : tie.After-restart-tables = search in w .restart-tables .kept .1 .1 .1 .1 .1 .1 .1 .0)
@@ -146,6 +144,8 @@ restart-core-spec =
     (λ c. let w : tie.After-restart-tables = search in w .restart-tables .kept .1 .1 .1 .1 .1 .1 .1 .1 .1 .1 .0)
     (λ c. let w : tie.After-restart-tables = search in w .restart-tables .kept .1 .1 .1 .1 .1 .1 .1 .1 .1 .1 .1 .0)
     (λ c. let w : tie.After-restart-tables = search in w .restart-tables .kept .1 .1 .1 .1 .1 .1 .1 .1 .1 .1 .1 .1 .0)
-    (λ c. let w : tie.After-restart-tables = search in emptied w .zero16 .kept .0)
     (λ c. let w : tie.After-restart-tables = search in w .restart-tables .kept .1 .1 .1 .1 .1 .1 .1 .1 .1 .1 .1 .1 .1 .0)
+    (λ c. let w : tie.After-restart-tables = search in w .restart-tables .kept .1 .1 .1 .1 .1 .1 .1 .1 .1 .1 .1 .1 .1 .1 .0)
+    (λ c. let w : tie.After-restart-tables = search in emptied w .zero16 .kept .0)
+    (λ c. let w : tie.After-restart-tables = search in w .restart-tables .kept .1 .1 .1 .1 .1 .1 .1 .1 .1 .1 .1 .1 .1 .1 .1 .0)
     returns-3)

@@ -1,5 +1,5 @@
 -- `keeper_apply` meets its contract: a walk of its MIR, by hand. All that it knows of what it calls is that each meets its contract.
--- `frames` is lent as a `&` for a lifetime of the call of `load`, comes back, and is given up for good to `save`; `pool` is copied, then lent again to `take`, comes back, and is given up for good to `deposit`; the 17 slices are given up for good to the work, and what they own and their tokens go there as they came, each in one piece.
+-- `frames` is lent as a `&` for a lifetime of the call of `load`, comes back, and is given up for good to `save`; `pool` is copied, then lent again to `take`, comes back, and is given up for good to `deposit`; the 18 slices are given up for good to the work, and what they own and their tokens go there as they came, each in one piece.
 -- Assumes nothing.
 use mathlib.Core.Path.{_≡_, refl, ap}
 use Prim.Native.Nat.{ℕ}
@@ -59,7 +59,7 @@ use Rattle.model.proofs.applied.Applied as TO
 use Rattle.model.proofs.applied.Applied.Laws as TO′
 use Rattle.keeper.specs.Copies.{loaded, saved}
 use Rattle.keeper.proofs.Row.{F}
-use Rattle.keeper.proofs.Shapes.{EachTable, value, gave, mut, goes-value, goes-gave}
+use Rattle.keeper.proofs.Shapes.{EachTable, value, gave, seen, mut, shr, goes-value, goes-gave, goes-seen}
 use Rattle.keeper.proofs.Row64.{F64, makes64, typed64}
 use Rattle.keeper.proofs.ByValue.{Z, Q, sizes-val, sizes-vals, sizes-tells, makes-sizes, typed-sizes, request-val, request-vals, request-tells, makes-request, typed-request}
 use Rattle.keeper.proofs.Shared.{SharedAgain, shares-again, comes-home}
@@ -87,8 +87,8 @@ use Rattle.keeper.proofs.keeper_apply.Code as code
 
 abbrev stayed : Stays (fn.ended .signature .params) (fn.ended .kept)
 stayed =
-    let v = value 19 in let g = gave 19 in
-    (v Z, (v Q, (g 0 tt F, (gave-ref (1 ∷ []) tt (plain (λ _. P)), (g 2 tt u32, (g 3 tt u32, (g 4 tt u16, (g 5 tt u16, (g 6 tt u16, (g 7 tt u32, (g 8 tt u16, (g 9 tt u16, (g 10 tt u16, (g 11 tt u8, (g 12 tt u8, (g 13 tt u32, (g 14 tt u8, (g 15 tt u8, (g 16 tt u16, (g 17 tt u16, (g 18 tt u16, tt)))))))))))))))))))))
+    let v = value 20 in let g = gave 20 in let h = seen 20 in
+    (v Z, (v Q, (g 0 tt F, (gave-ref (1 ∷ []) tt (plain (λ _. P)), (g 2 tt u32, (g 3 tt u32, (g 4 tt u16, (g 5 tt u16, (g 6 tt u16, (h 7 tt u16, (g 8 tt u32, (g 9 tt u16, (g 10 tt u16, (g 11 tt u16, (g 12 tt u8, (g 13 tt u8, (g 14 tt u32, (g 15 tt u8, (g 16 tt u8, (g 17 tt u16, (g 18 tt u16, (g 19 tt u16, tt))))))))))))))))))))))
 
 module _ {M : Type 1} (𝓤 : URA M) (H : Heap 𝓤) (A : Atoms 𝓤) (at-mem : Memory → SProp 𝓤) (run : Routine → Fun 𝓤) where
   abbrev Core : Contract 𝓤
@@ -97,30 +97,30 @@ module _ {M : Type 1} (𝓤 : URA M) (H : Heap 𝓤) (A : Atoms 𝓤) (at-mem : 
 module _ {M : Type 1} (𝓤 : URA M) (H : Heap 𝓤) (A : Atoms 𝓤) (W : Given 𝓤 H A) (at-mem : Memory → SProp 𝓤) (run : Routine → Fun 𝓤) (κ0 : Lft) (q0 : Share) (κ1 : Lft) (q1 : Share) (κ2 : Lft) (q2 :
     Share) (κ3 : Lft) (q3 : Share) (κ4 : Lft) (q4 : Share) (κ5 : Lft) (q5 : Share) (κ6 : Lft) (q6 : Share) (κ7 : Lft) (q7 : Share) (κ8 : Lft) (q8 : Share) (κ9 : Lft) (q9 : Share) (κ10 : Lft) (q10 :
     Share) (κ11 : Lft) (q11 : Share) (κ12 : Lft) (q12 : Share) (κ13 : Lft) (q13 : Share) (κ14 : Lft) (q14 : Share) (κ15 : Lft) (q15 : Share) (κ16 : Lft) (q16 : Share) (κ17 : Lft) (q17 : Share) (κ18 :
-    Lft) (q18 : Share)
+    Lft) (q18 : Share) (κ19 : Lft) (q19 : Share)
     (z : Sizes) (request : Request)
     (bf of′ : ℕ) (γf : GName) (ys : List Frame) (roomf : Room F (length ys)) (bp op : ℕ) (γp : GName) (p : Pool) (x0 : RefT (List ℕ)) (room0 : Room u32 (length (now x0))) (x1 : RefT (List ℕ)) (room1 :
     Room u32 (length (now x1))) (x2 : RefT (List ℕ)) (room2 : Room u16 (length (now x2))) (x3 : RefT (List ℕ)) (room3 : Room u16 (length (now x3))) (x4 : RefT (List ℕ)) (room4 : Room u16 (length (now
-    x4))) (x5 : RefT (List ℕ)) (room5 : Room u32 (length (now x5))) (x6 : RefT (List ℕ)) (room6 : Room u16 (length (now x6))) (x7 : RefT (List ℕ)) (room7 : Room u16 (length (now x7))) (x8 : RefT (List
-    ℕ)) (room8 : Room u16 (length (now x8))) (x9 : RefT (List ℕ)) (room9 : Room u8 (length (now x9))) (x10 : RefT (List ℕ)) (room10 : Room u8 (length (now x10))) (x11 : RefT (List ℕ)) (room11 : Room
-    u32 (length (now x11))) (x12 : RefT (List ℕ)) (room12 : Room u8 (length (now x12))) (x13 : RefT (List ℕ)) (room13 : Room u8 (length (now x13))) (x14 : RefT (List ℕ)) (room14 : Room u16 (length
-    (now x14))) (x15 : RefT (List ℕ)) (room15 : Room u16 (length (now x15))) (x16 : RefT (List ℕ)) (room16 : Room u16 (length (now x16))) (is-z : Is Z z (sizes-vals z)) (is-req : Is Q request
-    (request-vals request)) where
+    x4))) (x5 : RefT (List ℕ)) (room5 : Room u16 (length (now x5))) (x6 : RefT (List ℕ)) (room6 : Room u32 (length (now x6))) (x7 : RefT (List ℕ)) (room7 : Room u16 (length (now x7))) (x8 : RefT (List
+    ℕ)) (room8 : Room u16 (length (now x8))) (x9 : RefT (List ℕ)) (room9 : Room u16 (length (now x9))) (x10 : RefT (List ℕ)) (room10 : Room u8 (length (now x10))) (x11 : RefT (List ℕ)) (room11 : Room
+    u8 (length (now x11))) (x12 : RefT (List ℕ)) (room12 : Room u32 (length (now x12))) (x13 : RefT (List ℕ)) (room13 : Room u8 (length (now x13))) (x14 : RefT (List ℕ)) (room14 : Room u8 (length (now
+    x14))) (x15 : RefT (List ℕ)) (room15 : Room u16 (length (now x15))) (x16 : RefT (List ℕ)) (room16 : Room u16 (length (now x16))) (x17 : RefT (List ℕ)) (room17 : Room u16 (length (now x17))) (is-z
+    : Is Z z (sizes-vals z)) (is-req : Is Q request (request-vals request)) where
   -- the tables' lifetimes, shares, references and machine values, and their tokens
-  abbrev κt : Lfts 17
-  κt = (κ2, (κ3, (κ4, (κ5, (κ6, (κ7, (κ8, (κ9, (κ10, (κ11, (κ12, (κ13, (κ14, (κ15, (κ16, (κ17, (κ18, tt)))))))))))))))))
+  abbrev κt : Lfts 18
+  κt = (κ2, (κ3, (κ4, (κ5, (κ6, (κ7, (κ8, (κ9, (κ10, (κ11, (κ12, (κ13, (κ14, (κ15, (κ16, (κ17, (κ18, (κ19, tt))))))))))))))))))
 
-  abbrev qt : Shares 17
-  qt = (q2, (q3, (q4, (q5, (q6, (q7, (q8, (q9, (q10, (q11, (q12, (q13, (q14, (q15, (q16, (q17, (q18, tt)))))))))))))))))
+  abbrev qt : Shares 18
+  qt = (q2, (q3, (q4, (q5, (q6, (q7, (q8, (q9, (q10, (q11, (q12, (q13, (q14, (q15, (q16, (q17, (q18, (q19, tt))))))))))))))))))
 
   abbrev xt : EachTable (RefT (List ℕ))
-  xt = (x0, (x1, (x2, (x3, (x4, (x5, (x6, (x7, (x8, (x9, (x10, (x11, (x12, (x13, (x14, (x15, (x16, tt)))))))))))))))))
+  xt = (x0, (x1, (x2, (x3, (x4, (x5, (x6, (x7, (x8, (x9, (x10, (x11, (x12, (x13, (x14, (x15, (x16, (x17, tt))))))))))))))))))
 
   abbrev vt : EachTable (List Val)
-  vt = (table-val x0 ∷ [], (table-val x1 ∷ [], (table-val x2 ∷ [], (table-val x3 ∷ [], (table-val x4 ∷ [], (table-val x5 ∷ [], (table-val x6 ∷ [], (table-val x7 ∷ [], (table-val x8 ∷ [], (table-val x9 ∷ [], (table-val x10 ∷ [], (table-val x11 ∷ [], (table-val x12 ∷ [], (table-val x13 ∷ [], (table-val x14 ∷ [], (table-val x15 ∷ [], (table-val x16 ∷ [], tt)))))))))))))))))
+  vt = (table-val x0 ∷ [], (table-val x1 ∷ [], (table-val x2 ∷ [], (table-val x3 ∷ [], (table-val x4 ∷ [], (table-val x5 ∷ [], (table-val x6 ∷ [], (table-val x7 ∷ [], (table-val x8 ∷ [], (table-val x9 ∷ [], (table-val x10 ∷ [], (table-val x11 ∷ [], (table-val x12 ∷ [], (table-val x13 ∷ [], (table-val x14 ∷ [], (table-val x15 ∷ [], (table-val x16 ∷ [], (table-val x17 ∷ [], tt))))))))))))))))))
 
   abbrev tokens : Item 𝓤
-  tokens = (‵ (flft κ2 q2) ⊛ (‵ (flft κ3 q3) ⊛ (‵ (flft κ4 q4) ⊛ (‵ (flft κ5 q5) ⊛ (‵ (flft κ6 q6) ⊛ (‵ (flft κ7 q7) ⊛ (‵ (flft κ8 q8) ⊛ (‵ (flft κ9 q9) ⊛ (‵ (flft κ10 q10) ⊛ (‵ (flft κ11 q11) ⊛ (‵ (flft κ12 q12) ⊛ (‵ (flft κ13 q13) ⊛ (‵ (flft κ14 q14) ⊛ (‵ (flft κ15 q15) ⊛ (‵ (flft κ16 q16) ⊛ (‵ (flft κ17 q17) ⊛ (‵ (flft κ18 q18) ⊛ ‵ ftrue)))))))))))))))))
+  tokens = (‵ (flft κ2 q2) ⊛ (‵ (flft κ3 q3) ⊛ (‵ (flft κ4 q4) ⊛ (‵ (flft κ5 q5) ⊛ (‵ (flft κ6 q6) ⊛ (‵ (flft κ7 q7) ⊛ (‵ (flft κ8 q8) ⊛ (‵ (flft κ9 q9) ⊛ (‵ (flft κ10 q10) ⊛ (‵ (flft κ11 q11) ⊛ (‵ (flft κ12 q12) ⊛ (‵ (flft κ13 q13) ⊛ (‵ (flft κ14 q14) ⊛ (‵ (flft κ15 q15) ⊛ (‵ (flft κ16 q16) ⊛ (‵ (flft κ17 q17) ⊛ (‵ (flft κ18 q18) ⊛ (‵ (flft κ19 q19) ⊛ ‵ ftrue))))))))))))))))))
 
   -- the parameters, and their machine values
   abbrev n : ℕ
@@ -153,50 +153,51 @@ module _ {M : Type 1} (𝓤 : URA M) (H : Heap 𝓤) (A : Atoms 𝓤) (W : Given
 
   -- what the slices have at the end, and what the work's contract says of it
   abbrev Lasts : Type 0
-  Lasts = Unit {0} × (Unit {0} × (Unit {0} × (Unit {0} × (Unit {0} × (List ℕ × (List ℕ × (List ℕ × (List ℕ × (List ℕ × (List ℕ × (List ℕ × (List ℕ × (List ℕ × (List ℕ × (List ℕ × (List ℕ × (List ℕ × (List ℕ × (List ℕ × (List ℕ × (List ℕ × (Unit {0}))))))))))))))))))))))
+  Lasts = Unit {0} × (Unit {0} × (Unit {0} × (Unit {0} × (Unit {0} × (List ℕ × (List ℕ × (List ℕ × (List ℕ × (List ℕ × (Unit {0} × (List ℕ × (List ℕ × (List ℕ × (List ℕ × (List ℕ × (List ℕ × (List ℕ × (List ℕ × (List ℕ × (List ℕ × (List ℕ × (List ℕ × (Unit {0})))))))))))))))))))))))
 
   abbrev Fin : Lasts → Fml
   Fin ms = fsep (finally u32 (name x0) (ms .1 .1 .1 .1 .1 .0)) (fsep (finally u32 (name x1) (ms .1 .1 .1 .1 .1 .1 .0)) (fsep (finally u16 (name x2) (ms .1 .1 .1 .1 .1 .1 .1 .0)) (fsep (finally u16
-      (name x3) (ms .1 .1 .1 .1 .1 .1 .1 .1 .0)) (fsep (finally u16 (name x4) (ms .1 .1 .1 .1 .1 .1 .1 .1 .1 .0)) (fsep (finally u32 (name x5) (ms .1 .1 .1 .1 .1 .1 .1 .1 .1 .1 .0)) (fsep (finally u16
-      (name x6) (ms .1 .1 .1 .1 .1 .1 .1 .1 .1 .1 .1 .0)) (fsep (finally u16 (name x7) (ms .1 .1 .1 .1 .1 .1 .1 .1 .1 .1 .1 .1 .0)) (fsep (finally u16 (name x8) (ms .1 .1 .1 .1 .1 .1 .1 .1 .1 .1 .1 .1
-      .1 .0)) (fsep (finally u8 (name x9) (ms .1 .1 .1 .1 .1 .1 .1 .1 .1 .1 .1 .1 .1 .1 .0)) (fsep (finally u8 (name x10) (ms .1 .1 .1 .1 .1 .1 .1 .1 .1 .1 .1 .1 .1 .1 .1 .0)) (fsep (finally u32 (name
-      x11) (ms .1 .1 .1 .1 .1 .1 .1 .1 .1 .1 .1 .1 .1 .1 .1 .1 .0)) (fsep (finally u8 (name x12) (ms .1 .1 .1 .1 .1 .1 .1 .1 .1 .1 .1 .1 .1 .1 .1 .1 .1 .0)) (fsep (finally u8 (name x13) (ms .1 .1 .1
-      .1 .1 .1 .1 .1 .1 .1 .1 .1 .1 .1 .1 .1 .1 .1 .0)) (fsep (finally u16 (name x14) (ms .1 .1 .1 .1 .1 .1 .1 .1 .1 .1 .1 .1 .1 .1 .1 .1 .1 .1 .1 .0)) (fsep (finally u16 (name x15) (ms .1 .1 .1 .1 .1
-      .1 .1 .1 .1 .1 .1 .1 .1 .1 .1 .1 .1 .1 .1 .1 .0)) (fsep (finally u16 (name x16) (ms .1 .1 .1 .1 .1 .1 .1 .1 .1 .1 .1 .1 .1 .1 .1 .1 .1 .1 .1 .1 .1 .0)) ftrue))))))))))))))))
+      (name x3) (ms .1 .1 .1 .1 .1 .1 .1 .1 .0)) (fsep (finally u16 (name x4) (ms .1 .1 .1 .1 .1 .1 .1 .1 .1 .0)) (fsep ftrue (fsep (finally u32 (name x6) (ms .1 .1 .1 .1 .1 .1 .1 .1 .1 .1 .1 .0))
+      (fsep (finally u16 (name x7) (ms .1 .1 .1 .1 .1 .1 .1 .1 .1 .1 .1 .1 .0)) (fsep (finally u16 (name x8) (ms .1 .1 .1 .1 .1 .1 .1 .1 .1 .1 .1 .1 .1 .0)) (fsep (finally u16 (name x9) (ms .1 .1 .1
+      .1 .1 .1 .1 .1 .1 .1 .1 .1 .1 .1 .0)) (fsep (finally u8 (name x10) (ms .1 .1 .1 .1 .1 .1 .1 .1 .1 .1 .1 .1 .1 .1 .1 .0)) (fsep (finally u8 (name x11) (ms .1 .1 .1 .1 .1 .1 .1 .1 .1 .1 .1 .1 .1
+      .1 .1 .1 .0)) (fsep (finally u32 (name x12) (ms .1 .1 .1 .1 .1 .1 .1 .1 .1 .1 .1 .1 .1 .1 .1 .1 .1 .0)) (fsep (finally u8 (name x13) (ms .1 .1 .1 .1 .1 .1 .1 .1 .1 .1 .1 .1 .1 .1 .1 .1 .1 .1
+      .0)) (fsep (finally u8 (name x14) (ms .1 .1 .1 .1 .1 .1 .1 .1 .1 .1 .1 .1 .1 .1 .1 .1 .1 .1 .1 .0)) (fsep (finally u16 (name x15) (ms .1 .1 .1 .1 .1 .1 .1 .1 .1 .1 .1 .1 .1 .1 .1 .1 .1 .1 .1 .1
+      .0)) (fsep (finally u16 (name x16) (ms .1 .1 .1 .1 .1 .1 .1 .1 .1 .1 .1 .1 .1 .1 .1 .1 .1 .1 .1 .1 .1 .0)) (fsep (finally u16 (name x17) (ms .1 .1 .1 .1 .1 .1 .1 .1 .1 .1 .1 .1 .1 .1 .1 .1 .1 .1
+      .1 .1 .1 .1 .0)) ftrue)))))))))))))))))
 
   -- the state then, by its frames and its pool
   abbrev after : List Frame → Pool → Lasts → State
   after zs pool ms =
       let d = ms .1 .1 .1 .1 .1 in
-      let m = d .1 .1 .1 .1 .1 in
+      let m = d .1 .1 .1 .1 .1 .1 in
       let h = m .1 .1 .1 in
       let s = h .1 .1 .1 .1 in
-      allOf zs pool (d .0) (d .1 .0) (d .1 .1 .0) (d .1 .1 .1 .0) (d .1 .1 .1 .1 .0) (m .0) (m .1 .0) (m .1 .1 .0) (h .0) (h .1 .0) (h .1 .1 .0) (h .1 .1 .1 .0) (s .0) (s .1 .0) (s .1 .1 .0) (s .1 .1 .1 .0) (s .1 .1 .1 .1 .0)
+      allOf zs pool (d .0) (d .1 .0) (d .1 .1 .0) (d .1 .1 .1 .0) (d .1 .1 .1 .1 .0) (now x5) (m .0) (m .1 .0) (m .1 .1 .0) (h .0) (h .1 .0) (h .1 .1 .0) (h .1 .1 .1 .0) (s .0) (s .1 .0) (s .1 .1 .0) (s .1 .1 .1 .0) (s .1 .1 .1 .1 .0)
 
   abbrev Says : Applied → Lasts → Type 0
-  Says out ms = record { answer = out .answer; left = after (framesOf (out .frames) n) (pooled out) ms } ≡ apply z (allOf (framesOf (loaded ys) n) p (now x0) (now x1) (now x2) (now x3) (now x4) (now x5) (now x6) (now x7) (now x8) (now x9) (now x10) (now x11) (now x12) (now x13) (now x14) (now x15) (now x16)) request
+  Says out ms = record { answer = out .answer; left = after (framesOf (out .frames) n) (pooled out) ms } ≡ apply z (allOf (framesOf (loaded ys) n) p (now x0) (now x1) (now x2) (now x3) (now x4) (now x5) (now x6) (now x7) (now x8) (now x9) (now x10) (now x11) (now x12) (now x13) (now x14) (now x15) (now x16) (now x17)) request
 
   abbrev Left : Applied → Lasts → Type 0
   Left out ms = Says out ms × ((length (ms .1 .1 .1 .1 .1 .0) ≡ length (now x0)) × ((length (ms .1 .1 .1 .1 .1 .1 .0) ≡ length (now x1)) × ((length (ms .1 .1 .1 .1 .1 .1 .1 .0) ≡ length (now x2)) ×
-      ((length (ms .1 .1 .1 .1 .1 .1 .1 .1 .0) ≡ length (now x3)) × ((length (ms .1 .1 .1 .1 .1 .1 .1 .1 .1 .0) ≡ length (now x4)) × ((length (ms .1 .1 .1 .1 .1 .1 .1 .1 .1 .1 .0) ≡ length (now x5)) ×
-      ((length (ms .1 .1 .1 .1 .1 .1 .1 .1 .1 .1 .1 .0) ≡ length (now x6)) × ((length (ms .1 .1 .1 .1 .1 .1 .1 .1 .1 .1 .1 .1 .0) ≡ length (now x7)) × ((length (ms .1 .1 .1 .1 .1 .1 .1 .1 .1 .1 .1 .1
-      .1 .0) ≡ length (now x8)) × ((length (ms .1 .1 .1 .1 .1 .1 .1 .1 .1 .1 .1 .1 .1 .1 .0) ≡ length (now x9)) × ((length (ms .1 .1 .1 .1 .1 .1 .1 .1 .1 .1 .1 .1 .1 .1 .1 .0) ≡ length (now x10)) ×
-      ((length (ms .1 .1 .1 .1 .1 .1 .1 .1 .1 .1 .1 .1 .1 .1 .1 .1 .0) ≡ length (now x11)) × ((length (ms .1 .1 .1 .1 .1 .1 .1 .1 .1 .1 .1 .1 .1 .1 .1 .1 .1 .0) ≡ length (now x12)) × ((length (ms .1
-      .1 .1 .1 .1 .1 .1 .1 .1 .1 .1 .1 .1 .1 .1 .1 .1 .1 .0) ≡ length (now x13)) × ((length (ms .1 .1 .1 .1 .1 .1 .1 .1 .1 .1 .1 .1 .1 .1 .1 .1 .1 .1 .1 .0) ≡ length (now x14)) × ((length (ms .1 .1 .1
-      .1 .1 .1 .1 .1 .1 .1 .1 .1 .1 .1 .1 .1 .1 .1 .1 .1 .0) ≡ length (now x15)) × ((length (ms .1 .1 .1 .1 .1 .1 .1 .1 .1 .1 .1 .1 .1 .1 .1 .1 .1 .1 .1 .1 .1 .0) ≡ length (now x16)) × Unit
-      {0})))))))))))))))))
+      ((length (ms .1 .1 .1 .1 .1 .1 .1 .1 .0) ≡ length (now x3)) × ((length (ms .1 .1 .1 .1 .1 .1 .1 .1 .1 .0) ≡ length (now x4)) × ((length (ms .1 .1 .1 .1 .1 .1 .1 .1 .1 .1 .1 .0) ≡ length (now
+      x6)) × ((length (ms .1 .1 .1 .1 .1 .1 .1 .1 .1 .1 .1 .1 .0) ≡ length (now x7)) × ((length (ms .1 .1 .1 .1 .1 .1 .1 .1 .1 .1 .1 .1 .1 .0) ≡ length (now x8)) × ((length (ms .1 .1 .1 .1 .1 .1 .1 .1
+      .1 .1 .1 .1 .1 .1 .0) ≡ length (now x9)) × ((length (ms .1 .1 .1 .1 .1 .1 .1 .1 .1 .1 .1 .1 .1 .1 .1 .0) ≡ length (now x10)) × ((length (ms .1 .1 .1 .1 .1 .1 .1 .1 .1 .1 .1 .1 .1 .1 .1 .1 .0) ≡
+      length (now x11)) × ((length (ms .1 .1 .1 .1 .1 .1 .1 .1 .1 .1 .1 .1 .1 .1 .1 .1 .1 .0) ≡ length (now x12)) × ((length (ms .1 .1 .1 .1 .1 .1 .1 .1 .1 .1 .1 .1 .1 .1 .1 .1 .1 .1 .0) ≡ length (now
+      x13)) × ((length (ms .1 .1 .1 .1 .1 .1 .1 .1 .1 .1 .1 .1 .1 .1 .1 .1 .1 .1 .1 .0) ≡ length (now x14)) × ((length (ms .1 .1 .1 .1 .1 .1 .1 .1 .1 .1 .1 .1 .1 .1 .1 .1 .1 .1 .1 .1 .0) ≡ length (now
+      x15)) × ((length (ms .1 .1 .1 .1 .1 .1 .1 .1 .1 .1 .1 .1 .1 .1 .1 .1 .1 .1 .1 .1 .1 .0) ≡ length (now x16)) × ((length (ms .1 .1 .1 .1 .1 .1 .1 .1 .1 .1 .1 .1 .1 .1 .1 .1 .1 .1 .1 .1 .1 .1 .0) ≡
+      length (now x17)) × Unit {0})))))))))))))))))
 
   -- what the call's contract says, from that, for a slice of frames of any length
   said : (out : Applied) (ms : Lasts) (zs : List Frame) → zs ≡ saved ys (out .frames) → length (out .frames) ≡ 64 → Says out ms
-      → record { answer = out .answer; left = after zs (pooled out) ms } ≡ apply z (allOf ys p (now x0) (now x1) (now x2) (now x3) (now x4) (now x5) (now x6) (now x7) (now x8) (now x9) (now x10) (now x11) (now x12) (now x13) (now x14) (now x15) (now x16)) request
+      → record { answer = out .answer; left = after zs (pooled out) ms } ≡ apply z (allOf ys p (now x0) (now x1) (now x2) (now x3) (now x4) (now x5) (now x6) (now x7) (now x8) (now x9) (now x10) (now x11) (now x12) (now x13) (now x14) (now x15) (now x16) (now x17)) request
   said out ms zs e l says =
-      of-any-length z ys (allOf ys p (now x0) (now x1) (now x2) (now x3) (now x4) (now x5) (now x6) (now x7) (now x8) (now x9) (now x10) (now x11) (now x12) (now x13) (now x14) (now x15) (now x16)) (λ (st : State). apply z st request) (apply-refuses z request) (after ys (pooled out) ms) (out .answer) (out .frames) l says zs e
+      of-any-length z ys (allOf ys p (now x0) (now x1) (now x2) (now x3) (now x4) (now x5) (now x6) (now x7) (now x8) (now x9) (now x10) (now x11) (now x12) (now x13) (now x14) (now x15) (now x16) (now x17)) (λ (st : State). apply z st request) (apply-refuses z request) (after ys (pooled out) ms) (out .answer) (out .frames) l says zs e
 
   exits : (out : Applied) (zs : List Frame) (ms : Lasts) → (zs ≡ saved ys (out .frames)) × (length zs ≡ n) → Left out ms → Fields out
       → ent 𝓤 (⋆ 𝓤 H A (‵ (flft κ0 q0) ∷ ‵ (flft κ1 q1) ∷ tokens ∷ ‵ (finally F γf zs) ∷ ‵ (fres γp (P .coded .code (pooled out))) ∷ ‵ (Fin ms) ∷ [])) (Post (answer-val out))
   exits out zs ms e₀ e₁ is =
       qed W (‵ (flft κ0 q0) ∷ ‵ (flft κ1 q1) ∷ tokens ∷ ‵ (finally F γf zs) ∷ ‵ (fres γp (P .coded .code (pooled out))) ∷ ‵ (Fin ms) ∷ []) ∵
-      suffices ! _ (ends-at 𝓤 H A fn.ended stayed (fn.clauses 𝓤 H A at-mem run) W bound (answer-val out) (out .answer) (tt, (tt, (zs, (pooled out, ms .1 .1 .1 .1 .1)))) (tt, (tt, (e₀ .1, (tt, e₁ .1))))) $
+      suffices ! _ (ends-at 𝓤 H A fn.ended stayed (fn.clauses 𝓤 H A at-mem run) W bound (answer-val out) (out .answer) (tt, (tt, (zs, (pooled out, ms .1 .1 .1 .1 .1)))) (tt, (tt, (e₀ .1, (tt, (e₁ .1 .0, (e₁ .1 .1 .0, (e₁ .1 .1 .1 .0, (e₁ .1 .1 .1 .1 .0, (e₁ .1 .1 .1 .1 .1 .0, (tt, e₁ .1 .1 .1 .1 .1 .1))))))))))) $
       says ! (said out ms zs (e₀ .0) (is .0 .1 .0 .1) (e₁ .0)) $
       move ! (1 ∷ 2 ∷ []) $ join ! $ move ! (1 ∷ 0 ∷ []) $ join ! $ frame ! $
       -- [the last list of frames; the last pool; the last lists of the slices]
@@ -208,9 +209,9 @@ module _ {M : Type 1} (𝓤 : URA M) (H : Heap 𝓤) (A : Atoms 𝓤) (W : Given
   to-core v t = ((κt, qt, tt, (z, (request, (n, (loaded ys, (p, xt))))), (sizes-val z ∷ [], (request-val request ∷ [], (vint w64 n ∷ [], (v ∷ [], (t ∷ [], vt)))))), tt)
 
   abbrev Owned : Fml
-  Owned = owns (MutSlice (named 0) κ2 u32 ∷ MutSlice (named 1) κ3 u32 ∷ MutSlice (named 2) κ4 u16 ∷ MutSlice (named 3) κ5 u16 ∷ MutSlice (named 4) κ6 u16 ∷ MutSlice (named 5) κ7 u32 ∷ MutSlice (named
-      6) κ8 u16 ∷ MutSlice (named 7) κ9 u16 ∷ MutSlice (named 8) κ10 u16 ∷ MutSlice (named 9) κ11 u8 ∷ MutSlice (named 10) κ12 u8 ∷ MutSlice (named 11) κ13 u32 ∷ MutSlice (named 12) κ14 u8 ∷ MutSlice
-      (named 13) κ15 u8 ∷ MutSlice (named 14) κ16 u16 ∷ MutSlice (named 15) κ17 u16 ∷ MutSlice (named 16) κ18 u16 ∷ []) xt vt
+  Owned = owns (MutSlice (named 0) κ2 u32 ∷ MutSlice (named 1) κ3 u32 ∷ MutSlice (named 2) κ4 u16 ∷ MutSlice (named 3) κ5 u16 ∷ MutSlice (named 4) κ6 u16 ∷ ShrSlice (named 5) κ7 u16 ∷ MutSlice (named
+      6) κ8 u32 ∷ MutSlice (named 7) κ9 u16 ∷ MutSlice (named 8) κ10 u16 ∷ MutSlice (named 9) κ11 u16 ∷ MutSlice (named 10) κ12 u8 ∷ MutSlice (named 11) κ13 u8 ∷ MutSlice (named 12) κ14 u32 ∷ MutSlice
+      (named 13) κ15 u8 ∷ MutSlice (named 14) κ16 u8 ∷ MutSlice (named 15) κ17 u16 ∷ MutSlice (named 16) κ18 u16 ∷ MutSlice (named 17) κ19 u16 ∷ []) xt vt
 
   goes-core : (v t : Val) → Is F64 (loaded ys) (v ∷ []) → Is P p (t ∷ []) → ent 𝓤 (⋆ 𝓤 H A (tokens ∷ ‵ Owned ∷ [])) (Core 𝓤 H A at-mem run .pre (to-core v t))
   goes-core v t is was =
@@ -224,50 +225,51 @@ module _ {M : Type 1} (𝓤 : URA M) (H : Heap 𝓤) (A : Atoms 𝓤) (W : Given
       use1 W (some (λ (ms : Lasts). ‵ (lasts core.ended κt (z, (request, (n, (loaded ys, (p, xt))))) ms) ⊛ raw (fact 𝓤 (Says r ms)))) (id⊢ 𝓤 _) $ pick ! (λ ms.
       split ! $ move ! (1 ∷ []) $ heard ! (Says r ms) (λ e₁. fsplit ! $ drop ! $ fsplit ! $ drop ! $ fsplit ! $ drop ! $ fsplit ! $ drop ! $ fsplit ! $ drop ! $
       fsplit ! $ fsplit ! $ move ! (1 ∷ []) $ feqL ! (λ n0. move ! (1 ∷ []) $ fsplit ! $ fsplit ! $ move ! (1 ∷ []) $ feqL ! (λ n1. move ! (1 ∷ []) $ fsplit ! $ fsplit ! $ move ! (1 ∷ []) $ feqL ! (λ
-      n2. move ! (1 ∷ []) $ fsplit ! $ fsplit ! $ move ! (1 ∷ []) $ feqL ! (λ n3. move ! (1 ∷ []) $ fsplit ! $ fsplit ! $ move ! (1 ∷ []) $ feqL ! (λ n4. move ! (1 ∷ []) $ fsplit ! $ fsplit ! $ move !
-      (1 ∷ []) $ feqL ! (λ n5. move ! (1 ∷ []) $ fsplit ! $ fsplit ! $ move ! (1 ∷ []) $ feqL ! (λ n6. move ! (1 ∷ []) $ fsplit ! $ fsplit ! $ move ! (1 ∷ []) $ feqL ! (λ n7. move ! (1 ∷ []) $ fsplit
-      ! $ fsplit ! $ move ! (1 ∷ []) $ feqL ! (λ n8. move ! (1 ∷ []) $ fsplit ! $ fsplit ! $ move ! (1 ∷ []) $ feqL ! (λ n9. move ! (1 ∷ []) $ fsplit ! $ fsplit ! $ move ! (1 ∷ []) $ feqL ! (λ n10.
-      move ! (1 ∷ []) $ fsplit ! $ fsplit ! $ move ! (1 ∷ []) $ feqL ! (λ n11. move ! (1 ∷ []) $ fsplit ! $ fsplit ! $ move ! (1 ∷ []) $ feqL ! (λ n12. move ! (1 ∷ []) $ fsplit ! $ fsplit ! $ move !
-      (1 ∷ []) $ feqL ! (λ n13. move ! (1 ∷ []) $ fsplit ! $ fsplit ! $ move ! (1 ∷ []) $ feqL ! (λ n14. move ! (1 ∷ []) $ fsplit ! $ fsplit ! $ move ! (1 ∷ []) $ feqL ! (λ n15. move ! (1 ∷ []) $
-      fsplit ! $ fsplit ! $ move ! (1 ∷ []) $ feqL ! (λ n16. move ! (1 ∷ []) $
+      n2. move ! (1 ∷ []) $ fsplit ! $ fsplit ! $ move ! (1 ∷ []) $ feqL ! (λ n3. move ! (1 ∷ []) $ fsplit ! $ fsplit ! $ move ! (1 ∷ []) $ feqL ! (λ n4. move ! (1 ∷ []) $ fsplit ! $ drop ! $ fsplit !
+      $ fsplit ! $ move ! (1 ∷ []) $ feqL ! (λ n6. move ! (1 ∷ []) $ fsplit ! $ fsplit ! $ move ! (1 ∷ []) $ feqL ! (λ n7. move ! (1 ∷ []) $ fsplit ! $ fsplit ! $ move ! (1 ∷ []) $ feqL ! (λ n8. move
+      ! (1 ∷ []) $ fsplit ! $ fsplit ! $ move ! (1 ∷ []) $ feqL ! (λ n9. move ! (1 ∷ []) $ fsplit ! $ fsplit ! $ move ! (1 ∷ []) $ feqL ! (λ n10. move ! (1 ∷ []) $ fsplit ! $ fsplit ! $ move ! (1 ∷
+      []) $ feqL ! (λ n11. move ! (1 ∷ []) $ fsplit ! $ fsplit ! $ move ! (1 ∷ []) $ feqL ! (λ n12. move ! (1 ∷ []) $ fsplit ! $ fsplit ! $ move ! (1 ∷ []) $ feqL ! (λ n13. move ! (1 ∷ []) $ fsplit !
+      $ fsplit ! $ move ! (1 ∷ []) $ feqL ! (λ n14. move ! (1 ∷ []) $ fsplit ! $ fsplit ! $ move ! (1 ∷ []) $ feqL ! (λ n15. move ! (1 ∷ []) $ fsplit ! $ fsplit ! $ move ! (1 ∷ []) $ feqL ! (λ n16.
+      move ! (1 ∷ []) $ fsplit ! $ fsplit ! $ move ! (1 ∷ []) $ feqL ! (λ n17. move ! (1 ∷ []) $
       move ! (1 ∷ 0 ∷ []) $ fjoin ! $ move ! (1 ∷ 0 ∷ []) $ fjoin ! $ move ! (1 ∷ 0 ∷ []) $ fjoin ! $ move ! (1 ∷ 0 ∷ []) $ fjoin ! $ move ! (1 ∷ 0 ∷ []) $ fjoin ! $ move ! (1 ∷ 0 ∷ []) $ fjoin ! $
       move ! (1 ∷ 0 ∷ []) $ fjoin ! $ move ! (1 ∷ 0 ∷ []) $ fjoin ! $ move ! (1 ∷ 0 ∷ []) $ fjoin ! $ move ! (1 ∷ 0 ∷ []) $ fjoin ! $ move ! (1 ∷ 0 ∷ []) $ fjoin ! $ move ! (1 ∷ 0 ∷ []) $ fjoin ! $
-      move ! (1 ∷ 0 ∷ []) $ fjoin ! $ move ! (1 ∷ 0 ∷ []) $ fjoin ! $ move ! (1 ∷ 0 ∷ []) $ fjoin ! $ move ! (1 ∷ 0 ∷ []) $ fjoin ! $ move ! (1 ∷ 0 ∷ []) $ fjoin ! $
-      show ! (λ (ms : Lasts). guard 𝓤 (Left r ms) (sem 𝓤 H A (Fin ms))) ms $ check ! (e₁, (n0, (n1, (n2, (n3, (n4, (n5, (n6, (n7, (n8, (n9, (n10, (n11, (n12, (n13, (n14, (n15, (n16, tt)))))))))))))))))) $ done !)))))))))))))))))))
+      nothing ! $ fjoin ! $ move ! (1 ∷ 0 ∷ []) $ fjoin ! $ move ! (1 ∷ 0 ∷ []) $ fjoin ! $ move ! (1 ∷ 0 ∷ []) $ fjoin ! $ move ! (1 ∷ 0 ∷ []) $ fjoin ! $ move ! (1 ∷ 0 ∷ []) $ fjoin ! $
+      show ! (λ (ms : Lasts). guard 𝓤 (Left r ms) (sem 𝓤 H A (Fin ms))) ms $ check ! (e₁, (n0, (n1, (n2, (n3, (n4, (n6, (n7, (n8, (n9, (n10, (n11, (n12, (n13, (n14, (n15, (n16, (n17, tt)))))))))))))))))) $ done !)))))))))))))))))))
 
   module _ (C : Calls 𝓤 H) (Λ : Loops 𝓤 H) (fm : FmC 𝓤 H (W .laws) C) (known-load : Triple 𝓤 (C #load) (Load 𝓤 H A at-mem run)) (known-core : Triple 𝓤 (C #core) (Core 𝓤 H A at-mem run))
       (known-save : Triple 𝓤 (C #save) (Save 𝓤 H A at-mem run)) (known-take : Triple 𝓤 (C #take) (Take 𝓤 H A at-mem run)) (known-deposit : Triple 𝓤 (C #deposit) (Deposit 𝓤 H A at-mem run)) where
     walk : ent 𝓤 (onEntry 𝓤 H A fn.signature (κ0, (κ1, κt)) (q0, (q1, qt)) (z, (request, (xf γf, (xp, xt)))) (sizes-val z ∷ [], (request-val request ∷ [], (sf ∷ [], (vptr bp op ∷ [], vt)))))
-        (WpFn 𝓤 H C Λ code.function (sizes-val z ∷ request-val request ∷ sf ∷ vptr bp op ∷ table-val x0 ∷ table-val x1 ∷ table-val x2 ∷ table-val x3 ∷ table-val x4 ∷ table-val x5 ∷ table-val x6 ∷ table-val x7 ∷ table-val x8 ∷ table-val x9 ∷ table-val x10 ∷ table-val x11 ∷ table-val x12 ∷ table-val x13 ∷ table-val x14 ∷ table-val x15 ∷ table-val x16 ∷ []) Post)
+        (WpFn 𝓤 H C Λ code.function (sizes-val z ∷ request-val request ∷ sf ∷ vptr bp op ∷ table-val x0 ∷ table-val x1 ∷ table-val x2 ∷ table-val x3 ∷ table-val x4 ∷ table-val x5 ∷ table-val x6 ∷ table-val x7 ∷ table-val x8 ∷ table-val x9 ∷ table-val x10 ∷ table-val x11 ∷ table-val x12 ∷ table-val x13 ∷ table-val x14 ∷ table-val x15 ∷ table-val x16 ∷ table-val x17 ∷ []) Post)
     walk =
         qed W ((‵ (flft κ0 q0) ⊛ (‵ (flft κ1 q1) ⊛ tokens)) ∷ ‵ (owns (Z ∷ Q ∷ MutSlice (named 0) κ0 F ∷ MutRef (named 1) κ1 P ∷ MutSlice (named 2) κ2 u32 ∷ MutSlice (named 3) κ3 u32 ∷ MutSlice (named
-        4) κ4 u16 ∷ MutSlice (named 5) κ5 u16 ∷ MutSlice (named 6) κ6 u16 ∷ MutSlice (named 7) κ7 u32 ∷ MutSlice (named 8) κ8 u16 ∷ MutSlice (named 9) κ9 u16 ∷ MutSlice (named 10) κ10 u16 ∷ MutSlice
-        (named 11) κ11 u8 ∷ MutSlice (named 12) κ12 u8 ∷ MutSlice (named 13) κ13 u32 ∷ MutSlice (named 14) κ14 u8 ∷ MutSlice (named 15) κ15 u8 ∷ MutSlice (named 16) κ16 u16 ∷ MutSlice (named 17) κ17
-        u16 ∷ MutSlice (named 18) κ18 u16 ∷ []) (z, (request, (xf γf, (xp, xt)))) (sizes-val z ∷ [], (request-val request ∷ [], (sf ∷ [], (vptr bp op ∷ [], vt))))) ∷ []) ∵
+        4) κ4 u16 ∷ MutSlice (named 5) κ5 u16 ∷ MutSlice (named 6) κ6 u16 ∷ ShrSlice (named 7) κ7 u16 ∷ MutSlice (named 8) κ8 u32 ∷ MutSlice (named 9) κ9 u16 ∷ MutSlice (named 10) κ10 u16 ∷ MutSlice
+        (named 11) κ11 u16 ∷ MutSlice (named 12) κ12 u8 ∷ MutSlice (named 13) κ13 u8 ∷ MutSlice (named 14) κ14 u32 ∷ MutSlice (named 15) κ15 u8 ∷ MutSlice (named 16) κ16 u8 ∷ MutSlice (named 17) κ17
+        u16 ∷ MutSlice (named 18) κ18 u16 ∷ MutSlice (named 19) κ19 u16 ∷ []) (z, (request, (xf γf, (xp, xt)))) (sizes-val z ∷ [], (request-val request ∷ [], (sf ∷ [], (vptr bp op ∷ [], vt))))) ∷ [])
+        ∵
         split ! $ move ! (1 ∷ []) $ split ! $ move ! (3 ∷ []) $ fsplit ! $ drop ! $ fsplit ! $ drop ! $ fsplit ! $ move ! (1 ∷ []) $ fsplit ! $ keep ! (2 ∷ 5 ∷ 0 ∷ 3 ∷ 1 ∷ 4 ∷ []) $
         -- [what frames owns; its token; what pool owns; its token; what the slices own; their tokens]
-        enter ! C Λ code.function (sizes-val z ∷ request-val request ∷ sf ∷ vptr bp op ∷ table-val x0 ∷ table-val x1 ∷ table-val x2 ∷ table-val x3 ∷ table-val x4 ∷ table-val x5 ∷ table-val x6 ∷ table-val x7 ∷ table-val x8 ∷ table-val x9 ∷ table-val x10 ∷ table-val x11 ∷ table-val x12 ∷ table-val x13 ∷ table-val x14 ∷ table-val x15 ∷ table-val x16 ∷ []) _ $
+        enter ! C Λ code.function (sizes-val z ∷ request-val request ∷ sf ∷ vptr bp op ∷ table-val x0 ∷ table-val x1 ∷ table-val x2 ∷ table-val x3 ∷ table-val x4 ∷ table-val x5 ∷ table-val x6 ∷ table-val x7 ∷ table-val x8 ∷ table-val x9 ∷ table-val x10 ∷ table-val x11 ∷ table-val x12 ∷ table-val x13 ∷ table-val x14 ∷ table-val x15 ∷ table-val x16 ∷ table-val x17 ∷ []) _ $
         alloc1 ! (λ l0. alloc1 ! (λ l1. alloc1 ! (λ l2. alloc1 ! (λ l3. alloc1 ! (λ l4. alloc1 ! (λ l5. alloc1 ! (λ l6. alloc1 ! (λ l7. alloc1 ! (λ l8. alloc1 ! (λ l9. alloc1 ! (λ l10. alloc1 ! (λ
         l11. alloc1 ! (λ l12. alloc1 ! (λ l13. alloc1 ! (λ l14. alloc1 ! (λ l15. alloc1 ! (λ l16. alloc1 ! (λ l17. alloc1 ! (λ l18. alloc1 ! (λ l19. alloc1 ! (λ l20. alloc1 ! (λ l21. alloc1 ! (λ l22.
         alloc1 ! (λ l23. alloc1 ! (λ l24. alloc1 ! (λ l25. alloc1 ! (λ l26. alloc1 ! (λ l27. alloc1 ! (λ l28. alloc1 ! (λ l29. alloc1 ! (λ l30. alloc1 ! (λ l31. alloc1 ! (λ l32. alloc1 ! (λ l33.
         alloc1 ! (λ l34. alloc1 ! (λ l35. alloc1 ! (λ l36. alloc1 ! (λ l37. alloc1 ! (λ l38. alloc1 ! (λ l39. alloc1 ! (λ l40. alloc1 ! (λ l41. alloc1 ! (λ l42. alloc1 ! (λ l43. alloc1 ! (λ l44.
         alloc1 ! (λ l45. alloc1 ! (λ l46. alloc1 ! (λ l47. alloc1 ! (λ l48. alloc1 ! (λ l49. alloc1 ! (λ l50. alloc1 ! (λ l51. alloc1 ! (λ l52. alloc1 ! (λ l53. alloc1 ! (λ l54. alloc1 ! (λ l55.
         alloc1 ! (λ l56. alloc1 ! (λ l57. alloc1 ! (λ l58. alloc1 ! (λ l59. alloc1 ! (λ l60. alloc1 ! (λ l61. alloc1 ! (λ l62. alloc1 ! (λ l63. alloc1 ! (λ l64. alloc1 ! (λ l65. alloc1 ! (λ l66.
-        alloc0 ! $ params1 ! $
-        pass1 ! (init ! 130 refl (typed-sizes 𝓤 H A W z is-z)) $ pass1 ! (init ! 128 refl (typed-request 𝓤 H A W request is-req)) $ pass1 ! (init ! 126 refl
-        (tt, (tt, (record { fits = roomf .0 }, tt)))) $ pass1 ! (init ! 124 refl (tt, tt)) $ pass1 ! (init ! 122 refl (tt, (tt, (record { fits = room0 .0 }, tt)))) $ pass1 ! (init ! 120 refl
-        (tt, (tt, (record { fits = room1 .0 }, tt)))) $ pass1 ! (init ! 118 refl (tt, (tt, (record { fits = room2 .0 }, tt)))) $ pass1 ! (init ! 116 refl (tt, (tt, (record { fits = room3 .0 }, tt))))
-        $ pass1 ! (init ! 114 refl (tt, (tt, (record { fits = room4 .0 }, tt)))) $ pass1 ! (init ! 112 refl (tt, (tt, (record { fits = room5 .0 }, tt)))) $ pass1 ! (init ! 110 refl
-        (tt, (tt, (record { fits = room6 .0 }, tt)))) $ pass1 ! (init ! 108 refl (tt, (tt, (record { fits = room7 .0 }, tt)))) $ pass1 ! (init ! 106 refl (tt, (tt, (record { fits = room8 .0 }, tt))))
-        $ pass1 ! (init ! 104 refl (tt, (tt, (record { fits = room9 .0 }, tt)))) $ pass1 ! (init ! 102 refl (tt, (tt, (record { fits = room10 .0 }, tt)))) $ pass1 ! (init ! 100 refl
-        (tt, (tt, (record { fits = room11 .0 }, tt)))) $ pass1 ! (init ! 98 refl (tt, (tt, (record { fits = room12 .0 }, tt)))) $ pass1 ! (init ! 96 refl (tt, (tt, (record { fits = room13 .0 }, tt))))
-        $ pass1 ! (init ! 94 refl (tt, (tt, (record { fits = room14 .0 }, tt)))) $ pass1 ! (init ! 92 refl (tt, (tt, (record { fits = room15 .0 }, tt)))) $ pass1 ! (init ! 90 refl
-        (tt, (tt, (record { fits = room16 .0 }, tt)))) $ pass0 ! $
-        -- [_66 at 0; …; _i at 2 · (66 − i); …; what frames owns; …]
-        assigns ! (of-opd ! (load ! (from ! (fld ! refl (stop !))) (look-in ! 126 (sub ! 1 refl (whole !))))) (from ! (stop !)) (init ! 88 refl (tt, record { fits = roomf .0 })) $
-        reborrows ! 126 80 78 refl (sub ! 0 refl (whole !)) refl (tt, tt) refl refl (sub ! 1 refl (whole !)) refl (tt, (tt, (record { fits = roomf .0 }, tt))) $
+        alloc1 ! (λ l67. alloc0 ! $ params1 ! $
+        pass1 ! (init ! 132 refl (typed-sizes 𝓤 H A W z is-z)) $ pass1 ! (init ! 130 refl (typed-request 𝓤 H A W request is-req)) $ pass1 ! (init ! 128 refl
+        (tt, (tt, (record { fits = roomf .0 }, tt)))) $ pass1 ! (init ! 126 refl (tt, tt)) $ pass1 ! (init ! 124 refl (tt, (tt, (record { fits = room0 .0 }, tt)))) $ pass1 ! (init ! 122 refl
+        (tt, (tt, (record { fits = room1 .0 }, tt)))) $ pass1 ! (init ! 120 refl (tt, (tt, (record { fits = room2 .0 }, tt)))) $ pass1 ! (init ! 118 refl (tt, (tt, (record { fits = room3 .0 }, tt))))
+        $ pass1 ! (init ! 116 refl (tt, (tt, (record { fits = room4 .0 }, tt)))) $ pass1 ! (init ! 114 refl (tt, (tt, (record { fits = room5 .0 }, tt)))) $ pass1 ! (init ! 112 refl
+        (tt, (tt, (record { fits = room6 .0 }, tt)))) $ pass1 ! (init ! 110 refl (tt, (tt, (record { fits = room7 .0 }, tt)))) $ pass1 ! (init ! 108 refl (tt, (tt, (record { fits = room8 .0 }, tt))))
+        $ pass1 ! (init ! 106 refl (tt, (tt, (record { fits = room9 .0 }, tt)))) $ pass1 ! (init ! 104 refl (tt, (tt, (record { fits = room10 .0 }, tt)))) $ pass1 ! (init ! 102 refl
+        (tt, (tt, (record { fits = room11 .0 }, tt)))) $ pass1 ! (init ! 100 refl (tt, (tt, (record { fits = room12 .0 }, tt)))) $ pass1 ! (init ! 98 refl
+        (tt, (tt, (record { fits = room13 .0 }, tt)))) $ pass1 ! (init ! 96 refl (tt, (tt, (record { fits = room14 .0 }, tt)))) $ pass1 ! (init ! 94 refl (tt, (tt, (record { fits = room15 .0 }, tt))))
+        $ pass1 ! (init ! 92 refl (tt, (tt, (record { fits = room16 .0 }, tt)))) $ pass1 ! (init ! 90 refl (tt, (tt, (record { fits = room17 .0 }, tt)))) $ pass0 ! $
+        -- [_67 at 0; …; _i at 2 · (67 − i); …; what frames owns; …]
+        assigns ! (of-opd ! (load ! (from ! (fld ! refl (stop !))) (look-in ! 128 (sub ! 1 refl (whole !))))) (from ! (stop !)) (init ! 88 refl (tt, record { fits = roomf .0 })) $
+        reborrows ! 128 80 78 refl (sub ! 0 refl (whole !)) refl (tt, tt) refl refl (sub ! 1 refl (whole !)) refl (tt, (tt, (record { fits = roomf .0 }, tt))) $
         -- `load`: frames is lent as a `&` for a lifetime ν of the call
-        lft-new ! tt (λ ν. move ! (135 ∷ 136 ∷ []) $
+        lft-new ! tt (λ ν. move ! (137 ∷ 138 ∷ []) $
         use2 W (later (some (λ (δ : GName). ‵ (ShrSlice (named 0) (ν ∷ []) F .own (xf δ) (sf ∷ [])) ⊛ ‵ (SharedAgain F κ0 (ν ∷ []) q0 γf bf of′ ys)))) (shares-again F κ0 (ν ∷ []) q0 γf bf of′ 𝓤 H A W (named 0) (named 0) ys) $ await ! tt $ pick ! (λ δ. split ! $
         move ! (2 ∷ 0 ∷ []) $ use2 W (raw (Load 𝓤 H A at-mem run .pre (to-load 𝓤 H A at-mem run (ν ∷ []) fullShare (xf δ)))) (goes-load 𝓤 H A at-mem run W (ν ∷ []) fullShare (xf δ)) $
         calls-at ! fm (Load 𝓤 H A at-mem run) known-load (to-load 𝓤 H A at-mem run (ν ∷ []) fullShare (xf δ)) (and-then ! (load ! (from ! (stop !)) (look ! 80 refl)) (no-more !)) (λ v.
@@ -277,45 +279,45 @@ module _ {M : Type 1} (𝓤 : URA M) (H : Heap 𝓤) (A : Atoms 𝓤) (W : Given
         land ! (from ! (stop !)) (init ! 88 refl (typed64 𝓤 H A W (loaded ys) v is-a)) $
         split ! $ lft-end ! tt $ move ! (0 ∷ 2 ∷ []) $ use2 W (later (‵ (MutSlice (named 0) κ0 F .own (xf γf) (sf ∷ [])) ⊛ ‵ (flft κ0 q0))) (comes-home F κ0 (ν ∷ []) q0 γf bf of′ 𝓤 H A W (named 0) (named 0) ys roomf) $ await ! tt $ split ! $
         -- the pool is copied: its borrow is opened, and closed at the same struct
-        move ! (137 ∷ 138 ∷ []) $ fsplit3 ! $ drop ! $ opens ! tt P {h = p} bp op (λ vs. spelt ! P (Is P) (shows 𝓤 H A P) (LL.vals TP.the-type TP′.the-laws) (LL.tells TP.the-type TP′.the-laws) fullShare p vs bp op $
+        move ! (139 ∷ 140 ∷ []) $ fsplit3 ! $ drop ! $ opens ! tt P {h = p} bp op (λ vs. spelt ! P (Is P) (shows 𝓤 H A P) (LL.vals TP.the-type TP′.the-laws) (LL.tells TP.the-type TP′.the-laws) fullShare p vs bp op $
         move ! (1 ∷ []) $ peeks ! P (Is P) (shows 𝓤 H A P) p (pool-val p ∷ []) (λ was. move ! (1 ∷ 0 ∷ []) $
-        assigns ! (of-opd ! (load ! (from ! (hop ! (look ! 132 refl) (stop !))) (look-raw ! 0 refl))) (from ! (stop !)) (init ! 92 refl (typed-pool 𝓤 H A W p (pool-val p) was)) $
+        assigns ! (of-opd ! (load ! (from ! (hop ! (look ! 134 refl) (stop !))) (look-raw ! 0 refl))) (from ! (stop !)) (init ! 92 refl (typed-pool 𝓤 H A W p (pool-val p) was)) $
         closes ! tt P p (pool-val p ∷ []) bp op $ feqI ! (List Val) (vptr bp op ∷ []) (vptr bp op ∷ []) refl $ fjoin3 ! $ nothing ! $ move ! (1 ∷ 2 ∷ 0 ∷ []) $
-        -- [pool; its token; true; frames; its token; true; _66; …]
+        -- [pool; its token; true; frames; its token; true; _67; …]
         -- the slices are reborrowed
-        reborrows ! 128 82 80 refl (sub ! 0 refl (whole !)) refl (tt, tt) refl refl (sub ! 1 refl (whole !)) refl (tt, (tt, (record { fits = room0 .0 }, tt))) $
-        reborrows ! 126 78 76 refl (sub ! 0 refl (whole !)) refl (tt, tt) refl refl (sub ! 1 refl (whole !)) refl (tt, (tt, (record { fits = room1 .0 }, tt))) $
-        reborrows ! 124 74 72 refl (sub ! 0 refl (whole !)) refl (tt, tt) refl refl (sub ! 1 refl (whole !)) refl (tt, (tt, (record { fits = room2 .0 }, tt))) $
-        reborrows ! 122 70 68 refl (sub ! 0 refl (whole !)) refl (tt, tt) refl refl (sub ! 1 refl (whole !)) refl (tt, (tt, (record { fits = room3 .0 }, tt))) $
-        reborrows ! 120 66 64 refl (sub ! 0 refl (whole !)) refl (tt, tt) refl refl (sub ! 1 refl (whole !)) refl (tt, (tt, (record { fits = room4 .0 }, tt))) $
-        reborrows ! 118 62 60 refl (sub ! 0 refl (whole !)) refl (tt, tt) refl refl (sub ! 1 refl (whole !)) refl (tt, (tt, (record { fits = room5 .0 }, tt))) $
-        reborrows ! 116 58 56 refl (sub ! 0 refl (whole !)) refl (tt, tt) refl refl (sub ! 1 refl (whole !)) refl (tt, (tt, (record { fits = room6 .0 }, tt))) $
-        reborrows ! 114 54 52 refl (sub ! 0 refl (whole !)) refl (tt, tt) refl refl (sub ! 1 refl (whole !)) refl (tt, (tt, (record { fits = room7 .0 }, tt))) $
-        reborrows ! 112 50 48 refl (sub ! 0 refl (whole !)) refl (tt, tt) refl refl (sub ! 1 refl (whole !)) refl (tt, (tt, (record { fits = room8 .0 }, tt))) $
-        reborrows ! 110 46 44 refl (sub ! 0 refl (whole !)) refl (tt, tt) refl refl (sub ! 1 refl (whole !)) refl (tt, (tt, (record { fits = room9 .0 }, tt))) $
-        reborrows ! 108 42 40 refl (sub ! 0 refl (whole !)) refl (tt, tt) refl refl (sub ! 1 refl (whole !)) refl (tt, (tt, (record { fits = room10 .0 }, tt))) $
-        reborrows ! 106 38 36 refl (sub ! 0 refl (whole !)) refl (tt, tt) refl refl (sub ! 1 refl (whole !)) refl (tt, (tt, (record { fits = room11 .0 }, tt))) $
-        reborrows ! 104 34 32 refl (sub ! 0 refl (whole !)) refl (tt, tt) refl refl (sub ! 1 refl (whole !)) refl (tt, (tt, (record { fits = room12 .0 }, tt))) $
-        reborrows ! 102 30 28 refl (sub ! 0 refl (whole !)) refl (tt, tt) refl refl (sub ! 1 refl (whole !)) refl (tt, (tt, (record { fits = room13 .0 }, tt))) $
-        reborrows ! 100 26 24 refl (sub ! 0 refl (whole !)) refl (tt, tt) refl refl (sub ! 1 refl (whole !)) refl (tt, (tt, (record { fits = room14 .0 }, tt))) $
-        reborrows ! 98 22 20 refl (sub ! 0 refl (whole !)) refl (tt, tt) refl refl (sub ! 1 refl (whole !)) refl (tt, (tt, (record { fits = room15 .0 }, tt))) $
-        reborrows ! 96 18 16 refl (sub ! 0 refl (whole !)) refl (tt, tt) refl refl (sub ! 1 refl (whole !)) refl (tt, (tt, (record { fits = room16 .0 }, tt))) $
+        reborrows ! 130 82 80 refl (sub ! 0 refl (whole !)) refl (tt, tt) refl refl (sub ! 1 refl (whole !)) refl (tt, (tt, (record { fits = room0 .0 }, tt))) $
+        reborrows ! 128 78 76 refl (sub ! 0 refl (whole !)) refl (tt, tt) refl refl (sub ! 1 refl (whole !)) refl (tt, (tt, (record { fits = room1 .0 }, tt))) $
+        reborrows ! 126 74 72 refl (sub ! 0 refl (whole !)) refl (tt, tt) refl refl (sub ! 1 refl (whole !)) refl (tt, (tt, (record { fits = room2 .0 }, tt))) $
+        reborrows ! 124 70 68 refl (sub ! 0 refl (whole !)) refl (tt, tt) refl refl (sub ! 1 refl (whole !)) refl (tt, (tt, (record { fits = room3 .0 }, tt))) $
+        reborrows ! 122 66 64 refl (sub ! 0 refl (whole !)) refl (tt, tt) refl refl (sub ! 1 refl (whole !)) refl (tt, (tt, (record { fits = room4 .0 }, tt))) $
+        reborrows ! 118 62 60 refl (sub ! 0 refl (whole !)) refl (tt, tt) refl refl (sub ! 1 refl (whole !)) refl (tt, (tt, (record { fits = room6 .0 }, tt))) $
+        reborrows ! 116 58 56 refl (sub ! 0 refl (whole !)) refl (tt, tt) refl refl (sub ! 1 refl (whole !)) refl (tt, (tt, (record { fits = room7 .0 }, tt))) $
+        reborrows ! 114 54 52 refl (sub ! 0 refl (whole !)) refl (tt, tt) refl refl (sub ! 1 refl (whole !)) refl (tt, (tt, (record { fits = room8 .0 }, tt))) $
+        reborrows ! 112 50 48 refl (sub ! 0 refl (whole !)) refl (tt, tt) refl refl (sub ! 1 refl (whole !)) refl (tt, (tt, (record { fits = room9 .0 }, tt))) $
+        reborrows ! 110 46 44 refl (sub ! 0 refl (whole !)) refl (tt, tt) refl refl (sub ! 1 refl (whole !)) refl (tt, (tt, (record { fits = room10 .0 }, tt))) $
+        reborrows ! 108 42 40 refl (sub ! 0 refl (whole !)) refl (tt, tt) refl refl (sub ! 1 refl (whole !)) refl (tt, (tt, (record { fits = room11 .0 }, tt))) $
+        reborrows ! 106 38 36 refl (sub ! 0 refl (whole !)) refl (tt, tt) refl refl (sub ! 1 refl (whole !)) refl (tt, (tt, (record { fits = room12 .0 }, tt))) $
+        reborrows ! 104 34 32 refl (sub ! 0 refl (whole !)) refl (tt, tt) refl refl (sub ! 1 refl (whole !)) refl (tt, (tt, (record { fits = room13 .0 }, tt))) $
+        reborrows ! 102 30 28 refl (sub ! 0 refl (whole !)) refl (tt, tt) refl refl (sub ! 1 refl (whole !)) refl (tt, (tt, (record { fits = room14 .0 }, tt))) $
+        reborrows ! 100 26 24 refl (sub ! 0 refl (whole !)) refl (tt, tt) refl refl (sub ! 1 refl (whole !)) refl (tt, (tt, (record { fits = room15 .0 }, tt))) $
+        reborrows ! 98 22 20 refl (sub ! 0 refl (whole !)) refl (tt, tt) refl refl (sub ! 1 refl (whole !)) refl (tt, (tt, (record { fits = room16 .0 }, tt))) $
+        reborrows ! 96 18 16 refl (sub ! 0 refl (whole !)) refl (tt, tt) refl refl (sub ! 1 refl (whole !)) refl (tt, (tt, (record { fits = room17 .0 }, tt))) $
         -- the work
-        move ! (141 ∷ 140 ∷ []) $ use2 W (raw (Core 𝓤 H A at-mem run .pre (to-core v (pool-val p)))) (goes-core v (pool-val p) is-a was) $
-        calls-at ! fm (Core 𝓤 H A at-mem run) known-core (to-core v (pool-val p)) (and-then ! (load ! (from ! (stop !)) (look ! 137 refl)) (and-then ! (load ! (from ! (stop !)) (look ! 135 refl))
+        move ! (143 ∷ 142 ∷ []) $ use2 W (raw (Core 𝓤 H A at-mem run .pre (to-core v (pool-val p)))) (goes-core v (pool-val p) is-a was) $
+        calls-at ! fm (Core 𝓤 H A at-mem run) known-core (to-core v (pool-val p)) (and-then ! (load ! (from ! (stop !)) (look ! 139 refl)) (and-then ! (load ! (from ! (stop !)) (look ! 137 refl))
         (and-then ! (load ! (from ! (stop !)) (look ! 95 refl)) (and-then ! (load ! (from ! (stop !)) (look ! 93 refl)) (and-then ! (load ! (from ! (stop !)) (look ! 91 refl)) (and-then ! (load !
         (from ! (stop !)) (look ! 81 refl)) (and-then ! (load ! (from ! (stop !)) (look ! 77 refl)) (and-then ! (load ! (from ! (stop !)) (look ! 73 refl)) (and-then ! (load ! (from ! (stop !)) (look
-        ! 69 refl)) (and-then ! (load ! (from ! (stop !)) (look ! 65 refl)) (and-then ! (load ! (from ! (stop !)) (look ! 61 refl)) (and-then ! (load ! (from ! (stop !)) (look ! 57 refl)) (and-then !
-        (load ! (from ! (stop !)) (look ! 53 refl)) (and-then ! (load ! (from ! (stop !)) (look ! 49 refl)) (and-then ! (load ! (from ! (stop !)) (look ! 45 refl)) (and-then ! (load ! (from ! (stop
-        !)) (look ! 41 refl)) (and-then ! (load ! (from ! (stop !)) (look ! 37 refl)) (and-then ! (load ! (from ! (stop !)) (look ! 33 refl)) (and-then ! (load ! (from ! (stop !)) (look ! 29 refl))
-        (and-then ! (load ! (from ! (stop !)) (look ! 25 refl)) (and-then ! (load ! (from ! (stop !)) (look ! 21 refl)) (and-then ! (load ! (from ! (stop !)) (look ! 17 refl)) (no-more
-        !))))))))))))))))))))))) (λ w.
+        ! 69 refl)) (and-then ! (load ! (from ! (stop !)) (look ! 65 refl)) (and-then ! (load ! (from ! (stop !)) (look ! 121 refl)) (and-then ! (load ! (from ! (stop !)) (look ! 61 refl)) (and-then !
+        (load ! (from ! (stop !)) (look ! 57 refl)) (and-then ! (load ! (from ! (stop !)) (look ! 53 refl)) (and-then ! (load ! (from ! (stop !)) (look ! 49 refl)) (and-then ! (load ! (from ! (stop
+        !)) (look ! 45 refl)) (and-then ! (load ! (from ! (stop !)) (look ! 41 refl)) (and-then ! (load ! (from ! (stop !)) (look ! 37 refl)) (and-then ! (load ! (from ! (stop !)) (look ! 33 refl))
+        (and-then ! (load ! (from ! (stop !)) (look ! 29 refl)) (and-then ! (load ! (from ! (stop !)) (look ! 25 refl)) (and-then ! (load ! (from ! (stop !)) (look ! 21 refl)) (and-then ! (load !
+        (from ! (stop !)) (look ! 17 refl)) (no-more !)))))))))))))))))))))))) (λ w.
         use1 W (later (some (λ (out : Applied). (tokens ⊛ ‵ (O .own out (w ∷ []))) ⊛ raw (ensured 𝓤 H A core.ended (core.clauses 𝓤 H A at-mem run) κt (z, (request, (n, (loaded ys, (p, xt))))) tt out)))) (id⊢ 𝓤 _) $ await ! tt $ pick ! (λ out.
         split ! $ move ! (1 ∷ []) $ use1 W (some (λ (ms : Lasts). given (Left out ms) (‵ (Fin ms)))) (core-of out) $ pick ! (λ ms. learn ! (λ e₁.
         move ! (1 ∷ []) $ split ! $ move ! (1 ∷ []) $ peeks ! O (Is O) (shows 𝓤 H A O) out (w ∷ []) (λ is-o. drop ! $
         -- [the slices' tokens; their last lists; pool; its token; …]
-        land ! (from ! (stop !)) (init ! 90 refl (typed-out 𝓤 H A W out w is-o)) $ rewrite ! 90 (λ (u : Val). ‵ (fat fullShare TO′.mir l25 0 u)) (ap only (LL.tells TO.the-type TO′.the-laws out (w ∷ []) is-o)) refl $
-        reborrows ! 134 14 12 refl (sub ! 0 refl (whole !)) refl (tt, tt) refl refl (sub ! 1 refl (whole !)) refl (tt, (tt, (record { fits = roomf .0 }, tt))) $
+        land ! (from ! (stop !)) (init ! 90 refl (typed-out 𝓤 H A W out w is-o)) $ rewrite ! 90 (λ (u : Val). ‵ (fat fullShare TO′.mir l26 0 u)) (ap only (LL.tells TO.the-type TO′.the-laws out (w ∷ []) is-o)) refl $
+        reborrows ! 136 14 12 refl (sub ! 0 refl (whole !)) refl (tt, tt) refl refl (sub ! 1 refl (whole !)) refl (tt, (tt, (record { fits = roomf .0 }, tt))) $
         -- `save`: frames is given up for good
         move ! (6 ∷ 5 ∷ []) $ use2 W (raw (Save 𝓤 H A at-mem run .pre (to-save 𝓤 H A at-mem run κ0 q0 (xf γf) (out .frames) (fs-val out)))) (goes-save 𝓤 H A at-mem run W κ0 q0 (xf γf) (out .frames) (fs-val out) (fields out w is-o .0)) $
         calls-at ! fm (Save 𝓤 H A at-mem run) known-save (to-save 𝓤 H A at-mem run κ0 q0 (xf γf) (out .frames) (fs-val out)) (and-then ! (load ! (from ! (stop !)) (look ! 11 refl)) (and-then ! (load ! (from ! (fld ! {d = 0} refl (stop !))) (look-in ! 89 (sub ! 0 {d = 0} refl (whole !)))) (no-more !))) (λ u.
@@ -324,53 +326,53 @@ module _ {M : Type 1} (𝓤 : URA M) (H : Heap 𝓤) (A : Atoms 𝓤) (W : Given
         move ! (1 ∷ []) $ split ! $ move ! (1 ∷ []) $ peeks ! Nothing (Is Nothing) (shows 𝓤 H A Nothing) r₂ (u ∷ []) (λ is-u. drop ! $
         land ! (from ! (stop !)) (init ! 16 refl (nothing-lawful 𝓤 H A W .typed r₂ (u ∷ []) is-u .0)) $
         -- `take`: pool is lent again for a lifetime α of the call, and comes back with the record taken out
-        assigns ! (addr ! (from ! (hop ! (look ! 132 refl) (stop !)))) (from ! (stop !)) (init ! 10 refl (tt, tt)) $
+        assigns ! (addr ! (from ! (hop ! (look ! 134 refl) (stop !)))) (from ! (stop !)) (init ! 10 refl (tt, tt)) $
         lft-new ! tt (λ α. move ! (5 ∷ 6 ∷ []) $
         use2 W (later (some (λ (δ′ : GName). ‵ (MutRef (named 0) (α ∷ []) P .own (xq δ′ p) (vptr bp op ∷ [])) ⊛ ‵ (LentAgain P κ1 (α ∷ []) q1 γp bp op δ′ p)))) (lends-again 𝓤 H A W P (named 1) κ1 (α ∷ []) q1 γp bp op (named 0) p) $ await ! tt $ pick ! (λ δ′. split ! $
         move ! (2 ∷ 0 ∷ []) $ use2 W (raw (Take 𝓤 H A at-mem run .pre (to-take 𝓤 H A at-mem run (α ∷ []) fullShare (xq δ′ p) z (out .taken) (taken-val out)))) (goes-take 𝓤 H A at-mem run W (α ∷ []) fullShare (xq δ′ p) z (out .taken) (taken-val out) is-z (fields out w is-o .1 .0)) $
-        calls-at ! fm (Take 𝓤 H A at-mem run) known-take (to-take 𝓤 H A at-mem run (α ∷ []) fullShare (xq δ′ p) z (out .taken) (taken-val out)) (and-then ! (load ! (from ! (stop !)) (look ! 10 refl)) (and-then ! (load ! (from ! (stop !)) (look ! 138 refl)) (and-then ! (load ! (from ! (fld ! {d = 512} refl (stop !))) (look-in ! 90 (sub ! 1 {d = 512} refl (whole !)))) (no-more !)))) (λ u₁.
+        calls-at ! fm (Take 𝓤 H A at-mem run) known-take (to-take 𝓤 H A at-mem run (α ∷ []) fullShare (xq δ′ p) z (out .taken) (taken-val out)) (and-then ! (load ! (from ! (stop !)) (look ! 10 refl)) (and-then ! (load ! (from ! (stop !)) (look ! 140 refl)) (and-then ! (load ! (from ! (fld ! {d = 512} refl (stop !))) (look-in ! 90 (sub ! 1 {d = 512} refl (whole !)))) (no-more !)))) (λ u₁.
         use1 W (later (some (λ (r₁ : Unit {0}). ((‵ (flft (α ∷ []) fullShare) ⊛ ‵ ftrue) ⊛ ‵ (Nothing .own r₁ (u₁ ∷ []))) ⊛ raw (ensured 𝓤 H A take.ended (take.clauses 𝓤 H A at-mem run) (α ∷ [], tt) (xq δ′ p, (z, (out .taken, tt))) tt r₁)))) (id⊢ 𝓤 _) $ await ! tt $ pick ! (λ r₁.
         split ! $ move ! (1 ∷ []) $ use1 W (‵ (fres δ′ (P .coded .code (fewer out)))) (take-of 𝓤 H A at-mem run W (α ∷ []) (xq δ′ p) z (out .taken) r₁) $ move ! (1 ∷ []) $ split ! $ move ! (1 ∷ []) $ peeks ! Nothing (Is Nothing) (shows 𝓤 H A Nothing) r₁ (u₁ ∷ []) (λ is-u₁. drop ! $
         land ! (from ! (stop !)) (store ! 17 refl (nothing-lawful 𝓤 H A W .typed r₁ (u₁ ∷ []) is-u₁ .0)) $
         split ! $ lft-end ! tt $ move ! (0 ∷ 3 ∷ 2 ∷ []) $ use3 W (later (‵ (MutRef (named 1) κ1 P .own (xq γp (fewer out)) (vptr bp op ∷ [])) ⊛ ‵ (flft κ1 q1))) (comes-back 𝓤 H A W P (named 1) κ1 (α ∷ []) q1 γp bp op δ′ p (fewer out)) $ await ! tt $ split ! $
         -- `deposit`: pool is given up for good
-        assigns ! (addr ! (from ! (hop ! (look ! 133 refl) (stop !)))) (from ! (stop !)) (init ! 9 refl (tt, tt)) $
+        assigns ! (addr ! (from ! (hop ! (look ! 135 refl) (stop !)))) (from ! (stop !)) (init ! 9 refl (tt, tt)) $
         move ! (1 ∷ 0 ∷ []) $ use2 W (raw (Deposit 𝓤 H A at-mem run .pre (to-deposit 𝓤 H A at-mem run κ1 q1 (xq γp (fewer out)) (out .deposited) (deposited-val out)))) (goes-deposit 𝓤 H A at-mem run W κ1 q1 (xq γp (fewer out)) (out .deposited) (deposited-val out) (fields out w is-o .1 .1 .0)) $
         calls-at ! fm (Deposit 𝓤 H A at-mem run) known-deposit (to-deposit 𝓤 H A at-mem run κ1 q1 (xq γp (fewer out)) (out .deposited) (deposited-val out)) (and-then ! (load ! (from ! (stop !)) (look ! 8 refl)) (and-then ! (load ! (from ! (fld ! {d = 516} refl (stop !))) (look-in ! 90 (sub ! 2 {d = 516} refl (whole !)))) (no-more !))) (λ u₂.
         use1 W (later (some (λ (r₃ : Unit {0}). ((‵ (flft κ1 q1) ⊛ ‵ ftrue) ⊛ ‵ (Nothing .own r₃ (u₂ ∷ []))) ⊛ raw (ensured 𝓤 H A deposit.ended (deposit.clauses 𝓤 H A at-mem run) (κ1, tt) (xq γp (fewer out), (out .deposited, tt)) tt r₃)))) (id⊢ 𝓤 _) $ await ! tt $ pick ! (λ r₃.
         split ! $ move ! (1 ∷ []) $ use1 W (‵ (fres γp (P .coded .code (pooled out)))) (deposit-of 𝓤 H A at-mem run W κ1 (xq γp (fewer out)) (out .deposited) r₃) $ move ! (1 ∷ []) $ split ! $ move ! (1 ∷ []) $ peeks ! Nothing (Is Nothing) (shows 𝓤 H A Nothing) r₃ (u₂ ∷ []) (λ is-u₂. drop ! $
         land ! (from ! (stop !)) (store ! 17 refl (nothing-lawful 𝓤 H A W .typed r₃ (u₂ ∷ []) is-u₂ .0)) $
-        assigns ! (of-opd ! (load ! (from ! (fld ! {d = 520} refl (stop !))) (look-in ! 91 (sub ! 3 {d = 520} refl (whole !))))) (from ! (stop !)) (init ! 141 refl (typed-answer 𝓤 H A W out (fields out w is-o .1 .1 .1))) $
-        returns ! (look ! 141 refl) $
-        forget ! 141 refl $ forget ! 139 refl $ forget ! 137 refl $ forget ! 135 refl $ forget ! 133 refl $ forget ! 131 refl $ forget ! 129 refl $ forget ! 127 refl $ forget ! 125 refl $ forget ! 123
-        refl $ forget ! 121 refl $ forget ! 119 refl $ forget ! 117 refl $ forget ! 115 refl $ forget ! 113 refl $ forget ! 111 refl $ forget ! 109 refl $ forget ! 107 refl $ forget ! 105 refl $
-        forget ! 103 refl $ forget ! 101 refl $ forget ! 99 refl $ forget ! 97 refl $ forget ! 95 refl $ forget ! 93 refl $ forget ! 91 refl $ forget ! 89 refl $ forget ! 87 refl $ forget ! 85 refl $
-        forget ! 83 refl $ forget ! 81 refl $ forget ! 79 refl $ forget ! 77 refl $ forget ! 75 refl $ forget ! 73 refl $ forget ! 71 refl $ forget ! 69 refl $ forget ! 67 refl $ forget ! 65 refl $
-        forget ! 63 refl $ forget ! 61 refl $ forget ! 59 refl $ forget ! 57 refl $ forget ! 55 refl $ forget ! 53 refl $ forget ! 51 refl $ forget ! 49 refl $ forget ! 47 refl $ forget ! 45 refl $
-        forget ! 43 refl $ forget ! 41 refl $ forget ! 39 refl $ forget ! 37 refl $ forget ! 35 refl $ forget ! 33 refl $ forget ! 31 refl $ forget ! 29 refl $ forget ! 27 refl $ forget ! 25 refl $
-        forget ! 23 refl $ forget ! 21 refl $ forget ! 19 refl $ forget ! 17 refl $ forget ! 15 refl $ forget ! 13 refl $ forget ! 11 refl $ forget ! 9 refl $
-        move ! (141 ∷ 142 ∷ []) $ free1 ! $ move ! (139 ∷ 140 ∷ []) $ free1 ! $ move ! (137 ∷ 138 ∷ []) $ free1 ! $ move ! (135 ∷ 136 ∷ []) $ free1 ! $ move ! (133 ∷ 134 ∷ []) $ free1 ! $ move ! (131
-        ∷ 132 ∷ []) $ free1 ! $ move ! (129 ∷ 130 ∷ []) $ free1 ! $ move ! (127 ∷ 128 ∷ []) $ free1 ! $ move ! (125 ∷ 126 ∷ []) $ free1 ! $ move ! (123 ∷ 124 ∷ []) $ free1 ! $ move ! (121 ∷ 122 ∷ [])
-        $ free1 ! $ move ! (119 ∷ 120 ∷ []) $ free1 ! $ move ! (117 ∷ 118 ∷ []) $ free1 ! $ move ! (115 ∷ 116 ∷ []) $ free1 ! $ move ! (113 ∷ 114 ∷ []) $ free1 ! $ move ! (111 ∷ 112 ∷ []) $ free1 ! $
-        move ! (109 ∷ 110 ∷ []) $ free1 ! $ move ! (107 ∷ 108 ∷ []) $ free1 ! $ move ! (105 ∷ 106 ∷ []) $ free1 ! $ move ! (103 ∷ 104 ∷ []) $ free1 ! $ move ! (101 ∷ 102 ∷ []) $ free1 ! $ move ! (99 ∷
-        100 ∷ []) $ free1 ! $ move ! (97 ∷ 98 ∷ []) $ free1 ! $ move ! (95 ∷ 96 ∷ []) $ free1 ! $ move ! (93 ∷ 94 ∷ []) $ free1 ! $ move ! (91 ∷ 92 ∷ []) $ free1 ! $ move ! (89 ∷ 90 ∷ []) $ free1 ! $
-        move ! (87 ∷ 88 ∷ []) $ free1 ! $ move ! (85 ∷ 86 ∷ []) $ free1 ! $ move ! (83 ∷ 84 ∷ []) $ free1 ! $ move ! (81 ∷ 82 ∷ []) $ free1 ! $ move ! (79 ∷ 80 ∷ []) $ free1 ! $ move ! (77 ∷ 78 ∷ [])
-        $ free1 ! $ move ! (75 ∷ 76 ∷ []) $ free1 ! $ move ! (73 ∷ 74 ∷ []) $ free1 ! $ move ! (71 ∷ 72 ∷ []) $ free1 ! $ move ! (69 ∷ 70 ∷ []) $ free1 ! $ move ! (67 ∷ 68 ∷ []) $ free1 ! $ move ! (65
-        ∷ 66 ∷ []) $ free1 ! $ move ! (63 ∷ 64 ∷ []) $ free1 ! $ move ! (61 ∷ 62 ∷ []) $ free1 ! $ move ! (59 ∷ 60 ∷ []) $ free1 ! $ move ! (57 ∷ 58 ∷ []) $ free1 ! $ move ! (55 ∷ 56 ∷ []) $ free1 ! $
-        move ! (53 ∷ 54 ∷ []) $ free1 ! $ move ! (51 ∷ 52 ∷ []) $ free1 ! $ move ! (49 ∷ 50 ∷ []) $ free1 ! $ move ! (47 ∷ 48 ∷ []) $ free1 ! $ move ! (45 ∷ 46 ∷ []) $ free1 ! $ move ! (43 ∷ 44 ∷ [])
-        $ free1 ! $ move ! (41 ∷ 42 ∷ []) $ free1 ! $ move ! (39 ∷ 40 ∷ []) $ free1 ! $ move ! (37 ∷ 38 ∷ []) $ free1 ! $ move ! (35 ∷ 36 ∷ []) $ free1 ! $ move ! (33 ∷ 34 ∷ []) $ free1 ! $ move ! (31
-        ∷ 32 ∷ []) $ free1 ! $ move ! (29 ∷ 30 ∷ []) $ free1 ! $ move ! (27 ∷ 28 ∷ []) $ free1 ! $ move ! (25 ∷ 26 ∷ []) $ free1 ! $ move ! (23 ∷ 24 ∷ []) $ free1 ! $ move ! (21 ∷ 22 ∷ []) $ free1 ! $
-        move ! (19 ∷ 20 ∷ []) $ free1 ! $ move ! (17 ∷ 18 ∷ []) $ free1 ! $ move ! (15 ∷ 16 ∷ []) $ free1 ! $ move ! (13 ∷ 14 ∷ []) $ free1 ! $ move ! (11 ∷ 12 ∷ []) $ free1 ! $ move ! (9 ∷ 10 ∷ []) $
-        free1 ! $ free0 ! $
-        move ! (2 ∷ []) $ drop ! $ move ! (2 ∷ []) $ split ! $ move ! (2 ∷ []) $ split ! $ keep ! (2 ∷ 0 ∷ 6 ∷ 5 ∷ 4 ∷ 7 ∷ []) $ by ! (exits out zs ms e₂ e₁ (fields out w is-o)))))))))))))))))))))))))))))))))))))))))))))))))))))))))))))))))))))))))))))))))))))))))))))))
+        assigns ! (of-opd ! (load ! (from ! (fld ! {d = 520} refl (stop !))) (look-in ! 91 (sub ! 3 {d = 520} refl (whole !))))) (from ! (stop !)) (init ! 143 refl (typed-answer 𝓤 H A W out (fields out w is-o .1 .1 .1))) $
+        returns ! (look ! 143 refl) $
+        forget ! 143 refl $ forget ! 141 refl $ forget ! 139 refl $ forget ! 137 refl $ forget ! 135 refl $ forget ! 133 refl $ forget ! 131 refl $ forget ! 129 refl $ forget ! 127 refl $ forget ! 125
+        refl $ forget ! 123 refl $ forget ! 121 refl $ forget ! 119 refl $ forget ! 117 refl $ forget ! 115 refl $ forget ! 113 refl $ forget ! 111 refl $ forget ! 109 refl $ forget ! 107 refl $
+        forget ! 105 refl $ forget ! 103 refl $ forget ! 101 refl $ forget ! 99 refl $ forget ! 97 refl $ forget ! 95 refl $ forget ! 93 refl $ forget ! 91 refl $ forget ! 89 refl $ forget ! 87 refl $
+        forget ! 85 refl $ forget ! 83 refl $ forget ! 81 refl $ forget ! 79 refl $ forget ! 77 refl $ forget ! 75 refl $ forget ! 73 refl $ forget ! 71 refl $ forget ! 69 refl $ forget ! 67 refl $
+        forget ! 65 refl $ forget ! 63 refl $ forget ! 61 refl $ forget ! 59 refl $ forget ! 57 refl $ forget ! 55 refl $ forget ! 53 refl $ forget ! 51 refl $ forget ! 49 refl $ forget ! 47 refl $
+        forget ! 45 refl $ forget ! 43 refl $ forget ! 41 refl $ forget ! 39 refl $ forget ! 37 refl $ forget ! 35 refl $ forget ! 33 refl $ forget ! 31 refl $ forget ! 29 refl $ forget ! 27 refl $
+        forget ! 25 refl $ forget ! 23 refl $ forget ! 21 refl $ forget ! 19 refl $ forget ! 17 refl $ forget ! 15 refl $ forget ! 13 refl $ forget ! 11 refl $ forget ! 9 refl $
+        move ! (143 ∷ 144 ∷ []) $ free1 ! $ move ! (141 ∷ 142 ∷ []) $ free1 ! $ move ! (139 ∷ 140 ∷ []) $ free1 ! $ move ! (137 ∷ 138 ∷ []) $ free1 ! $ move ! (135 ∷ 136 ∷ []) $ free1 ! $ move ! (133
+        ∷ 134 ∷ []) $ free1 ! $ move ! (131 ∷ 132 ∷ []) $ free1 ! $ move ! (129 ∷ 130 ∷ []) $ free1 ! $ move ! (127 ∷ 128 ∷ []) $ free1 ! $ move ! (125 ∷ 126 ∷ []) $ free1 ! $ move ! (123 ∷ 124 ∷ [])
+        $ free1 ! $ move ! (121 ∷ 122 ∷ []) $ free1 ! $ move ! (119 ∷ 120 ∷ []) $ free1 ! $ move ! (117 ∷ 118 ∷ []) $ free1 ! $ move ! (115 ∷ 116 ∷ []) $ free1 ! $ move ! (113 ∷ 114 ∷ []) $ free1 ! $
+        move ! (111 ∷ 112 ∷ []) $ free1 ! $ move ! (109 ∷ 110 ∷ []) $ free1 ! $ move ! (107 ∷ 108 ∷ []) $ free1 ! $ move ! (105 ∷ 106 ∷ []) $ free1 ! $ move ! (103 ∷ 104 ∷ []) $ free1 ! $ move ! (101
+        ∷ 102 ∷ []) $ free1 ! $ move ! (99 ∷ 100 ∷ []) $ free1 ! $ move ! (97 ∷ 98 ∷ []) $ free1 ! $ move ! (95 ∷ 96 ∷ []) $ free1 ! $ move ! (93 ∷ 94 ∷ []) $ free1 ! $ move ! (91 ∷ 92 ∷ []) $ free1 !
+        $ move ! (89 ∷ 90 ∷ []) $ free1 ! $ move ! (87 ∷ 88 ∷ []) $ free1 ! $ move ! (85 ∷ 86 ∷ []) $ free1 ! $ move ! (83 ∷ 84 ∷ []) $ free1 ! $ move ! (81 ∷ 82 ∷ []) $ free1 ! $ move ! (79 ∷ 80 ∷
+        []) $ free1 ! $ move ! (77 ∷ 78 ∷ []) $ free1 ! $ move ! (75 ∷ 76 ∷ []) $ free1 ! $ move ! (73 ∷ 74 ∷ []) $ free1 ! $ move ! (71 ∷ 72 ∷ []) $ free1 ! $ move ! (69 ∷ 70 ∷ []) $ free1 ! $ move !
+        (67 ∷ 68 ∷ []) $ free1 ! $ move ! (65 ∷ 66 ∷ []) $ free1 ! $ move ! (63 ∷ 64 ∷ []) $ free1 ! $ move ! (61 ∷ 62 ∷ []) $ free1 ! $ move ! (59 ∷ 60 ∷ []) $ free1 ! $ move ! (57 ∷ 58 ∷ []) $ free1
+        ! $ move ! (55 ∷ 56 ∷ []) $ free1 ! $ move ! (53 ∷ 54 ∷ []) $ free1 ! $ move ! (51 ∷ 52 ∷ []) $ free1 ! $ move ! (49 ∷ 50 ∷ []) $ free1 ! $ move ! (47 ∷ 48 ∷ []) $ free1 ! $ move ! (45 ∷ 46 ∷
+        []) $ free1 ! $ move ! (43 ∷ 44 ∷ []) $ free1 ! $ move ! (41 ∷ 42 ∷ []) $ free1 ! $ move ! (39 ∷ 40 ∷ []) $ free1 ! $ move ! (37 ∷ 38 ∷ []) $ free1 ! $ move ! (35 ∷ 36 ∷ []) $ free1 ! $ move !
+        (33 ∷ 34 ∷ []) $ free1 ! $ move ! (31 ∷ 32 ∷ []) $ free1 ! $ move ! (29 ∷ 30 ∷ []) $ free1 ! $ move ! (27 ∷ 28 ∷ []) $ free1 ! $ move ! (25 ∷ 26 ∷ []) $ free1 ! $ move ! (23 ∷ 24 ∷ []) $ free1
+        ! $ move ! (21 ∷ 22 ∷ []) $ free1 ! $ move ! (19 ∷ 20 ∷ []) $ free1 ! $ move ! (17 ∷ 18 ∷ []) $ free1 ! $ move ! (15 ∷ 16 ∷ []) $ free1 ! $ move ! (13 ∷ 14 ∷ []) $ free1 ! $ move ! (11 ∷ 12 ∷
+        []) $ free1 ! $ move ! (9 ∷ 10 ∷ []) $ free1 ! $ free0 ! $
+        move ! (2 ∷ []) $ drop ! $ move ! (2 ∷ []) $ split ! $ move ! (2 ∷ []) $ split ! $ keep ! (2 ∷ 0 ∷ 6 ∷ 5 ∷ 4 ∷ 7 ∷ []) $ by ! (exits out zs ms e₂ e₁ (fields out w is-o))))))))))))))))))))))))))))))))))))))))))))))))))))))))))))))))))))))))))))))))))))))))))))))))
 
 module _ {M : Type 1} (𝓤 : URA M) (H : Heap 𝓤) (A : Atoms 𝓤) (W : Given 𝓤 H A) (at-mem : Memory → SProp 𝓤) (run : Routine → Fun 𝓤) where
   walks : (C : Calls 𝓤 H) (Λ : Loops 𝓤 H) → FmC 𝓤 H (W .laws) C → Triple 𝓤 (C #load) (Load 𝓤 H A at-mem run) → Triple 𝓤 (C #core) (Core 𝓤 H A at-mem run) → Triple 𝓤 (C #save) (Save 𝓤 H A at-mem run) → Triple 𝓤 (C #take) (Take 𝓤 H A at-mem run) → Triple 𝓤 (C #deposit) (Deposit 𝓤 H A at-mem run)
       → Walks 𝓤 H A fn.ended stayed (WpFn 𝓤 H C Λ code.function) (fn.clauses 𝓤 H A at-mem run)
   walks C Λ fm known-load known-core known-save known-take known-deposit = walked 𝓤 H A fn.ended stayed (fn.clauses 𝓤 H A at-mem run) (WpFn 𝓤 H C Λ code.function)
-      (λ κs. (sizes-vals, (request-vals, (slice-vals, (ptr-vals, (slice-vals, (slice-vals, (slice-vals, (slice-vals, (slice-vals, (slice-vals, (slice-vals, (slice-vals, (slice-vals, (slice-vals, (slice-vals, (slice-vals, (slice-vals, (slice-vals, (slice-vals, (slice-vals, (slice-vals, tt))))))))))))))))))))))
-      (λ (κ0, (κ1, (κ2, (κ3, (κ4, (κ5, (κ6, (κ7, (κ8, (κ9, (κ10, (κ11, (κ12, (κ13, (κ14, (κ15, (κ16, (κ17, (κ18, _))))))))))))))))))).
-      (sizes-tells, (request-tells, (mut 0 κ0 F, (mut-tells (named 1) κ1 P, (mut 2 κ2 u32, (mut 3 κ3 u32, (mut 4 κ4 u16, (mut 5 κ5 u16, (mut 6 κ6 u16, (mut 7 κ7 u32, (mut 8 κ8 u16, (mut 9 κ9 u16, (mut 10 κ10 u16, (mut 11 κ11 u8, (mut 12 κ12 u8, (mut 13 κ13 u32, (mut 14 κ14 u8, (mut 15 κ15 u8, (mut 16 κ16 u16, (mut 17 κ17 u16, (mut 18 κ18 u16, tt))))))))))))))))))))))
+      (λ κs. (sizes-vals, (request-vals, (slice-vals, (ptr-vals, (slice-vals, (slice-vals, (slice-vals, (slice-vals, (slice-vals, (slice-vals, (slice-vals, (slice-vals, (slice-vals, (slice-vals, (slice-vals, (slice-vals, (slice-vals, (slice-vals, (slice-vals, (slice-vals, (slice-vals, (slice-vals, tt)))))))))))))))))))))))
+      (λ (κ0, (κ1, (κ2, (κ3, (κ4, (κ5, (κ6, (κ7, (κ8, (κ9, (κ10, (κ11, (κ12, (κ13, (κ14, (κ15, (κ16, (κ17, (κ18, (κ19, _)))))))))))))))))))).
+      (sizes-tells, (request-tells, (mut 0 κ0 F, (mut-tells (named 1) κ1 P, (mut 2 κ2 u32, (mut 3 κ3 u32, (mut 4 κ4 u16, (mut 5 κ5 u16, (mut 6 κ6 u16, (shr 7 κ7 u16, (mut 8 κ8 u32, (mut 9 κ9 u16, (mut 10 κ10 u16, (mut 11 κ11 u16, (mut 12 κ12 u8, (mut 13 κ13 u8, (mut 14 κ14 u32, (mut 15 κ15 u8, (mut 16 κ16 u8, (mut 17 κ17 u16, (mut 18 κ18 u16, (mut 19 κ19 u16, tt)))))))))))))))))))))))
       (λ κs qs bounds a g are. via 𝓤 _ (fst∗ 𝓤 _ (emp 𝓤))
       (walk 𝓤 H A W at-mem run (κs .0) (qs .0) (κs .1 .0) (qs .1 .0) (κs .1 .1 .0) (qs .1 .1 .0) (κs .1 .1 .1 .0) (qs .1 .1 .1 .0) (κs .1 .1 .1 .1 .0) (qs .1 .1 .1 .1 .0) (κs .1 .1 .1 .1 .1 .0) (qs .1
       .1 .1 .1 .1 .0) (κs .1 .1 .1 .1 .1 .1 .0) (qs .1 .1 .1 .1 .1 .1 .0) (κs .1 .1 .1 .1 .1 .1 .1 .0) (qs .1 .1 .1 .1 .1 .1 .1 .0) (κs .1 .1 .1 .1 .1 .1 .1 .1 .0) (qs .1 .1 .1 .1 .1 .1 .1 .1 .0) (κs
@@ -378,8 +380,8 @@ module _ {M : Type 1} (𝓤 : URA M) (H : Heap 𝓤) (A : Atoms 𝓤) (W : Given
       .1 .1 .1 .1 .1 .1 .1 .1 .1 .0) (κs .1 .1 .1 .1 .1 .1 .1 .1 .1 .1 .1 .1 .0) (qs .1 .1 .1 .1 .1 .1 .1 .1 .1 .1 .1 .1 .0) (κs .1 .1 .1 .1 .1 .1 .1 .1 .1 .1 .1 .1 .1 .0) (qs .1 .1 .1 .1 .1 .1 .1 .1
       .1 .1 .1 .1 .1 .0) (κs .1 .1 .1 .1 .1 .1 .1 .1 .1 .1 .1 .1 .1 .1 .0) (qs .1 .1 .1 .1 .1 .1 .1 .1 .1 .1 .1 .1 .1 .1 .0) (κs .1 .1 .1 .1 .1 .1 .1 .1 .1 .1 .1 .1 .1 .1 .1 .0) (qs .1 .1 .1 .1 .1 .1
       .1 .1 .1 .1 .1 .1 .1 .1 .1 .0) (κs .1 .1 .1 .1 .1 .1 .1 .1 .1 .1 .1 .1 .1 .1 .1 .1 .0) (qs .1 .1 .1 .1 .1 .1 .1 .1 .1 .1 .1 .1 .1 .1 .1 .1 .0) (κs .1 .1 .1 .1 .1 .1 .1 .1 .1 .1 .1 .1 .1 .1 .1 .1
-      .1 .0) (qs .1 .1 .1 .1 .1 .1 .1 .1 .1 .1 .1 .1 .1 .1 .1 .1 .1 .0) (κs .1 .1 .1 .1 .1 .1 .1 .1 .1 .1 .1 .1 .1 .1 .1 .1 .1 .1 .0) (qs .1 .1 .1 .1 .1 .1 .1 .1 .1 .1 .1 .1 .1 .1 .1 .1 .1 .1 .0) (a
-      .0) (a .1 .0)
+      .1 .0) (qs .1 .1 .1 .1 .1 .1 .1 .1 .1 .1 .1 .1 .1 .1 .1 .1 .1 .0) (κs .1 .1 .1 .1 .1 .1 .1 .1 .1 .1 .1 .1 .1 .1 .1 .1 .1 .1 .0) (qs .1 .1 .1 .1 .1 .1 .1 .1 .1 .1 .1 .1 .1 .1 .1 .1 .1 .1 .0) (κs
+      .1 .1 .1 .1 .1 .1 .1 .1 .1 .1 .1 .1 .1 .1 .1 .1 .1 .1 .1 .0) (qs .1 .1 .1 .1 .1 .1 .1 .1 .1 .1 .1 .1 .1 .1 .1 .1 .1 .1 .1 .0) (a .0) (a .1 .0)
       (a .1 .1 .0 .ptr .0) (a .1 .1 .0 .ptr .1) (a .1 .1 .0 .name) (a .1 .1 .0 .now) (are .1 .1 .0 .0 .1) (a .1 .1 .1 .0 .ptr .0) (a .1 .1 .1 .0 .ptr .1) (a .1 .1 .1 .0 .name) (a .1 .1 .1 .0 .now)
       (a .1 .1 .1 .1 .0) (are .1 .1 .1 .1 .0 .0 .1) (a .1 .1 .1 .1 .1 .0) (are .1 .1 .1 .1 .1 .0 .0 .1) (a .1 .1 .1 .1 .1 .1 .0) (are .1 .1 .1 .1 .1 .1 .0 .0 .1) (a .1 .1 .1 .1 .1 .1 .1 .0) (are .1 .1
       .1 .1 .1 .1 .1 .0 .0 .1) (a .1 .1 .1 .1 .1 .1 .1 .1 .0) (are .1 .1 .1 .1 .1 .1 .1 .1 .0 .0 .1) (a .1 .1 .1 .1 .1 .1 .1 .1 .1 .0) (are .1 .1 .1 .1 .1 .1 .1 .1 .1 .0 .0 .1) (a .1 .1 .1 .1 .1 .1 .1
@@ -389,15 +391,17 @@ module _ {M : Type 1} (𝓤 : URA M) (H : Heap 𝓤) (A : Atoms 𝓤) (W : Given
       .1 .1 .1 .1 .1 .1 .1 .1 .1 .0) (are .1 .1 .1 .1 .1 .1 .1 .1 .1 .1 .1 .1 .1 .1 .1 .1 .0 .0 .1) (a .1 .1 .1 .1 .1 .1 .1 .1 .1 .1 .1 .1 .1 .1 .1 .1 .1 .0) (are .1 .1 .1 .1 .1 .1 .1 .1 .1 .1 .1 .1
       .1 .1 .1 .1 .1 .0 .0 .1) (a .1 .1 .1 .1 .1 .1 .1 .1 .1 .1 .1 .1 .1 .1 .1 .1 .1 .1 .0) (are .1 .1 .1 .1 .1 .1 .1 .1 .1 .1 .1 .1 .1 .1 .1 .1 .1 .1 .0 .0 .1) (a .1 .1 .1 .1 .1 .1 .1 .1 .1 .1 .1 .1
       .1 .1 .1 .1 .1 .1 .1 .0) (are .1 .1 .1 .1 .1 .1 .1 .1 .1 .1 .1 .1 .1 .1 .1 .1 .1 .1 .1 .0 .0 .1) (a .1 .1 .1 .1 .1 .1 .1 .1 .1 .1 .1 .1 .1 .1 .1 .1 .1 .1 .1 .1 .0) (are .1 .1 .1 .1 .1 .1 .1 .1
-      .1 .1 .1 .1 .1 .1 .1 .1 .1 .1 .1 .1 .0 .0 .1) (are .0) (are .1 .0) C Λ fm known-load known-core known-save known-take known-deposit))
+      .1 .1 .1 .1 .1 .1 .1 .1 .1 .1 .1 .1 .0 .0 .1) (a .1 .1 .1 .1 .1 .1 .1 .1 .1 .1 .1 .1 .1 .1 .1 .1 .1 .1 .1 .1 .1 .0) (are .1 .1 .1 .1 .1 .1 .1 .1 .1 .1 .1 .1 .1 .1 .1 .1 .1 .1 .1 .1 .1 .0 .0 .1)
+      (are .0) (are .1 .0) C Λ fm known-load known-core known-save known-take known-deposit))
 
 meets : {M : Type 1} (𝓤 : URA M) (H : Heap 𝓤) (A : Atoms 𝓤) → Given 𝓤 H A → (at-mem : Memory → SProp 𝓤) (run : Routine → Fun 𝓤) (𝓣 : Tables 𝓤 H)
     → Triple 𝓤 (𝓣 .C #load) (Load 𝓤 H A at-mem run) → Triple 𝓤 (𝓣 .C #core) (Core 𝓤 H A at-mem run) → Triple 𝓤 (𝓣 .C #save) (Save 𝓤 H A at-mem run) → Triple 𝓤 (𝓣 .C #take) (Take 𝓤 H A at-mem run) → Triple 𝓤 (𝓣 .C #deposit) (Deposit 𝓤 H A at-mem run)
     → Meets 𝓤 H A fn.signature (WpFn 𝓤 H (𝓣 .C) (𝓣 .Λ) code.function) (fn.spec 𝓤 H A at-mem run)
 meets 𝓤 H A W at-mem run 𝓣 known-load known-core known-save known-take known-deposit =
-    let v = goes-value 𝓤 H A W 19 in let g = goes-gave 𝓤 H A W 19 in
+    let v = goes-value 𝓤 H A W 20 in let g = goes-gave 𝓤 H A W 20 in let h = goes-seen 𝓤 H A W 20 in
     walk-meets 𝓤 H A fn.ended stayed W
-    (v Z (λ κs x f. refl), (v Q (λ κs x f. refl), (g 0 tt F, (goes-gave-ref 𝓤 H A W 19 1 tt (plain (λ _. P)), (g 2 tt u32, (g 3 tt u32, (g 4 tt u16, (g 5 tt u16, (g 6 tt u16, (g 7 tt u32, (g 8 tt u16, (g 9 tt u16, (g 10 tt u16, (g 11 tt u8, (g 12 tt u8, (g 13 tt u32, (g 14 tt u8, (g 15 tt u8, (g 16 tt u16, (g 17 tt u16, (g 18 tt u16, tt))))))))))))))))))))) (fn.clauses 𝓤 H A at-mem run)
+    (v Z (λ κs x f. refl), (v Q (λ κs x f. refl), (g 0 tt F, (goes-gave-ref 𝓤 H A W 20 1 tt (plain (λ _. P)), (g 2 tt u32, (g 3 tt u32, (g 4 tt u16, (g 5 tt u16, (g 6 tt u16, (h 7 tt u16, (g 8 tt u32, (g 9 tt u16, (g 10 tt u16, (g 11 tt u16, (g 12 tt u8, (g 13 tt u8, (g 14 tt u32, (g 15 tt u8, (g 16 tt u8, (g 17 tt u16, (g 18 tt u16, (g 19 tt u16, tt))))))))))))))))))))))
+    (fn.clauses 𝓤 H A at-mem run)
     (WpFn 𝓤 H (𝓣 .C) (𝓣 .Λ) code.function) (WpFn-mono 𝓤 H (W .laws) 𝓣 code.function) (walks 𝓤 H A W at-mem run (𝓣 .C) (𝓣 .Λ) (fmOf 𝓤 H (W .laws) 𝓣) known-load known-core known-save known-take known-deposit)
 
 pub keeper-apply-spec : {M : Type 1} → stated.statement M

@@ -82,8 +82,8 @@ use Rattle.keeper.proofs.keeper_apply_all.Code as code
 
 abbrev stayed : Stays (fn.ended .signature .params) (fn.ended .kept)
 stayed =
-    let v = value 21 in let g = gave 21 in let h = seen 21 in
-    (v Z, (h 0 tt u32, (g 1 tt u32, (g 2 tt F, (gave-ref (3 ∷ []) tt (plain (λ _. P)), (g 4 tt u32, (g 5 tt u32, (g 6 tt u16, (g 7 tt u16, (g 8 tt u16, (g 9 tt u32, (g 10 tt u16, (g 11 tt u16, (g 12 tt u16, (g 13 tt u8, (g 14 tt u8, (g 15 tt u32, (g 16 tt u8, (g 17 tt u8, (g 18 tt u16, (g 19 tt u16, (g 20 tt u16, tt))))))))))))))))))))))
+    let v = value 22 in let g = gave 22 in let h = seen 22 in
+    (v Z, (h 0 tt u32, (g 1 tt u32, (g 2 tt F, (gave-ref (3 ∷ []) tt (plain (λ _. P)), (g 4 tt u32, (g 5 tt u32, (g 6 tt u16, (g 7 tt u16, (g 8 tt u16, (h 9 tt u16, (g 10 tt u32, (g 11 tt u16, (g 12 tt u16, (g 13 tt u16, (g 14 tt u8, (g 15 tt u8, (g 16 tt u32, (g 17 tt u8, (g 18 tt u8, (g 19 tt u16, (g 20 tt u16, (g 21 tt u16, tt)))))))))))))))))))))))
 
 module _ {M : Type 1} (𝓤 : URA M) (H : Heap 𝓤) (A : Atoms 𝓤) (at-mem : Memory → SProp 𝓤) (run : Routine → Fun 𝓤) where
   abbrev Core : Contract 𝓤
@@ -92,45 +92,45 @@ module _ {M : Type 1} (𝓤 : URA M) (H : Heap 𝓤) (A : Atoms 𝓤) (at-mem : 
 module _ {M : Type 1} (𝓤 : URA M) (H : Heap 𝓤) (A : Atoms 𝓤) (W : Given 𝓤 H A) (at-mem : Memory → SProp 𝓤) (run : Routine → Fun 𝓤) (κ0 : Lft) (q0 : Share) (κ1 : Lft) (q1 : Share) (κ2 : Lft) (q2 :
     Share) (κ3 : Lft) (q3 : Share) (κ4 : Lft) (q4 : Share) (κ5 : Lft) (q5 : Share) (κ6 : Lft) (q6 : Share) (κ7 : Lft) (q7 : Share) (κ8 : Lft) (q8 : Share) (κ9 : Lft) (q9 : Share) (κ10 : Lft) (q10 :
     Share) (κ11 : Lft) (q11 : Share) (κ12 : Lft) (q12 : Share) (κ13 : Lft) (q13 : Share) (κ14 : Lft) (q14 : Share) (κ15 : Lft) (q15 : Share) (κ16 : Lft) (q16 : Share) (κ17 : Lft) (q17 : Share) (κ18 :
-    Lft) (q18 : Share) (κ19 : Lft) (q19 : Share) (κ20 : Lft) (q20 : Share)
+    Lft) (q18 : Share) (κ19 : Lft) (q19 : Share) (κ20 : Lft) (q20 : Share) (κ21 : Lft) (q21 : Share)
     (z : Sizes)
     (bf of′ : ℕ) (γf : GName) (ys : List Frame) (roomf : Room F (length ys)) (bp op : ℕ) (γp : GName) (p : Pool) (x0 : RefT (List ℕ)) (room0 : Room u32 (length (now x0))) (x1 : RefT (List ℕ)) (room1 :
     Room u32 (length (now x1))) (x2 : RefT (List ℕ)) (room2 : Room u32 (length (now x2))) (x3 : RefT (List ℕ)) (room3 : Room u32 (length (now x3))) (x4 : RefT (List ℕ)) (room4 : Room u16 (length (now
-    x4))) (x5 : RefT (List ℕ)) (room5 : Room u16 (length (now x5))) (x6 : RefT (List ℕ)) (room6 : Room u16 (length (now x6))) (x7 : RefT (List ℕ)) (room7 : Room u32 (length (now x7))) (x8 : RefT (List
-    ℕ)) (room8 : Room u16 (length (now x8))) (x9 : RefT (List ℕ)) (room9 : Room u16 (length (now x9))) (x10 : RefT (List ℕ)) (room10 : Room u16 (length (now x10))) (x11 : RefT (List ℕ)) (room11 : Room
-    u8 (length (now x11))) (x12 : RefT (List ℕ)) (room12 : Room u8 (length (now x12))) (x13 : RefT (List ℕ)) (room13 : Room u32 (length (now x13))) (x14 : RefT (List ℕ)) (room14 : Room u8 (length (now
-    x14))) (x15 : RefT (List ℕ)) (room15 : Room u8 (length (now x15))) (x16 : RefT (List ℕ)) (room16 : Room u16 (length (now x16))) (x17 : RefT (List ℕ)) (room17 : Room u16 (length (now x17))) (x18 :
-    RefT (List ℕ)) (room18 : Room u16 (length (now x18))) (is-z : Is Z z (sizes-vals z)) where
+    x4))) (x5 : RefT (List ℕ)) (room5 : Room u16 (length (now x5))) (x6 : RefT (List ℕ)) (room6 : Room u16 (length (now x6))) (x7 : RefT (List ℕ)) (room7 : Room u16 (length (now x7))) (x8 : RefT (List
+    ℕ)) (room8 : Room u32 (length (now x8))) (x9 : RefT (List ℕ)) (room9 : Room u16 (length (now x9))) (x10 : RefT (List ℕ)) (room10 : Room u16 (length (now x10))) (x11 : RefT (List ℕ)) (room11 : Room
+    u16 (length (now x11))) (x12 : RefT (List ℕ)) (room12 : Room u8 (length (now x12))) (x13 : RefT (List ℕ)) (room13 : Room u8 (length (now x13))) (x14 : RefT (List ℕ)) (room14 : Room u32 (length
+    (now x14))) (x15 : RefT (List ℕ)) (room15 : Room u8 (length (now x15))) (x16 : RefT (List ℕ)) (room16 : Room u8 (length (now x16))) (x17 : RefT (List ℕ)) (room17 : Room u16 (length (now x17)))
+    (x18 : RefT (List ℕ)) (room18 : Room u16 (length (now x18))) (x19 : RefT (List ℕ)) (room19 : Room u16 (length (now x19))) (is-z : Is Z z (sizes-vals z)) where
   -- the lifetimes, shares, references and machine values of requests, answers and tables, and their tokens
-  abbrev κt : Lfts 19
-  κt = (κ0, (κ1, (κ4, (κ5, (κ6, (κ7, (κ8, (κ9, (κ10, (κ11, (κ12, (κ13, (κ14, (κ15, (κ16, (κ17, (κ18, (κ19, (κ20, tt)))))))))))))))))))
+  abbrev κt : Lfts 20
+  κt = (κ0, (κ1, (κ4, (κ5, (κ6, (κ7, (κ8, (κ9, (κ10, (κ11, (κ12, (κ13, (κ14, (κ15, (κ16, (κ17, (κ18, (κ19, (κ20, (κ21, tt))))))))))))))))))))
 
-  abbrev qt : Shares 19
-  qt = (q0, (q1, (q4, (q5, (q6, (q7, (q8, (q9, (q10, (q11, (q12, (q13, (q14, (q15, (q16, (q17, (q18, (q19, (q20, tt)))))))))))))))))))
+  abbrev qt : Shares 20
+  qt = (q0, (q1, (q4, (q5, (q6, (q7, (q8, (q9, (q10, (q11, (q12, (q13, (q14, (q15, (q16, (q17, (q18, (q19, (q20, (q21, tt))))))))))))))))))))
 
   abbrev xs : EachTable (RefT (List ℕ))
-  xs = (x2, (x3, (x4, (x5, (x6, (x7, (x8, (x9, (x10, (x11, (x12, (x13, (x14, (x15, (x16, (x17, (x18, tt)))))))))))))))))
+  xs = (x2, (x3, (x4, (x5, (x6, (x7, (x8, (x9, (x10, (x11, (x12, (x13, (x14, (x15, (x16, (x17, (x18, (x19, tt))))))))))))))))))
 
   abbrev xt : RefT (List ℕ) × (RefT (List ℕ) × EachTable (RefT (List ℕ)))
   xt = (x0, (x1, xs))
 
   abbrev vs : EachTable (List Val)
-  vs = (table-val x2 ∷ [], (table-val x3 ∷ [], (table-val x4 ∷ [], (table-val x5 ∷ [], (table-val x6 ∷ [], (table-val x7 ∷ [], (table-val x8 ∷ [], (table-val x9 ∷ [], (table-val x10 ∷ [], (table-val x11 ∷ [], (table-val x12 ∷ [], (table-val x13 ∷ [], (table-val x14 ∷ [], (table-val x15 ∷ [], (table-val x16 ∷ [], (table-val x17 ∷ [], (table-val x18 ∷ [], tt)))))))))))))))))
+  vs = (table-val x2 ∷ [], (table-val x3 ∷ [], (table-val x4 ∷ [], (table-val x5 ∷ [], (table-val x6 ∷ [], (table-val x7 ∷ [], (table-val x8 ∷ [], (table-val x9 ∷ [], (table-val x10 ∷ [], (table-val x11 ∷ [], (table-val x12 ∷ [], (table-val x13 ∷ [], (table-val x14 ∷ [], (table-val x15 ∷ [], (table-val x16 ∷ [], (table-val x17 ∷ [], (table-val x18 ∷ [], (table-val x19 ∷ [], tt))))))))))))))))))
 
   abbrev vt : List Val × (List Val × EachTable (List Val))
   vt = (table-val x0 ∷ [], (table-val x1 ∷ [], vs))
 
   abbrev tokens : Item 𝓤
   tokens = (‵ (flft κ0 q0) ⊛ (‵ (flft κ1 q1) ⊛ (‵ (flft κ4 q4) ⊛ (‵ (flft κ5 q5) ⊛ (‵ (flft κ6 q6) ⊛ (‵ (flft κ7 q7) ⊛ (‵ (flft κ8 q8) ⊛ (‵ (flft κ9 q9) ⊛ (‵ (flft κ10 q10) ⊛ (‵ (flft κ11 q11) ⊛ (‵
-      (flft κ12 q12) ⊛ (‵ (flft κ13 q13) ⊛ (‵ (flft κ14 q14) ⊛ (‵ (flft κ15 q15) ⊛ (‵ (flft κ16 q16) ⊛ (‵ (flft κ17 q17) ⊛ (‵ (flft κ18 q18) ⊛ (‵ (flft κ19 q19) ⊛ (‵ (flft κ20 q20) ⊛ ‵
-      ftrue)))))))))))))))))))
+      (flft κ12 q12) ⊛ (‵ (flft κ13 q13) ⊛ (‵ (flft κ14 q14) ⊛ (‵ (flft κ15 q15) ⊛ (‵ (flft κ16 q16) ⊛ (‵ (flft κ17 q17) ⊛ (‵ (flft κ18 q18) ⊛ (‵ (flft κ19 q19) ⊛ (‵ (flft κ20 q20) ⊛ (‵ (flft κ21 q21)
+      ⊛ ‵ ftrue))))))))))))))))))))
 
   -- the parameters, and their machine values
-  abbrev κa : Lfts 21
-  κa = (κ0, (κ1, (κ2, (κ3, (κ4, (κ5, (κ6, (κ7, (κ8, (κ9, (κ10, (κ11, (κ12, (κ13, (κ14, (κ15, (κ16, (κ17, (κ18, (κ19, (κ20, tt)))))))))))))))))))))
+  abbrev κa : Lfts 22
+  κa = (κ0, (κ1, (κ2, (κ3, (κ4, (κ5, (κ6, (κ7, (κ8, (κ9, (κ10, (κ11, (κ12, (κ13, (κ14, (κ15, (κ16, (κ17, (κ18, (κ19, (κ20, (κ21, tt))))))))))))))))))))))
 
-  abbrev qa : Shares 21
-  qa = (q0, (q1, (q2, (q3, (q4, (q5, (q6, (q7, (q8, (q9, (q10, (q11, (q12, (q13, (q14, (q15, (q16, (q17, (q18, (q19, (q20, tt)))))))))))))))))))))
+  abbrev qa : Shares 22
+  qa = (q0, (q1, (q2, (q3, (q4, (q5, (q6, (q7, (q8, (q9, (q10, (q11, (q12, (q13, (q14, (q15, (q16, (q17, (q18, (q19, (q20, (q21, tt))))))))))))))))))))))
 
   abbrev n : ℕ
   n = length ys
@@ -161,55 +161,55 @@ module _ {M : Type 1} (𝓤 : URA M) (H : Heap 𝓤) (A : Atoms 𝓤) (W : Given
 
   -- what the slices have at the end, and what the work's contract says of it
   abbrev Lasts : Type 0
-  Lasts = Unit {0} × (Unit {0} × (Unit {0} × (Unit {0} × (Unit {0} × (List ℕ × (List ℕ × (List ℕ × (List ℕ × (List ℕ × (List ℕ × (List ℕ × (List ℕ × (List ℕ × (List ℕ × (List ℕ × (List ℕ × (List ℕ × (List ℕ × (List ℕ × (List ℕ × (List ℕ × (List ℕ × (Unit {0})))))))))))))))))))))))
+  Lasts = Unit {0} × (Unit {0} × (Unit {0} × (Unit {0} × (Unit {0} × (List ℕ × (List ℕ × (List ℕ × (List ℕ × (List ℕ × (List ℕ × (Unit {0} × (List ℕ × (List ℕ × (List ℕ × (List ℕ × (List ℕ × (List ℕ × (List ℕ × (List ℕ × (List ℕ × (List ℕ × (List ℕ × (List ℕ × (Unit {0}))))))))))))))))))))))))
 
   abbrev Fin : Lasts → Fml
   Fin ms = fsep (finally u32 (name x1) (ms .1 .1 .1 .1 .1 .0)) (fsep (finally u32 (name x2) (ms .1 .1 .1 .1 .1 .1 .0)) (fsep (finally u32 (name x3) (ms .1 .1 .1 .1 .1 .1 .1 .0)) (fsep (finally u16
-      (name x4) (ms .1 .1 .1 .1 .1 .1 .1 .1 .0)) (fsep (finally u16 (name x5) (ms .1 .1 .1 .1 .1 .1 .1 .1 .1 .0)) (fsep (finally u16 (name x6) (ms .1 .1 .1 .1 .1 .1 .1 .1 .1 .1 .0)) (fsep (finally u32
-      (name x7) (ms .1 .1 .1 .1 .1 .1 .1 .1 .1 .1 .1 .0)) (fsep (finally u16 (name x8) (ms .1 .1 .1 .1 .1 .1 .1 .1 .1 .1 .1 .1 .0)) (fsep (finally u16 (name x9) (ms .1 .1 .1 .1 .1 .1 .1 .1 .1 .1 .1 .1
-      .1 .0)) (fsep (finally u16 (name x10) (ms .1 .1 .1 .1 .1 .1 .1 .1 .1 .1 .1 .1 .1 .1 .0)) (fsep (finally u8 (name x11) (ms .1 .1 .1 .1 .1 .1 .1 .1 .1 .1 .1 .1 .1 .1 .1 .0)) (fsep (finally u8
-      (name x12) (ms .1 .1 .1 .1 .1 .1 .1 .1 .1 .1 .1 .1 .1 .1 .1 .1 .0)) (fsep (finally u32 (name x13) (ms .1 .1 .1 .1 .1 .1 .1 .1 .1 .1 .1 .1 .1 .1 .1 .1 .1 .0)) (fsep (finally u8 (name x14) (ms .1
-      .1 .1 .1 .1 .1 .1 .1 .1 .1 .1 .1 .1 .1 .1 .1 .1 .1 .0)) (fsep (finally u8 (name x15) (ms .1 .1 .1 .1 .1 .1 .1 .1 .1 .1 .1 .1 .1 .1 .1 .1 .1 .1 .1 .0)) (fsep (finally u16 (name x16) (ms .1 .1 .1
-      .1 .1 .1 .1 .1 .1 .1 .1 .1 .1 .1 .1 .1 .1 .1 .1 .1 .0)) (fsep (finally u16 (name x17) (ms .1 .1 .1 .1 .1 .1 .1 .1 .1 .1 .1 .1 .1 .1 .1 .1 .1 .1 .1 .1 .1 .0)) (fsep (finally u16 (name x18) (ms .1
-      .1 .1 .1 .1 .1 .1 .1 .1 .1 .1 .1 .1 .1 .1 .1 .1 .1 .1 .1 .1 .1 .0)) ftrue)))))))))))))))))
+      (name x4) (ms .1 .1 .1 .1 .1 .1 .1 .1 .0)) (fsep (finally u16 (name x5) (ms .1 .1 .1 .1 .1 .1 .1 .1 .1 .0)) (fsep (finally u16 (name x6) (ms .1 .1 .1 .1 .1 .1 .1 .1 .1 .1 .0)) (fsep ftrue (fsep
+      (finally u32 (name x8) (ms .1 .1 .1 .1 .1 .1 .1 .1 .1 .1 .1 .1 .0)) (fsep (finally u16 (name x9) (ms .1 .1 .1 .1 .1 .1 .1 .1 .1 .1 .1 .1 .1 .0)) (fsep (finally u16 (name x10) (ms .1 .1 .1 .1 .1
+      .1 .1 .1 .1 .1 .1 .1 .1 .1 .0)) (fsep (finally u16 (name x11) (ms .1 .1 .1 .1 .1 .1 .1 .1 .1 .1 .1 .1 .1 .1 .1 .0)) (fsep (finally u8 (name x12) (ms .1 .1 .1 .1 .1 .1 .1 .1 .1 .1 .1 .1 .1 .1 .1
+      .1 .0)) (fsep (finally u8 (name x13) (ms .1 .1 .1 .1 .1 .1 .1 .1 .1 .1 .1 .1 .1 .1 .1 .1 .1 .0)) (fsep (finally u32 (name x14) (ms .1 .1 .1 .1 .1 .1 .1 .1 .1 .1 .1 .1 .1 .1 .1 .1 .1 .1 .0))
+      (fsep (finally u8 (name x15) (ms .1 .1 .1 .1 .1 .1 .1 .1 .1 .1 .1 .1 .1 .1 .1 .1 .1 .1 .1 .0)) (fsep (finally u8 (name x16) (ms .1 .1 .1 .1 .1 .1 .1 .1 .1 .1 .1 .1 .1 .1 .1 .1 .1 .1 .1 .1 .0))
+      (fsep (finally u16 (name x17) (ms .1 .1 .1 .1 .1 .1 .1 .1 .1 .1 .1 .1 .1 .1 .1 .1 .1 .1 .1 .1 .1 .0)) (fsep (finally u16 (name x18) (ms .1 .1 .1 .1 .1 .1 .1 .1 .1 .1 .1 .1 .1 .1 .1 .1 .1 .1 .1
+      .1 .1 .1 .0)) (fsep (finally u16 (name x19) (ms .1 .1 .1 .1 .1 .1 .1 .1 .1 .1 .1 .1 .1 .1 .1 .1 .1 .1 .1 .1 .1 .1 .1 .0)) ftrue))))))))))))))))))
 
   -- the state then, by its frames and its pool
   abbrev after : List Frame → Pool → Lasts → State
   after zs pool ms =
       let d = ms .1 .1 .1 .1 .1 .1 in
-      let m = d .1 .1 .1 .1 .1 in
+      let m = d .1 .1 .1 .1 .1 .1 in
       let h = m .1 .1 .1 in
       let s = h .1 .1 .1 .1 in
-      allOf zs pool (d .0) (d .1 .0) (d .1 .1 .0) (d .1 .1 .1 .0) (d .1 .1 .1 .1 .0) (m .0) (m .1 .0) (m .1 .1 .0) (h .0) (h .1 .0) (h .1 .1 .0) (h .1 .1 .1 .0) (s .0) (s .1 .0) (s .1 .1 .0) (s .1 .1 .1 .0) (s .1 .1 .1 .1 .0)
+      allOf zs pool (d .0) (d .1 .0) (d .1 .1 .0) (d .1 .1 .1 .0) (d .1 .1 .1 .1 .0) (now x7) (m .0) (m .1 .0) (m .1 .1 .0) (h .0) (h .1 .0) (h .1 .1 .0) (h .1 .1 .1 .0) (s .0) (s .1 .0) (s .1 .1 .0) (s .1 .1 .1 .0) (s .1 .1 .1 .1 .0)
 
   -- the answers then
   abbrev told : Lasts → List ℕ
   told ms = ms .1 .1 .1 .1 .1 .0
 
   abbrev Says : Pooled → Lasts → Type 0
-  Says out ms = record { answer = out .answer; answers = told ms; left = after (framesOf (out .frames) n) (out .pool) ms } ≡ applyAll z (now x0) (now x1) (allOf (framesOf (loaded ys) n) p (now x2) (now x3) (now x4) (now x5) (now x6) (now x7) (now x8) (now x9) (now x10) (now x11) (now x12) (now x13) (now x14) (now x15) (now x16) (now x17) (now x18))
+  Says out ms = record { answer = out .answer; answers = told ms; left = after (framesOf (out .frames) n) (out .pool) ms } ≡ applyAll z (now x0) (now x1) (allOf (framesOf (loaded ys) n) p (now x2) (now x3) (now x4) (now x5) (now x6) (now x7) (now x8) (now x9) (now x10) (now x11) (now x12) (now x13) (now x14) (now x15) (now x16) (now x17) (now x18) (now x19))
 
   abbrev Left : Pooled → Lasts → Type 0
   Left out ms = Says out ms × ((length (ms .1 .1 .1 .1 .1 .0) ≡ length (now x1)) × ((length (ms .1 .1 .1 .1 .1 .1 .0) ≡ length (now x2)) × ((length (ms .1 .1 .1 .1 .1 .1 .1 .0) ≡ length (now x3)) ×
       ((length (ms .1 .1 .1 .1 .1 .1 .1 .1 .0) ≡ length (now x4)) × ((length (ms .1 .1 .1 .1 .1 .1 .1 .1 .1 .0) ≡ length (now x5)) × ((length (ms .1 .1 .1 .1 .1 .1 .1 .1 .1 .1 .0) ≡ length (now x6)) ×
-      ((length (ms .1 .1 .1 .1 .1 .1 .1 .1 .1 .1 .1 .0) ≡ length (now x7)) × ((length (ms .1 .1 .1 .1 .1 .1 .1 .1 .1 .1 .1 .1 .0) ≡ length (now x8)) × ((length (ms .1 .1 .1 .1 .1 .1 .1 .1 .1 .1 .1 .1
-      .1 .0) ≡ length (now x9)) × ((length (ms .1 .1 .1 .1 .1 .1 .1 .1 .1 .1 .1 .1 .1 .1 .0) ≡ length (now x10)) × ((length (ms .1 .1 .1 .1 .1 .1 .1 .1 .1 .1 .1 .1 .1 .1 .1 .0) ≡ length (now x11)) ×
-      ((length (ms .1 .1 .1 .1 .1 .1 .1 .1 .1 .1 .1 .1 .1 .1 .1 .1 .0) ≡ length (now x12)) × ((length (ms .1 .1 .1 .1 .1 .1 .1 .1 .1 .1 .1 .1 .1 .1 .1 .1 .1 .0) ≡ length (now x13)) × ((length (ms .1
-      .1 .1 .1 .1 .1 .1 .1 .1 .1 .1 .1 .1 .1 .1 .1 .1 .1 .0) ≡ length (now x14)) × ((length (ms .1 .1 .1 .1 .1 .1 .1 .1 .1 .1 .1 .1 .1 .1 .1 .1 .1 .1 .1 .0) ≡ length (now x15)) × ((length (ms .1 .1 .1
-      .1 .1 .1 .1 .1 .1 .1 .1 .1 .1 .1 .1 .1 .1 .1 .1 .1 .0) ≡ length (now x16)) × ((length (ms .1 .1 .1 .1 .1 .1 .1 .1 .1 .1 .1 .1 .1 .1 .1 .1 .1 .1 .1 .1 .1 .0) ≡ length (now x17)) × ((length (ms .1
-      .1 .1 .1 .1 .1 .1 .1 .1 .1 .1 .1 .1 .1 .1 .1 .1 .1 .1 .1 .1 .1 .0) ≡ length (now x18)) × Unit {0}))))))))))))))))))
+      ((length (ms .1 .1 .1 .1 .1 .1 .1 .1 .1 .1 .1 .1 .0) ≡ length (now x8)) × ((length (ms .1 .1 .1 .1 .1 .1 .1 .1 .1 .1 .1 .1 .1 .0) ≡ length (now x9)) × ((length (ms .1 .1 .1 .1 .1 .1 .1 .1 .1 .1
+      .1 .1 .1 .1 .0) ≡ length (now x10)) × ((length (ms .1 .1 .1 .1 .1 .1 .1 .1 .1 .1 .1 .1 .1 .1 .1 .0) ≡ length (now x11)) × ((length (ms .1 .1 .1 .1 .1 .1 .1 .1 .1 .1 .1 .1 .1 .1 .1 .1 .0) ≡
+      length (now x12)) × ((length (ms .1 .1 .1 .1 .1 .1 .1 .1 .1 .1 .1 .1 .1 .1 .1 .1 .1 .0) ≡ length (now x13)) × ((length (ms .1 .1 .1 .1 .1 .1 .1 .1 .1 .1 .1 .1 .1 .1 .1 .1 .1 .1 .0) ≡ length (now
+      x14)) × ((length (ms .1 .1 .1 .1 .1 .1 .1 .1 .1 .1 .1 .1 .1 .1 .1 .1 .1 .1 .1 .0) ≡ length (now x15)) × ((length (ms .1 .1 .1 .1 .1 .1 .1 .1 .1 .1 .1 .1 .1 .1 .1 .1 .1 .1 .1 .1 .0) ≡ length (now
+      x16)) × ((length (ms .1 .1 .1 .1 .1 .1 .1 .1 .1 .1 .1 .1 .1 .1 .1 .1 .1 .1 .1 .1 .1 .0) ≡ length (now x17)) × ((length (ms .1 .1 .1 .1 .1 .1 .1 .1 .1 .1 .1 .1 .1 .1 .1 .1 .1 .1 .1 .1 .1 .1 .0) ≡
+      length (now x18)) × ((length (ms .1 .1 .1 .1 .1 .1 .1 .1 .1 .1 .1 .1 .1 .1 .1 .1 .1 .1 .1 .1 .1 .1 .1 .0) ≡ length (now x19)) × Unit {0}))))))))))))))))))
 
   -- what the call's contract says, from that, for a slice of frames of any length
   said : (out : Pooled) (ms : Lasts) (zs : List Frame) → zs ≡ saved ys (out .frames) → length (out .frames) ≡ 64 → Says out ms
-      → record { answer = out .answer; answers = told ms; left = after zs (out .pool) ms } ≡ applyAll z (now x0) (now x1) (allOf ys p (now x2) (now x3) (now x4) (now x5) (now x6) (now x7) (now x8) (now x9) (now x10) (now x11) (now x12) (now x13) (now x14) (now x15) (now x16) (now x17) (now x18))
+      → record { answer = out .answer; answers = told ms; left = after zs (out .pool) ms } ≡ applyAll z (now x0) (now x1) (allOf ys p (now x2) (now x3) (now x4) (now x5) (now x6) (now x7) (now x8) (now x9) (now x10) (now x11) (now x12) (now x13) (now x14) (now x15) (now x16) (now x17) (now x18) (now x19))
   said out ms zs e l says =
-      whole-list z ys (allOf ys p (now x2) (now x3) (now x4) (now x5) (now x6) (now x7) (now x8) (now x9) (now x10) (now x11) (now x12) (now x13) (now x14) (now x15) (now x16) (now x17) (now x18)) (now x0) (now x1) (after ys (out .pool) ms) (out .answer) (told ms) (out .frames) l says zs e
+      whole-list z ys (allOf ys p (now x2) (now x3) (now x4) (now x5) (now x6) (now x7) (now x8) (now x9) (now x10) (now x11) (now x12) (now x13) (now x14) (now x15) (now x16) (now x17) (now x18) (now x19)) (now x0) (now x1) (after ys (out .pool) ms) (out .answer) (told ms) (out .frames) l says zs e
 
   exits : (out : Pooled) (zs : List Frame) (ms : Lasts) → (zs ≡ saved ys (out .frames)) × (length zs ≡ n) → Left out ms → Fields out
       → ent 𝓤 (⋆ 𝓤 H A (‵ (flft κ2 q2) ∷ ‵ (flft κ3 q3) ∷ tokens ∷ ‵ (finally F γf zs) ∷ ‵ (fres γp (P .coded .code (out .pool))) ∷ ‵ (Fin ms) ∷ [])) (Post (answer-val out))
   exits out zs ms e₀ e₁ is =
       qed W (‵ (flft κ2 q2) ∷ ‵ (flft κ3 q3) ∷ tokens ∷ ‵ (finally F γf zs) ∷ ‵ (fres γp (P .coded .code (out .pool))) ∷ ‵ (Fin ms) ∷ []) ∵
-      suffices ! _ (ends-at 𝓤 H A fn.ended stayed (fn.clauses 𝓤 H A at-mem run) W bound (answer-val out) (out .answer) (tt, (tt, (told ms, (zs, (out .pool, ms .1 .1 .1 .1 .1 .1))))) (tt, (tt, (e₁ .1 .0, (e₀ .1, (tt, e₁ .1 .1)))))) $
+      suffices ! _ (ends-at 𝓤 H A fn.ended stayed (fn.clauses 𝓤 H A at-mem run) W bound (answer-val out) (out .answer) (tt, (tt, (told ms, (zs, (out .pool, ms .1 .1 .1 .1 .1 .1))))) (tt, (tt, (e₁ .1 .0, (e₀ .1, (tt, (e₁ .1 .1 .0, (e₁ .1 .1 .1 .0, (e₁ .1 .1 .1 .1 .0, (e₁ .1 .1 .1 .1 .1 .0, (e₁ .1 .1 .1 .1 .1 .1 .0, (tt, e₁ .1 .1 .1 .1 .1 .1 .1)))))))))))) $
       says ! (said out ms zs (e₀ .0) (is .0 .1 .0 .1) (e₁ .0)) $
       move ! (2 ∷ []) $ split ! $ move ! (1 ∷ []) $ split ! $ move ! (4 ∷ 1 ∷ []) $ join ! $ move ! (3 ∷ 0 ∷ []) $ join ! $ move ! (1 ∷ 0 ∷ []) $ join ! $ move ! (1 ∷ 0 ∷ []) $ join ! $ frame ! $
       -- [the last list of frames; the last pool; the last lists of the slices]
@@ -222,8 +222,9 @@ module _ {M : Type 1} (𝓤 : URA M) (H : Heap 𝓤) (A : Atoms 𝓤) (W : Given
 
   abbrev Owned : Fml
   Owned = owns (ShrSlice (named 0) κ0 u32 ∷ MutSlice (named 1) κ1 u32 ∷ MutSlice (named 2) κ4 u32 ∷ MutSlice (named 3) κ5 u32 ∷ MutSlice (named 4) κ6 u16 ∷ MutSlice (named 5) κ7 u16 ∷ MutSlice (named
-      6) κ8 u16 ∷ MutSlice (named 7) κ9 u32 ∷ MutSlice (named 8) κ10 u16 ∷ MutSlice (named 9) κ11 u16 ∷ MutSlice (named 10) κ12 u16 ∷ MutSlice (named 11) κ13 u8 ∷ MutSlice (named 12) κ14 u8 ∷ MutSlice
-      (named 13) κ15 u32 ∷ MutSlice (named 14) κ16 u8 ∷ MutSlice (named 15) κ17 u8 ∷ MutSlice (named 16) κ18 u16 ∷ MutSlice (named 17) κ19 u16 ∷ MutSlice (named 18) κ20 u16 ∷ []) xt vt
+      6) κ8 u16 ∷ ShrSlice (named 7) κ9 u16 ∷ MutSlice (named 8) κ10 u32 ∷ MutSlice (named 9) κ11 u16 ∷ MutSlice (named 10) κ12 u16 ∷ MutSlice (named 11) κ13 u16 ∷ MutSlice (named 12) κ14 u8 ∷
+      MutSlice (named 13) κ15 u8 ∷ MutSlice (named 14) κ16 u32 ∷ MutSlice (named 15) κ17 u8 ∷ MutSlice (named 16) κ18 u8 ∷ MutSlice (named 17) κ19 u16 ∷ MutSlice (named 18) κ20 u16 ∷ MutSlice (named
+      19) κ21 u16 ∷ []) xt vt
 
   goes-core : (v t : Val) → Is F64 (loaded ys) (v ∷ []) → Is P p (t ∷ []) → ent 𝓤 (⋆ 𝓤 H A (tokens ∷ ‵ Owned ∷ [])) (Core 𝓤 H A at-mem run .pre (to-core v t))
   goes-core v t is was =
@@ -238,55 +239,57 @@ module _ {M : Type 1} (𝓤 : URA M) (H : Heap 𝓤) (A : Atoms 𝓤) (W : Given
       split ! $ move ! (1 ∷ []) $ heard ! (Says r ms) (λ e₁. fsplit ! $ drop ! $ fsplit ! $ drop ! $ fsplit ! $ drop ! $ fsplit ! $ drop ! $ fsplit ! $ drop ! $
       fsplit ! $ fsplit ! $ move ! (1 ∷ []) $ feqL ! (λ n1. move ! (1 ∷ []) $ fsplit ! $ fsplit ! $ move ! (1 ∷ []) $ feqL ! (λ n2. move ! (1 ∷ []) $ fsplit ! $ fsplit ! $ move ! (1 ∷ []) $ feqL ! (λ
       n3. move ! (1 ∷ []) $ fsplit ! $ fsplit ! $ move ! (1 ∷ []) $ feqL ! (λ n4. move ! (1 ∷ []) $ fsplit ! $ fsplit ! $ move ! (1 ∷ []) $ feqL ! (λ n5. move ! (1 ∷ []) $ fsplit ! $ fsplit ! $ move !
-      (1 ∷ []) $ feqL ! (λ n6. move ! (1 ∷ []) $ fsplit ! $ fsplit ! $ move ! (1 ∷ []) $ feqL ! (λ n7. move ! (1 ∷ []) $ fsplit ! $ fsplit ! $ move ! (1 ∷ []) $ feqL ! (λ n8. move ! (1 ∷ []) $ fsplit
-      ! $ fsplit ! $ move ! (1 ∷ []) $ feqL ! (λ n9. move ! (1 ∷ []) $ fsplit ! $ fsplit ! $ move ! (1 ∷ []) $ feqL ! (λ n10. move ! (1 ∷ []) $ fsplit ! $ fsplit ! $ move ! (1 ∷ []) $ feqL ! (λ n11.
-      move ! (1 ∷ []) $ fsplit ! $ fsplit ! $ move ! (1 ∷ []) $ feqL ! (λ n12. move ! (1 ∷ []) $ fsplit ! $ fsplit ! $ move ! (1 ∷ []) $ feqL ! (λ n13. move ! (1 ∷ []) $ fsplit ! $ fsplit ! $ move !
-      (1 ∷ []) $ feqL ! (λ n14. move ! (1 ∷ []) $ fsplit ! $ fsplit ! $ move ! (1 ∷ []) $ feqL ! (λ n15. move ! (1 ∷ []) $ fsplit ! $ fsplit ! $ move ! (1 ∷ []) $ feqL ! (λ n16. move ! (1 ∷ []) $
-      fsplit ! $ fsplit ! $ move ! (1 ∷ []) $ feqL ! (λ n17. move ! (1 ∷ []) $ fsplit ! $ fsplit ! $ move ! (1 ∷ []) $ feqL ! (λ n18. move ! (1 ∷ []) $
+      (1 ∷ []) $ feqL ! (λ n6. move ! (1 ∷ []) $ fsplit ! $ drop ! $ fsplit ! $ fsplit ! $ move ! (1 ∷ []) $ feqL ! (λ n8. move ! (1 ∷ []) $ fsplit ! $ fsplit ! $ move ! (1 ∷ []) $ feqL ! (λ n9. move
+      ! (1 ∷ []) $ fsplit ! $ fsplit ! $ move ! (1 ∷ []) $ feqL ! (λ n10. move ! (1 ∷ []) $ fsplit ! $ fsplit ! $ move ! (1 ∷ []) $ feqL ! (λ n11. move ! (1 ∷ []) $ fsplit ! $ fsplit ! $ move ! (1 ∷
+      []) $ feqL ! (λ n12. move ! (1 ∷ []) $ fsplit ! $ fsplit ! $ move ! (1 ∷ []) $ feqL ! (λ n13. move ! (1 ∷ []) $ fsplit ! $ fsplit ! $ move ! (1 ∷ []) $ feqL ! (λ n14. move ! (1 ∷ []) $ fsplit !
+      $ fsplit ! $ move ! (1 ∷ []) $ feqL ! (λ n15. move ! (1 ∷ []) $ fsplit ! $ fsplit ! $ move ! (1 ∷ []) $ feqL ! (λ n16. move ! (1 ∷ []) $ fsplit ! $ fsplit ! $ move ! (1 ∷ []) $ feqL ! (λ n17.
+      move ! (1 ∷ []) $ fsplit ! $ fsplit ! $ move ! (1 ∷ []) $ feqL ! (λ n18. move ! (1 ∷ []) $ fsplit ! $ fsplit ! $ move ! (1 ∷ []) $ feqL ! (λ n19. move ! (1 ∷ []) $
       move ! (1 ∷ 0 ∷ []) $ fjoin ! $ move ! (1 ∷ 0 ∷ []) $ fjoin ! $ move ! (1 ∷ 0 ∷ []) $ fjoin ! $ move ! (1 ∷ 0 ∷ []) $ fjoin ! $ move ! (1 ∷ 0 ∷ []) $ fjoin ! $ move ! (1 ∷ 0 ∷ []) $ fjoin ! $
       move ! (1 ∷ 0 ∷ []) $ fjoin ! $ move ! (1 ∷ 0 ∷ []) $ fjoin ! $ move ! (1 ∷ 0 ∷ []) $ fjoin ! $ move ! (1 ∷ 0 ∷ []) $ fjoin ! $ move ! (1 ∷ 0 ∷ []) $ fjoin ! $ move ! (1 ∷ 0 ∷ []) $ fjoin ! $
-      move ! (1 ∷ 0 ∷ []) $ fjoin ! $ move ! (1 ∷ 0 ∷ []) $ fjoin ! $ move ! (1 ∷ 0 ∷ []) $ fjoin ! $ move ! (1 ∷ 0 ∷ []) $ fjoin ! $ move ! (1 ∷ 0 ∷ []) $ fjoin ! $ move ! (1 ∷ 0 ∷ []) $ fjoin ! $
-      show ! (λ (ms : Lasts). guard 𝓤 (Left r ms) (sem 𝓤 H A (Fin ms))) ms $ check ! (e₁, (n1, (n2, (n3, (n4, (n5, (n6, (n7, (n8, (n9, (n10, (n11, (n12, (n13, (n14, (n15, (n16, (n17, (n18, tt))))))))))))))))))) $ done !))))))))))))))))))))
+      nothing ! $ fjoin ! $ move ! (1 ∷ 0 ∷ []) $ fjoin ! $ move ! (1 ∷ 0 ∷ []) $ fjoin ! $ move ! (1 ∷ 0 ∷ []) $ fjoin ! $ move ! (1 ∷ 0 ∷ []) $ fjoin ! $ move ! (1 ∷ 0 ∷ []) $ fjoin ! $ move ! (1 ∷
+      0 ∷ []) $ fjoin ! $
+      show ! (λ (ms : Lasts). guard 𝓤 (Left r ms) (sem 𝓤 H A (Fin ms))) ms $ check ! (e₁, (n1, (n2, (n3, (n4, (n5, (n6, (n8, (n9, (n10, (n11, (n12, (n13, (n14, (n15, (n16, (n17, (n18, (n19, tt))))))))))))))))))) $ done !))))))))))))))))))))
 
   module _ (C : Calls 𝓤 H) (Λ : Loops 𝓤 H) (fm : FmC 𝓤 H (W .laws) C) (known-load : Triple 𝓤 (C #load) (Load 𝓤 H A at-mem run)) (known-core : Triple 𝓤 (C #core) (Core 𝓤 H A at-mem run)) (known-save : Triple 𝓤 (C #save) (Save 𝓤 H A at-mem run)) (known-renew : Triple 𝓤 (C #renew) (Renew 𝓤 H A at-mem run)) where
     walk : ent 𝓤 (onEntry 𝓤 H A fn.signature κa qa xa va) (WpFn 𝓤 H C Λ code.function (sizes-val z ∷ table-val x0 ∷ table-val x1 ∷ sf ∷ vptr bp op ∷ table-val x2 ∷ table-val x3 ∷ table-val x4 ∷
         table-val x5 ∷ table-val x6 ∷ table-val x7 ∷ table-val x8 ∷ table-val x9 ∷ table-val x10 ∷ table-val x11 ∷ table-val x12 ∷ table-val x13 ∷ table-val x14 ∷ table-val x15 ∷ table-val x16 ∷
-        table-val x17 ∷ table-val x18 ∷ []) Post)
+        table-val x17 ∷ table-val x18 ∷ table-val x19 ∷ []) Post)
     walk =
         qed W ((‵ (flft κ0 q0) ⊛ (‵ (flft κ1 q1) ⊛ (‵ (flft κ2 q2) ⊛ (‵ (flft κ3 q3) ⊛ (‵ (flft κ4 q4) ⊛ (‵ (flft κ5 q5) ⊛ (‵ (flft κ6 q6) ⊛ (‵ (flft κ7 q7) ⊛ (‵ (flft κ8 q8) ⊛ (‵ (flft κ9 q9) ⊛ (‵
         (flft κ10 q10) ⊛ (‵ (flft κ11 q11) ⊛ (‵ (flft κ12 q12) ⊛ (‵ (flft κ13 q13) ⊛ (‵ (flft κ14 q14) ⊛ (‵ (flft κ15 q15) ⊛ (‵ (flft κ16 q16) ⊛ (‵ (flft κ17 q17) ⊛ (‵ (flft κ18 q18) ⊛ (‵ (flft κ19
-        q19) ⊛ (‵ (flft κ20 q20) ⊛ ‵ ftrue))))))))))))))))))))) ∷ ‵ (owns (Z ∷ ShrSlice (named 0) κ0 u32 ∷ MutSlice (named 1) κ1 u32 ∷ MutSlice (named 2) κ2 F ∷ MutRef (named 3) κ3 P ∷ MutSlice (named
-        4) κ4 u32 ∷ MutSlice (named 5) κ5 u32 ∷ MutSlice (named 6) κ6 u16 ∷ MutSlice (named 7) κ7 u16 ∷ MutSlice (named 8) κ8 u16 ∷ MutSlice (named 9) κ9 u32 ∷ MutSlice (named 10) κ10 u16 ∷ MutSlice
-        (named 11) κ11 u16 ∷ MutSlice (named 12) κ12 u16 ∷ MutSlice (named 13) κ13 u8 ∷ MutSlice (named 14) κ14 u8 ∷ MutSlice (named 15) κ15 u32 ∷ MutSlice (named 16) κ16 u8 ∷ MutSlice (named 17) κ17
-        u8 ∷ MutSlice (named 18) κ18 u16 ∷ MutSlice (named 19) κ19 u16 ∷ MutSlice (named 20) κ20 u16 ∷ []) xa va) ∷ []) ∵
+        q19) ⊛ (‵ (flft κ20 q20) ⊛ (‵ (flft κ21 q21) ⊛ ‵ ftrue)))))))))))))))))))))) ∷ ‵ (owns (Z ∷ ShrSlice (named 0) κ0 u32 ∷ MutSlice (named 1) κ1 u32 ∷ MutSlice (named 2) κ2 F ∷ MutRef (named 3)
+        κ3 P ∷ MutSlice (named 4) κ4 u32 ∷ MutSlice (named 5) κ5 u32 ∷ MutSlice (named 6) κ6 u16 ∷ MutSlice (named 7) κ7 u16 ∷ MutSlice (named 8) κ8 u16 ∷ ShrSlice (named 9) κ9 u16 ∷ MutSlice (named
+        10) κ10 u32 ∷ MutSlice (named 11) κ11 u16 ∷ MutSlice (named 12) κ12 u16 ∷ MutSlice (named 13) κ13 u16 ∷ MutSlice (named 14) κ14 u8 ∷ MutSlice (named 15) κ15 u8 ∷ MutSlice (named 16) κ16 u32 ∷
+        MutSlice (named 17) κ17 u8 ∷ MutSlice (named 18) κ18 u8 ∷ MutSlice (named 19) κ19 u16 ∷ MutSlice (named 20) κ20 u16 ∷ MutSlice (named 21) κ21 u16 ∷ []) xa va) ∷ []) ∵
         -- the tokens of requests and answers to those of the tables
         split ! $ move ! (1 ∷ []) $ split ! $ move ! (1 ∷ []) $ split ! $ move ! (1 ∷ []) $ split ! $ move ! (3 ∷ 1 ∷ []) $ join ! $ move ! (3 ∷ 0 ∷ []) $ join ! $
         -- and what they own
         move ! (3 ∷ []) $ fsplit ! $ drop ! $ fsplit ! $ move ! (1 ∷ []) $ fsplit ! $ move ! (1 ∷ []) $ fsplit ! $ move ! (1 ∷ []) $ fsplit ! $ move ! (3 ∷ 1 ∷ []) $ fjoin ! $ move ! (3 ∷ 0 ∷ []) $ fjoin ! $
         keep ! (2 ∷ 5 ∷ 1 ∷ 4 ∷ 0 ∷ 3 ∷ []) $
         -- [what frames owns; its token; what pool owns; its token; what the slices own; their tokens]
-        enter ! C Λ code.function (sizes-val z ∷ table-val x0 ∷ table-val x1 ∷ sf ∷ vptr bp op ∷ table-val x2 ∷ table-val x3 ∷ table-val x4 ∷ table-val x5 ∷ table-val x6 ∷ table-val x7 ∷ table-val x8 ∷ table-val x9 ∷ table-val x10 ∷ table-val x11 ∷ table-val x12 ∷ table-val x13 ∷ table-val x14 ∷ table-val x15 ∷ table-val x16 ∷ table-val x17 ∷ table-val x18 ∷ []) _ $
+        enter ! C Λ code.function (sizes-val z ∷ table-val x0 ∷ table-val x1 ∷ sf ∷ vptr bp op ∷ table-val x2 ∷ table-val x3 ∷ table-val x4 ∷ table-val x5 ∷ table-val x6 ∷ table-val x7 ∷ table-val x8 ∷ table-val x9 ∷ table-val x10 ∷ table-val x11 ∷ table-val x12 ∷ table-val x13 ∷ table-val x14 ∷ table-val x15 ∷ table-val x16 ∷ table-val x17 ∷ table-val x18 ∷ table-val x19 ∷ []) _ $
         alloc1 ! (λ l0. alloc1 ! (λ l1. alloc1 ! (λ l2. alloc1 ! (λ l3. alloc1 ! (λ l4. alloc1 ! (λ l5. alloc1 ! (λ l6. alloc1 ! (λ l7. alloc1 ! (λ l8. alloc1 ! (λ l9. alloc1 ! (λ l10. alloc1 ! (λ
         l11. alloc1 ! (λ l12. alloc1 ! (λ l13. alloc1 ! (λ l14. alloc1 ! (λ l15. alloc1 ! (λ l16. alloc1 ! (λ l17. alloc1 ! (λ l18. alloc1 ! (λ l19. alloc1 ! (λ l20. alloc1 ! (λ l21. alloc1 ! (λ l22.
         alloc1 ! (λ l23. alloc1 ! (λ l24. alloc1 ! (λ l25. alloc1 ! (λ l26. alloc1 ! (λ l27. alloc1 ! (λ l28. alloc1 ! (λ l29. alloc1 ! (λ l30. alloc1 ! (λ l31. alloc1 ! (λ l32. alloc1 ! (λ l33.
         alloc1 ! (λ l34. alloc1 ! (λ l35. alloc1 ! (λ l36. alloc1 ! (λ l37. alloc1 ! (λ l38. alloc1 ! (λ l39. alloc1 ! (λ l40. alloc1 ! (λ l41. alloc1 ! (λ l42. alloc1 ! (λ l43. alloc1 ! (λ l44.
         alloc1 ! (λ l45. alloc1 ! (λ l46. alloc1 ! (λ l47. alloc1 ! (λ l48. alloc1 ! (λ l49. alloc1 ! (λ l50. alloc1 ! (λ l51. alloc1 ! (λ l52. alloc1 ! (λ l53. alloc1 ! (λ l54. alloc1 ! (λ l55.
         alloc1 ! (λ l56. alloc1 ! (λ l57. alloc1 ! (λ l58. alloc1 ! (λ l59. alloc1 ! (λ l60. alloc1 ! (λ l61. alloc1 ! (λ l62. alloc1 ! (λ l63. alloc1 ! (λ l64. alloc1 ! (λ l65. alloc1 ! (λ l66.
-        alloc1 ! (λ l67. alloc1 ! (λ l68. alloc0 ! $ params1 ! $
-        pass1 ! (init ! 134 refl (typed-sizes 𝓤 H A W z is-z)) $ pass1 ! (init ! 132 refl (tt, (tt, (record { fits = room0 .0 }, tt)))) $ pass1 ! (init ! 130 refl
-        (tt, (tt, (record { fits = room1 .0 }, tt)))) $ pass1 ! (init ! 128 refl (tt, (tt, (record { fits = roomf .0 }, tt)))) $ pass1 ! (init ! 126 refl (tt, tt)) $ pass1 ! (init ! 124 refl
-        (tt, (tt, (record { fits = room2 .0 }, tt)))) $ pass1 ! (init ! 122 refl (tt, (tt, (record { fits = room3 .0 }, tt)))) $ pass1 ! (init ! 120 refl (tt, (tt, (record { fits = room4 .0 }, tt))))
-        $ pass1 ! (init ! 118 refl (tt, (tt, (record { fits = room5 .0 }, tt)))) $ pass1 ! (init ! 116 refl (tt, (tt, (record { fits = room6 .0 }, tt)))) $ pass1 ! (init ! 114 refl
-        (tt, (tt, (record { fits = room7 .0 }, tt)))) $ pass1 ! (init ! 112 refl (tt, (tt, (record { fits = room8 .0 }, tt)))) $ pass1 ! (init ! 110 refl (tt, (tt, (record { fits = room9 .0 }, tt))))
-        $ pass1 ! (init ! 108 refl (tt, (tt, (record { fits = room10 .0 }, tt)))) $ pass1 ! (init ! 106 refl (tt, (tt, (record { fits = room11 .0 }, tt)))) $ pass1 ! (init ! 104 refl
-        (tt, (tt, (record { fits = room12 .0 }, tt)))) $ pass1 ! (init ! 102 refl (tt, (tt, (record { fits = room13 .0 }, tt)))) $ pass1 ! (init ! 100 refl
-        (tt, (tt, (record { fits = room14 .0 }, tt)))) $ pass1 ! (init ! 98 refl (tt, (tt, (record { fits = room15 .0 }, tt)))) $ pass1 ! (init ! 96 refl (tt, (tt, (record { fits = room16 .0 }, tt))))
-        $ pass1 ! (init ! 94 refl (tt, (tt, (record { fits = room17 .0 }, tt)))) $ pass1 ! (init ! 92 refl (tt, (tt, (record { fits = room18 .0 }, tt)))) $ pass0 ! $
-        -- [_68 at 0; …; _i at 2 · (68 − i); …; what frames owns; …]
-        assigns ! (of-opd ! (load ! (from ! (fld ! refl (stop !))) (look-in ! 128 (sub ! 1 refl (whole !))))) (from ! (stop !)) (init ! 90 refl (tt, record { fits = roomf .0 })) $
-        reborrows ! 128 82 80 refl (sub ! 0 refl (whole !)) refl (tt, tt) refl refl (sub ! 1 refl (whole !)) refl (tt, (tt, (record { fits = roomf .0 }, tt))) $
+        alloc1 ! (λ l67. alloc1 ! (λ l68. alloc1 ! (λ l69. alloc0 ! $ params1 ! $
+        pass1 ! (init ! 136 refl (typed-sizes 𝓤 H A W z is-z)) $ pass1 ! (init ! 134 refl (tt, (tt, (record { fits = room0 .0 }, tt)))) $ pass1 ! (init ! 132 refl
+        (tt, (tt, (record { fits = room1 .0 }, tt)))) $ pass1 ! (init ! 130 refl (tt, (tt, (record { fits = roomf .0 }, tt)))) $ pass1 ! (init ! 128 refl (tt, tt)) $ pass1 ! (init ! 126 refl
+        (tt, (tt, (record { fits = room2 .0 }, tt)))) $ pass1 ! (init ! 124 refl (tt, (tt, (record { fits = room3 .0 }, tt)))) $ pass1 ! (init ! 122 refl (tt, (tt, (record { fits = room4 .0 }, tt))))
+        $ pass1 ! (init ! 120 refl (tt, (tt, (record { fits = room5 .0 }, tt)))) $ pass1 ! (init ! 118 refl (tt, (tt, (record { fits = room6 .0 }, tt)))) $ pass1 ! (init ! 116 refl
+        (tt, (tt, (record { fits = room7 .0 }, tt)))) $ pass1 ! (init ! 114 refl (tt, (tt, (record { fits = room8 .0 }, tt)))) $ pass1 ! (init ! 112 refl (tt, (tt, (record { fits = room9 .0 }, tt))))
+        $ pass1 ! (init ! 110 refl (tt, (tt, (record { fits = room10 .0 }, tt)))) $ pass1 ! (init ! 108 refl (tt, (tt, (record { fits = room11 .0 }, tt)))) $ pass1 ! (init ! 106 refl
+        (tt, (tt, (record { fits = room12 .0 }, tt)))) $ pass1 ! (init ! 104 refl (tt, (tt, (record { fits = room13 .0 }, tt)))) $ pass1 ! (init ! 102 refl
+        (tt, (tt, (record { fits = room14 .0 }, tt)))) $ pass1 ! (init ! 100 refl (tt, (tt, (record { fits = room15 .0 }, tt)))) $ pass1 ! (init ! 98 refl
+        (tt, (tt, (record { fits = room16 .0 }, tt)))) $ pass1 ! (init ! 96 refl (tt, (tt, (record { fits = room17 .0 }, tt)))) $ pass1 ! (init ! 94 refl (tt, (tt, (record { fits = room18 .0 }, tt))))
+        $ pass1 ! (init ! 92 refl (tt, (tt, (record { fits = room19 .0 }, tt)))) $ pass0 ! $
+        -- [_69 at 0; …; _i at 2 · (69 − i); …; what frames owns; …]
+        assigns ! (of-opd ! (load ! (from ! (fld ! refl (stop !))) (look-in ! 130 (sub ! 1 refl (whole !))))) (from ! (stop !)) (init ! 90 refl (tt, record { fits = roomf .0 })) $
+        reborrows ! 130 82 80 refl (sub ! 0 refl (whole !)) refl (tt, tt) refl refl (sub ! 1 refl (whole !)) refl (tt, (tt, (record { fits = roomf .0 }, tt))) $
         -- `load`: frames is lent as a `&` for a lifetime ν of the call
-        lft-new ! tt (λ ν. move ! (139 ∷ 140 ∷ []) $
+        lft-new ! tt (λ ν. move ! (141 ∷ 142 ∷ []) $
         use2 W (later (some (λ (δ : GName). ‵ (ShrSlice (named 0) (ν ∷ []) F .own (xf δ) (sf ∷ [])) ⊛ ‵ (SharedAgain F κ2 (ν ∷ []) q2 γf bf of′ ys)))) (shares-again F κ2 (ν ∷ []) q2 γf bf of′ 𝓤 H A W (named 0) (named 0) ys) $ await ! tt $ pick ! (λ δ. split ! $
         move ! (2 ∷ 0 ∷ []) $ use2 W (raw (Load 𝓤 H A at-mem run .pre (to-load 𝓤 H A at-mem run (ν ∷ []) fullShare (xf δ)))) (goes-load 𝓤 H A at-mem run W (ν ∷ []) fullShare (xf δ)) $
         calls-at ! fm (Load 𝓤 H A at-mem run) known-load (to-load 𝓤 H A at-mem run (ν ∷ []) fullShare (xf δ)) (and-then ! (load ! (from ! (stop !)) (look ! 82 refl)) (no-more !)) (λ v.
@@ -296,46 +299,46 @@ module _ {M : Type 1} (𝓤 : URA M) (H : Heap 𝓤) (A : Atoms 𝓤) (W : Given
         land ! (from ! (stop !)) (init ! 90 refl (typed64 𝓤 H A W (loaded ys) v is-a)) $
         split ! $ lft-end ! tt $ move ! (0 ∷ 2 ∷ []) $ use2 W (later (‵ (MutSlice (named 0) κ2 F .own (xf γf) (sf ∷ [])) ⊛ ‵ (flft κ2 q2))) (comes-home F κ2 (ν ∷ []) q2 γf bf of′ 𝓤 H A W (named 0) (named 0) ys roomf) $ await ! tt $ split ! $
         -- the pool is copied: its borrow is opened, and closed at the same struct
-        move ! (141 ∷ 142 ∷ []) $ fsplit3 ! $ drop ! $ opens ! tt P {h = p} bp op (λ vs. spelt ! P (Is P) (shows 𝓤 H A P) (LL.vals TP.the-type TP′.the-laws) (LL.tells TP.the-type TP′.the-laws) fullShare p vs bp op $
+        move ! (143 ∷ 144 ∷ []) $ fsplit3 ! $ drop ! $ opens ! tt P {h = p} bp op (λ vs. spelt ! P (Is P) (shows 𝓤 H A P) (LL.vals TP.the-type TP′.the-laws) (LL.tells TP.the-type TP′.the-laws) fullShare p vs bp op $
         move ! (1 ∷ []) $ peeks ! P (Is P) (shows 𝓤 H A P) p (pool-val p ∷ []) (λ was. move ! (1 ∷ 0 ∷ []) $
-        assigns ! (of-opd ! (load ! (from ! (hop ! (look ! 134 refl) (stop !))) (look-raw ! 0 refl))) (from ! (stop !)) (init ! 94 refl (typed-pool 𝓤 H A W p (pool-val p) was)) $
+        assigns ! (of-opd ! (load ! (from ! (hop ! (look ! 136 refl) (stop !))) (look-raw ! 0 refl))) (from ! (stop !)) (init ! 94 refl (typed-pool 𝓤 H A W p (pool-val p) was)) $
         closes ! tt P p (pool-val p ∷ []) bp op $ feqI ! (List Val) (vptr bp op ∷ []) (vptr bp op ∷ []) refl $ fjoin3 ! $ nothing ! $ move ! (1 ∷ 2 ∷ 0 ∷ []) $
-        -- [pool; its token; true; frames; its token; true; _68; …]
+        -- [pool; its token; true; frames; its token; true; _69; …]
         -- the slices are reborrowed
-        reborrows ! 136 84 82 refl (sub ! 0 refl (whole !)) refl (tt, tt) refl refl (sub ! 1 refl (whole !)) refl (tt, (tt, (record { fits = room1 .0 }, tt))) $
-        reborrows ! 130 80 78 refl (sub ! 0 refl (whole !)) refl (tt, tt) refl refl (sub ! 1 refl (whole !)) refl (tt, (tt, (record { fits = room2 .0 }, tt))) $
-        reborrows ! 128 76 74 refl (sub ! 0 refl (whole !)) refl (tt, tt) refl refl (sub ! 1 refl (whole !)) refl (tt, (tt, (record { fits = room3 .0 }, tt))) $
-        reborrows ! 126 72 70 refl (sub ! 0 refl (whole !)) refl (tt, tt) refl refl (sub ! 1 refl (whole !)) refl (tt, (tt, (record { fits = room4 .0 }, tt))) $
-        reborrows ! 124 68 66 refl (sub ! 0 refl (whole !)) refl (tt, tt) refl refl (sub ! 1 refl (whole !)) refl (tt, (tt, (record { fits = room5 .0 }, tt))) $
-        reborrows ! 122 64 62 refl (sub ! 0 refl (whole !)) refl (tt, tt) refl refl (sub ! 1 refl (whole !)) refl (tt, (tt, (record { fits = room6 .0 }, tt))) $
-        reborrows ! 120 60 58 refl (sub ! 0 refl (whole !)) refl (tt, tt) refl refl (sub ! 1 refl (whole !)) refl (tt, (tt, (record { fits = room7 .0 }, tt))) $
-        reborrows ! 118 56 54 refl (sub ! 0 refl (whole !)) refl (tt, tt) refl refl (sub ! 1 refl (whole !)) refl (tt, (tt, (record { fits = room8 .0 }, tt))) $
-        reborrows ! 116 52 50 refl (sub ! 0 refl (whole !)) refl (tt, tt) refl refl (sub ! 1 refl (whole !)) refl (tt, (tt, (record { fits = room9 .0 }, tt))) $
-        reborrows ! 114 48 46 refl (sub ! 0 refl (whole !)) refl (tt, tt) refl refl (sub ! 1 refl (whole !)) refl (tt, (tt, (record { fits = room10 .0 }, tt))) $
-        reborrows ! 112 44 42 refl (sub ! 0 refl (whole !)) refl (tt, tt) refl refl (sub ! 1 refl (whole !)) refl (tt, (tt, (record { fits = room11 .0 }, tt))) $
-        reborrows ! 110 40 38 refl (sub ! 0 refl (whole !)) refl (tt, tt) refl refl (sub ! 1 refl (whole !)) refl (tt, (tt, (record { fits = room12 .0 }, tt))) $
-        reborrows ! 108 36 34 refl (sub ! 0 refl (whole !)) refl (tt, tt) refl refl (sub ! 1 refl (whole !)) refl (tt, (tt, (record { fits = room13 .0 }, tt))) $
-        reborrows ! 106 32 30 refl (sub ! 0 refl (whole !)) refl (tt, tt) refl refl (sub ! 1 refl (whole !)) refl (tt, (tt, (record { fits = room14 .0 }, tt))) $
-        reborrows ! 104 28 26 refl (sub ! 0 refl (whole !)) refl (tt, tt) refl refl (sub ! 1 refl (whole !)) refl (tt, (tt, (record { fits = room15 .0 }, tt))) $
-        reborrows ! 102 24 22 refl (sub ! 0 refl (whole !)) refl (tt, tt) refl refl (sub ! 1 refl (whole !)) refl (tt, (tt, (record { fits = room16 .0 }, tt))) $
-        reborrows ! 100 20 18 refl (sub ! 0 refl (whole !)) refl (tt, tt) refl refl (sub ! 1 refl (whole !)) refl (tt, (tt, (record { fits = room17 .0 }, tt))) $
-        reborrows ! 98 16 14 refl (sub ! 0 refl (whole !)) refl (tt, tt) refl refl (sub ! 1 refl (whole !)) refl (tt, (tt, (record { fits = room18 .0 }, tt))) $
+        reborrows ! 138 84 82 refl (sub ! 0 refl (whole !)) refl (tt, tt) refl refl (sub ! 1 refl (whole !)) refl (tt, (tt, (record { fits = room1 .0 }, tt))) $
+        reborrows ! 132 80 78 refl (sub ! 0 refl (whole !)) refl (tt, tt) refl refl (sub ! 1 refl (whole !)) refl (tt, (tt, (record { fits = room2 .0 }, tt))) $
+        reborrows ! 130 76 74 refl (sub ! 0 refl (whole !)) refl (tt, tt) refl refl (sub ! 1 refl (whole !)) refl (tt, (tt, (record { fits = room3 .0 }, tt))) $
+        reborrows ! 128 72 70 refl (sub ! 0 refl (whole !)) refl (tt, tt) refl refl (sub ! 1 refl (whole !)) refl (tt, (tt, (record { fits = room4 .0 }, tt))) $
+        reborrows ! 126 68 66 refl (sub ! 0 refl (whole !)) refl (tt, tt) refl refl (sub ! 1 refl (whole !)) refl (tt, (tt, (record { fits = room5 .0 }, tt))) $
+        reborrows ! 124 64 62 refl (sub ! 0 refl (whole !)) refl (tt, tt) refl refl (sub ! 1 refl (whole !)) refl (tt, (tt, (record { fits = room6 .0 }, tt))) $
+        reborrows ! 120 60 58 refl (sub ! 0 refl (whole !)) refl (tt, tt) refl refl (sub ! 1 refl (whole !)) refl (tt, (tt, (record { fits = room8 .0 }, tt))) $
+        reborrows ! 118 56 54 refl (sub ! 0 refl (whole !)) refl (tt, tt) refl refl (sub ! 1 refl (whole !)) refl (tt, (tt, (record { fits = room9 .0 }, tt))) $
+        reborrows ! 116 52 50 refl (sub ! 0 refl (whole !)) refl (tt, tt) refl refl (sub ! 1 refl (whole !)) refl (tt, (tt, (record { fits = room10 .0 }, tt))) $
+        reborrows ! 114 48 46 refl (sub ! 0 refl (whole !)) refl (tt, tt) refl refl (sub ! 1 refl (whole !)) refl (tt, (tt, (record { fits = room11 .0 }, tt))) $
+        reborrows ! 112 44 42 refl (sub ! 0 refl (whole !)) refl (tt, tt) refl refl (sub ! 1 refl (whole !)) refl (tt, (tt, (record { fits = room12 .0 }, tt))) $
+        reborrows ! 110 40 38 refl (sub ! 0 refl (whole !)) refl (tt, tt) refl refl (sub ! 1 refl (whole !)) refl (tt, (tt, (record { fits = room13 .0 }, tt))) $
+        reborrows ! 108 36 34 refl (sub ! 0 refl (whole !)) refl (tt, tt) refl refl (sub ! 1 refl (whole !)) refl (tt, (tt, (record { fits = room14 .0 }, tt))) $
+        reborrows ! 106 32 30 refl (sub ! 0 refl (whole !)) refl (tt, tt) refl refl (sub ! 1 refl (whole !)) refl (tt, (tt, (record { fits = room15 .0 }, tt))) $
+        reborrows ! 104 28 26 refl (sub ! 0 refl (whole !)) refl (tt, tt) refl refl (sub ! 1 refl (whole !)) refl (tt, (tt, (record { fits = room16 .0 }, tt))) $
+        reborrows ! 102 24 22 refl (sub ! 0 refl (whole !)) refl (tt, tt) refl refl (sub ! 1 refl (whole !)) refl (tt, (tt, (record { fits = room17 .0 }, tt))) $
+        reborrows ! 100 20 18 refl (sub ! 0 refl (whole !)) refl (tt, tt) refl refl (sub ! 1 refl (whole !)) refl (tt, (tt, (record { fits = room18 .0 }, tt))) $
+        reborrows ! 98 16 14 refl (sub ! 0 refl (whole !)) refl (tt, tt) refl refl (sub ! 1 refl (whole !)) refl (tt, (tt, (record { fits = room19 .0 }, tt))) $
         -- the work
-        move ! (145 ∷ 144 ∷ []) $ use2 W (raw (Core 𝓤 H A at-mem run .pre (to-core v (pool-val p)))) (goes-core v (pool-val p) is-a was) $
-        calls-at ! fm (Core 𝓤 H A at-mem run) known-core (to-core v (pool-val p)) (and-then ! (load ! (from ! (stop !)) (look ! 141 refl)) (and-then ! (load ! (from ! (stop !)) (look ! 97 refl))
-        (and-then ! (load ! (from ! (stop !)) (look ! 95 refl)) (and-then ! (load ! (from ! (stop !)) (look ! 93 refl)) (and-then ! (load ! (from ! (stop !)) (look ! 139 refl)) (and-then ! (load !
+        move ! (147 ∷ 146 ∷ []) $ use2 W (raw (Core 𝓤 H A at-mem run .pre (to-core v (pool-val p)))) (goes-core v (pool-val p) is-a was) $
+        calls-at ! fm (Core 𝓤 H A at-mem run) known-core (to-core v (pool-val p)) (and-then ! (load ! (from ! (stop !)) (look ! 143 refl)) (and-then ! (load ! (from ! (stop !)) (look ! 97 refl))
+        (and-then ! (load ! (from ! (stop !)) (look ! 95 refl)) (and-then ! (load ! (from ! (stop !)) (look ! 93 refl)) (and-then ! (load ! (from ! (stop !)) (look ! 141 refl)) (and-then ! (load !
         (from ! (stop !)) (look ! 83 refl)) (and-then ! (load ! (from ! (stop !)) (look ! 79 refl)) (and-then ! (load ! (from ! (stop !)) (look ! 75 refl)) (and-then ! (load ! (from ! (stop !)) (look
-        ! 71 refl)) (and-then ! (load ! (from ! (stop !)) (look ! 67 refl)) (and-then ! (load ! (from ! (stop !)) (look ! 63 refl)) (and-then ! (load ! (from ! (stop !)) (look ! 59 refl)) (and-then !
-        (load ! (from ! (stop !)) (look ! 55 refl)) (and-then ! (load ! (from ! (stop !)) (look ! 51 refl)) (and-then ! (load ! (from ! (stop !)) (look ! 47 refl)) (and-then ! (load ! (from ! (stop
-        !)) (look ! 43 refl)) (and-then ! (load ! (from ! (stop !)) (look ! 39 refl)) (and-then ! (load ! (from ! (stop !)) (look ! 35 refl)) (and-then ! (load ! (from ! (stop !)) (look ! 31 refl))
-        (and-then ! (load ! (from ! (stop !)) (look ! 27 refl)) (and-then ! (load ! (from ! (stop !)) (look ! 23 refl)) (and-then ! (load ! (from ! (stop !)) (look ! 19 refl)) (and-then ! (load !
-        (from ! (stop !)) (look ! 15 refl)) (no-more !)))))))))))))))))))))))) (λ w.
+        ! 71 refl)) (and-then ! (load ! (from ! (stop !)) (look ! 67 refl)) (and-then ! (load ! (from ! (stop !)) (look ! 63 refl)) (and-then ! (load ! (from ! (stop !)) (look ! 123 refl)) (and-then !
+        (load ! (from ! (stop !)) (look ! 59 refl)) (and-then ! (load ! (from ! (stop !)) (look ! 55 refl)) (and-then ! (load ! (from ! (stop !)) (look ! 51 refl)) (and-then ! (load ! (from ! (stop
+        !)) (look ! 47 refl)) (and-then ! (load ! (from ! (stop !)) (look ! 43 refl)) (and-then ! (load ! (from ! (stop !)) (look ! 39 refl)) (and-then ! (load ! (from ! (stop !)) (look ! 35 refl))
+        (and-then ! (load ! (from ! (stop !)) (look ! 31 refl)) (and-then ! (load ! (from ! (stop !)) (look ! 27 refl)) (and-then ! (load ! (from ! (stop !)) (look ! 23 refl)) (and-then ! (load !
+        (from ! (stop !)) (look ! 19 refl)) (and-then ! (load ! (from ! (stop !)) (look ! 15 refl)) (no-more !))))))))))))))))))))))))) (λ w.
         use1 W (later (some (λ (out : Pooled). (tokens ⊛ ‵ (O .own out (w ∷ []))) ⊛ raw (ensured 𝓤 H A core.ended (core.clauses 𝓤 H A at-mem run) κt (z, (n, (loaded ys, (p, xt)))) tt out)))) (id⊢ 𝓤 _) $ await ! tt $ pick ! (λ out.
         split ! $ move ! (1 ∷ []) $ use1 W (some (λ (ms : Lasts). given (Left out ms) (‵ (Fin ms)))) (core-of out) $ pick ! (λ ms. learn ! (λ e₁.
         move ! (1 ∷ []) $ split ! $ move ! (1 ∷ []) $ peeks ! O (Is O) (shows 𝓤 H A O) out (w ∷ []) (λ is-o. drop ! $
         -- [the slices' tokens; their last lists; pool; its token; …]
-        land ! (from ! (stop !)) (init ! 92 refl (typed-out 𝓤 H A W out w is-o)) $ rewrite ! 92 (λ (u : Val). ‵ (fat fullShare TO′.mir l26 0 u)) (ap only (LL.tells TO.the-type TO′.the-laws out (w ∷ []) is-o)) refl $
-        reborrows ! 136 12 10 refl (sub ! 0 refl (whole !)) refl (tt, tt) refl refl (sub ! 1 refl (whole !)) refl (tt, (tt, (record { fits = roomf .0 }, tt))) $
+        land ! (from ! (stop !)) (init ! 92 refl (typed-out 𝓤 H A W out w is-o)) $ rewrite ! 92 (λ (u : Val). ‵ (fat fullShare TO′.mir l27 0 u)) (ap only (LL.tells TO.the-type TO′.the-laws out (w ∷ []) is-o)) refl $
+        reborrows ! 138 12 10 refl (sub ! 0 refl (whole !)) refl (tt, tt) refl refl (sub ! 1 refl (whole !)) refl (tt, (tt, (record { fits = roomf .0 }, tt))) $
         -- `save`: frames is given up for good
         move ! (6 ∷ 5 ∷ []) $ use2 W (raw (Save 𝓤 H A at-mem run .pre (to-save 𝓤 H A at-mem run κ2 q2 (xf γf) (out .frames) (fs-val out)))) (goes-save 𝓤 H A at-mem run W κ2 q2 (xf γf) (out .frames) (fs-val out) (fields out w is-o .0)) $
         calls-at ! fm (Save 𝓤 H A at-mem run) known-save (to-save 𝓤 H A at-mem run κ2 q2 (xf γf) (out .frames) (fs-val out)) (and-then ! (load ! (from ! (stop !)) (look ! 9 refl)) (and-then ! (load ! (from ! (fld ! {d = 0} refl (stop !))) (look-in ! 91 (sub ! 0 {d = 0} refl (whole !)))) (no-more !))) (λ u.
@@ -344,43 +347,44 @@ module _ {M : Type 1} (𝓤 : URA M) (H : Heap 𝓤) (A : Atoms 𝓤) (W : Given
         move ! (1 ∷ []) $ split ! $ move ! (1 ∷ []) $ peeks ! Nothing (Is Nothing) (shows 𝓤 H A Nothing) r₂ (u ∷ []) (λ is-u. drop ! $
         land ! (from ! (stop !)) (init ! 14 refl (nothing-lawful 𝓤 H A W .typed r₂ (u ∷ []) is-u .0)) $
         -- `renew`: pool is given up for good
-        assigns ! (addr ! (from ! (hop ! (look ! 134 refl) (stop !)))) (from ! (stop !)) (init ! 8 refl (tt, tt)) $
+        assigns ! (addr ! (from ! (hop ! (look ! 136 refl) (stop !)))) (from ! (stop !)) (init ! 8 refl (tt, tt)) $
         move ! (5 ∷ 4 ∷ []) $ use2 W (raw (Renew 𝓤 H A at-mem run .pre (to-renew 𝓤 H A at-mem run κ3 q3 xp (out .pool) (new-val out)))) (goes-renew 𝓤 H A at-mem run W κ3 q3 xp (out .pool) (new-val out) (fields out w is-o .1 .0)) $
         calls-at ! fm (Renew 𝓤 H A at-mem run) known-renew (to-renew 𝓤 H A at-mem run κ3 q3 xp (out .pool) (new-val out)) (and-then ! (load ! (from ! (stop !)) (look ! 7 refl)) (and-then ! (load ! (from ! (fld ! {d = 512} refl (stop !))) (look-in ! 91 (sub ! 1 {d = 512} refl (whole !)))) (no-more !))) (λ u₁.
         use1 W (later (some (λ (r₃ : Unit {0}). ((‵ (flft κ3 q3) ⊛ ‵ ftrue) ⊛ ‵ (Nothing .own r₃ (u₁ ∷ []))) ⊛ raw (ensured 𝓤 H A renew.ended (renew.clauses 𝓤 H A at-mem run) (κ3, tt) (xp, (out .pool, tt)) tt r₃)))) (id⊢ 𝓤 _) $ await ! tt $ pick ! (λ r₃.
         split ! $ move ! (1 ∷ []) $ use1 W (‵ (fres γp (P .coded .code (out .pool)))) (renew-of 𝓤 H A at-mem run W κ3 xp (out .pool) r₃) $ move ! (1 ∷ []) $ split ! $ move ! (1 ∷ []) $ peeks ! Nothing (Is Nothing) (shows 𝓤 H A Nothing) r₃ (u₁ ∷ []) (λ is-u₁. drop ! $
         land ! (from ! (stop !)) (store ! 14 refl (nothing-lawful 𝓤 H A W .typed r₃ (u₁ ∷ []) is-u₁ .0)) $
-        assigns ! (of-opd ! (load ! (from ! (fld ! {d = 520} refl (stop !))) (look-in ! 92 (sub ! 2 {d = 520} refl (whole !))))) (from ! (stop !)) (init ! 144 refl (typed-answer 𝓤 H A W out (fields out w is-o .1 .1))) $
-        returns ! (look ! 144 refl) $
-        forget ! 144 refl $ forget ! 142 refl $ forget ! 140 refl $ forget ! 138 refl $ forget ! 136 refl $ forget ! 134 refl $ forget ! 132 refl $ forget ! 130 refl $ forget ! 128 refl $ forget ! 126
-        refl $ forget ! 124 refl $ forget ! 122 refl $ forget ! 120 refl $ forget ! 118 refl $ forget ! 116 refl $ forget ! 114 refl $ forget ! 112 refl $ forget ! 110 refl $ forget ! 108 refl $
-        forget ! 106 refl $ forget ! 104 refl $ forget ! 102 refl $ forget ! 100 refl $ forget ! 98 refl $ forget ! 96 refl $ forget ! 94 refl $ forget ! 92 refl $ forget ! 90 refl $ forget ! 88 refl
-        $ forget ! 86 refl $ forget ! 84 refl $ forget ! 82 refl $ forget ! 80 refl $ forget ! 78 refl $ forget ! 76 refl $ forget ! 74 refl $ forget ! 72 refl $ forget ! 70 refl $ forget ! 68 refl $
-        forget ! 66 refl $ forget ! 64 refl $ forget ! 62 refl $ forget ! 60 refl $ forget ! 58 refl $ forget ! 56 refl $ forget ! 54 refl $ forget ! 52 refl $ forget ! 50 refl $ forget ! 48 refl $
-        forget ! 46 refl $ forget ! 44 refl $ forget ! 42 refl $ forget ! 40 refl $ forget ! 38 refl $ forget ! 36 refl $ forget ! 34 refl $ forget ! 32 refl $ forget ! 30 refl $ forget ! 28 refl $
-        forget ! 26 refl $ forget ! 24 refl $ forget ! 22 refl $ forget ! 20 refl $ forget ! 18 refl $ forget ! 16 refl $ forget ! 14 refl $ forget ! 12 refl $ forget ! 10 refl $ forget ! 8 refl $
-        move ! (144 ∷ 145 ∷ []) $ free1 ! $ move ! (142 ∷ 143 ∷ []) $ free1 ! $ move ! (140 ∷ 141 ∷ []) $ free1 ! $ move ! (138 ∷ 139 ∷ []) $ free1 ! $ move ! (136 ∷ 137 ∷ []) $ free1 ! $ move ! (134
-        ∷ 135 ∷ []) $ free1 ! $ move ! (132 ∷ 133 ∷ []) $ free1 ! $ move ! (130 ∷ 131 ∷ []) $ free1 ! $ move ! (128 ∷ 129 ∷ []) $ free1 ! $ move ! (126 ∷ 127 ∷ []) $ free1 ! $ move ! (124 ∷ 125 ∷ [])
-        $ free1 ! $ move ! (122 ∷ 123 ∷ []) $ free1 ! $ move ! (120 ∷ 121 ∷ []) $ free1 ! $ move ! (118 ∷ 119 ∷ []) $ free1 ! $ move ! (116 ∷ 117 ∷ []) $ free1 ! $ move ! (114 ∷ 115 ∷ []) $ free1 ! $
-        move ! (112 ∷ 113 ∷ []) $ free1 ! $ move ! (110 ∷ 111 ∷ []) $ free1 ! $ move ! (108 ∷ 109 ∷ []) $ free1 ! $ move ! (106 ∷ 107 ∷ []) $ free1 ! $ move ! (104 ∷ 105 ∷ []) $ free1 ! $ move ! (102
-        ∷ 103 ∷ []) $ free1 ! $ move ! (100 ∷ 101 ∷ []) $ free1 ! $ move ! (98 ∷ 99 ∷ []) $ free1 ! $ move ! (96 ∷ 97 ∷ []) $ free1 ! $ move ! (94 ∷ 95 ∷ []) $ free1 ! $ move ! (92 ∷ 93 ∷ []) $ free1
-        ! $ move ! (90 ∷ 91 ∷ []) $ free1 ! $ move ! (88 ∷ 89 ∷ []) $ free1 ! $ move ! (86 ∷ 87 ∷ []) $ free1 ! $ move ! (84 ∷ 85 ∷ []) $ free1 ! $ move ! (82 ∷ 83 ∷ []) $ free1 ! $ move ! (80 ∷ 81 ∷
-        []) $ free1 ! $ move ! (78 ∷ 79 ∷ []) $ free1 ! $ move ! (76 ∷ 77 ∷ []) $ free1 ! $ move ! (74 ∷ 75 ∷ []) $ free1 ! $ move ! (72 ∷ 73 ∷ []) $ free1 ! $ move ! (70 ∷ 71 ∷ []) $ free1 ! $ move !
-        (68 ∷ 69 ∷ []) $ free1 ! $ move ! (66 ∷ 67 ∷ []) $ free1 ! $ move ! (64 ∷ 65 ∷ []) $ free1 ! $ move ! (62 ∷ 63 ∷ []) $ free1 ! $ move ! (60 ∷ 61 ∷ []) $ free1 ! $ move ! (58 ∷ 59 ∷ []) $ free1
-        ! $ move ! (56 ∷ 57 ∷ []) $ free1 ! $ move ! (54 ∷ 55 ∷ []) $ free1 ! $ move ! (52 ∷ 53 ∷ []) $ free1 ! $ move ! (50 ∷ 51 ∷ []) $ free1 ! $ move ! (48 ∷ 49 ∷ []) $ free1 ! $ move ! (46 ∷ 47 ∷
-        []) $ free1 ! $ move ! (44 ∷ 45 ∷ []) $ free1 ! $ move ! (42 ∷ 43 ∷ []) $ free1 ! $ move ! (40 ∷ 41 ∷ []) $ free1 ! $ move ! (38 ∷ 39 ∷ []) $ free1 ! $ move ! (36 ∷ 37 ∷ []) $ free1 ! $ move !
-        (34 ∷ 35 ∷ []) $ free1 ! $ move ! (32 ∷ 33 ∷ []) $ free1 ! $ move ! (30 ∷ 31 ∷ []) $ free1 ! $ move ! (28 ∷ 29 ∷ []) $ free1 ! $ move ! (26 ∷ 27 ∷ []) $ free1 ! $ move ! (24 ∷ 25 ∷ []) $ free1
-        ! $ move ! (22 ∷ 23 ∷ []) $ free1 ! $ move ! (20 ∷ 21 ∷ []) $ free1 ! $ move ! (18 ∷ 19 ∷ []) $ free1 ! $ move ! (16 ∷ 17 ∷ []) $ free1 ! $ move ! (14 ∷ 15 ∷ []) $ free1 ! $ move ! (12 ∷ 13 ∷
-        []) $ free1 ! $ move ! (10 ∷ 11 ∷ []) $ free1 ! $ move ! (8 ∷ 9 ∷ []) $ free1 ! $ free0 ! $
-        move ! (2 ∷ []) $ split ! $ move ! (2 ∷ []) $ split ! $ keep ! (2 ∷ 0 ∷ 6 ∷ 5 ∷ 4 ∷ 7 ∷ []) $ by ! (exits out zs ms e₂ e₁ (fields out w is-o))))))))))))))))))))))))))))))))))))))))))))))))))))))))))))))))))))))))))))))))))))))))))))
+        assigns ! (of-opd ! (load ! (from ! (fld ! {d = 520} refl (stop !))) (look-in ! 92 (sub ! 2 {d = 520} refl (whole !))))) (from ! (stop !)) (init ! 146 refl (typed-answer 𝓤 H A W out (fields out w is-o .1 .1))) $
+        returns ! (look ! 146 refl) $
+        forget ! 146 refl $ forget ! 144 refl $ forget ! 142 refl $ forget ! 140 refl $ forget ! 138 refl $ forget ! 136 refl $ forget ! 134 refl $ forget ! 132 refl $ forget ! 130 refl $ forget ! 128
+        refl $ forget ! 126 refl $ forget ! 124 refl $ forget ! 122 refl $ forget ! 120 refl $ forget ! 118 refl $ forget ! 116 refl $ forget ! 114 refl $ forget ! 112 refl $ forget ! 110 refl $
+        forget ! 108 refl $ forget ! 106 refl $ forget ! 104 refl $ forget ! 102 refl $ forget ! 100 refl $ forget ! 98 refl $ forget ! 96 refl $ forget ! 94 refl $ forget ! 92 refl $ forget ! 90 refl
+        $ forget ! 88 refl $ forget ! 86 refl $ forget ! 84 refl $ forget ! 82 refl $ forget ! 80 refl $ forget ! 78 refl $ forget ! 76 refl $ forget ! 74 refl $ forget ! 72 refl $ forget ! 70 refl $
+        forget ! 68 refl $ forget ! 66 refl $ forget ! 64 refl $ forget ! 62 refl $ forget ! 60 refl $ forget ! 58 refl $ forget ! 56 refl $ forget ! 54 refl $ forget ! 52 refl $ forget ! 50 refl $
+        forget ! 48 refl $ forget ! 46 refl $ forget ! 44 refl $ forget ! 42 refl $ forget ! 40 refl $ forget ! 38 refl $ forget ! 36 refl $ forget ! 34 refl $ forget ! 32 refl $ forget ! 30 refl $
+        forget ! 28 refl $ forget ! 26 refl $ forget ! 24 refl $ forget ! 22 refl $ forget ! 20 refl $ forget ! 18 refl $ forget ! 16 refl $ forget ! 14 refl $ forget ! 12 refl $ forget ! 10 refl $
+        forget ! 8 refl $
+        move ! (146 ∷ 147 ∷ []) $ free1 ! $ move ! (144 ∷ 145 ∷ []) $ free1 ! $ move ! (142 ∷ 143 ∷ []) $ free1 ! $ move ! (140 ∷ 141 ∷ []) $ free1 ! $ move ! (138 ∷ 139 ∷ []) $ free1 ! $ move ! (136
+        ∷ 137 ∷ []) $ free1 ! $ move ! (134 ∷ 135 ∷ []) $ free1 ! $ move ! (132 ∷ 133 ∷ []) $ free1 ! $ move ! (130 ∷ 131 ∷ []) $ free1 ! $ move ! (128 ∷ 129 ∷ []) $ free1 ! $ move ! (126 ∷ 127 ∷ [])
+        $ free1 ! $ move ! (124 ∷ 125 ∷ []) $ free1 ! $ move ! (122 ∷ 123 ∷ []) $ free1 ! $ move ! (120 ∷ 121 ∷ []) $ free1 ! $ move ! (118 ∷ 119 ∷ []) $ free1 ! $ move ! (116 ∷ 117 ∷ []) $ free1 ! $
+        move ! (114 ∷ 115 ∷ []) $ free1 ! $ move ! (112 ∷ 113 ∷ []) $ free1 ! $ move ! (110 ∷ 111 ∷ []) $ free1 ! $ move ! (108 ∷ 109 ∷ []) $ free1 ! $ move ! (106 ∷ 107 ∷ []) $ free1 ! $ move ! (104
+        ∷ 105 ∷ []) $ free1 ! $ move ! (102 ∷ 103 ∷ []) $ free1 ! $ move ! (100 ∷ 101 ∷ []) $ free1 ! $ move ! (98 ∷ 99 ∷ []) $ free1 ! $ move ! (96 ∷ 97 ∷ []) $ free1 ! $ move ! (94 ∷ 95 ∷ []) $
+        free1 ! $ move ! (92 ∷ 93 ∷ []) $ free1 ! $ move ! (90 ∷ 91 ∷ []) $ free1 ! $ move ! (88 ∷ 89 ∷ []) $ free1 ! $ move ! (86 ∷ 87 ∷ []) $ free1 ! $ move ! (84 ∷ 85 ∷ []) $ free1 ! $ move ! (82 ∷
+        83 ∷ []) $ free1 ! $ move ! (80 ∷ 81 ∷ []) $ free1 ! $ move ! (78 ∷ 79 ∷ []) $ free1 ! $ move ! (76 ∷ 77 ∷ []) $ free1 ! $ move ! (74 ∷ 75 ∷ []) $ free1 ! $ move ! (72 ∷ 73 ∷ []) $ free1 ! $
+        move ! (70 ∷ 71 ∷ []) $ free1 ! $ move ! (68 ∷ 69 ∷ []) $ free1 ! $ move ! (66 ∷ 67 ∷ []) $ free1 ! $ move ! (64 ∷ 65 ∷ []) $ free1 ! $ move ! (62 ∷ 63 ∷ []) $ free1 ! $ move ! (60 ∷ 61 ∷ [])
+        $ free1 ! $ move ! (58 ∷ 59 ∷ []) $ free1 ! $ move ! (56 ∷ 57 ∷ []) $ free1 ! $ move ! (54 ∷ 55 ∷ []) $ free1 ! $ move ! (52 ∷ 53 ∷ []) $ free1 ! $ move ! (50 ∷ 51 ∷ []) $ free1 ! $ move ! (48
+        ∷ 49 ∷ []) $ free1 ! $ move ! (46 ∷ 47 ∷ []) $ free1 ! $ move ! (44 ∷ 45 ∷ []) $ free1 ! $ move ! (42 ∷ 43 ∷ []) $ free1 ! $ move ! (40 ∷ 41 ∷ []) $ free1 ! $ move ! (38 ∷ 39 ∷ []) $ free1 ! $
+        move ! (36 ∷ 37 ∷ []) $ free1 ! $ move ! (34 ∷ 35 ∷ []) $ free1 ! $ move ! (32 ∷ 33 ∷ []) $ free1 ! $ move ! (30 ∷ 31 ∷ []) $ free1 ! $ move ! (28 ∷ 29 ∷ []) $ free1 ! $ move ! (26 ∷ 27 ∷ [])
+        $ free1 ! $ move ! (24 ∷ 25 ∷ []) $ free1 ! $ move ! (22 ∷ 23 ∷ []) $ free1 ! $ move ! (20 ∷ 21 ∷ []) $ free1 ! $ move ! (18 ∷ 19 ∷ []) $ free1 ! $ move ! (16 ∷ 17 ∷ []) $ free1 ! $ move ! (14
+        ∷ 15 ∷ []) $ free1 ! $ move ! (12 ∷ 13 ∷ []) $ free1 ! $ move ! (10 ∷ 11 ∷ []) $ free1 ! $ move ! (8 ∷ 9 ∷ []) $ free1 ! $ free0 ! $
+        move ! (2 ∷ []) $ split ! $ move ! (2 ∷ []) $ split ! $ keep ! (2 ∷ 0 ∷ 6 ∷ 5 ∷ 4 ∷ 7 ∷ []) $ by ! (exits out zs ms e₂ e₁ (fields out w is-o)))))))))))))))))))))))))))))))))))))))))))))))))))))))))))))))))))))))))))))))))))))))))))))
 
 module _ {M : Type 1} (𝓤 : URA M) (H : Heap 𝓤) (A : Atoms 𝓤) (W : Given 𝓤 H A) (at-mem : Memory → SProp 𝓤) (run : Routine → Fun 𝓤) where
   walks : (C : Calls 𝓤 H) (Λ : Loops 𝓤 H) → FmC 𝓤 H (W .laws) C → Triple 𝓤 (C #load) (Load 𝓤 H A at-mem run) → Triple 𝓤 (C #core) (Core 𝓤 H A at-mem run) → Triple 𝓤 (C #save) (Save 𝓤 H A at-mem run) → Triple 𝓤 (C #renew) (Renew 𝓤 H A at-mem run)
       → Walks 𝓤 H A fn.ended stayed (WpFn 𝓤 H C Λ code.function) (fn.clauses 𝓤 H A at-mem run)
   walks C Λ fm known-load known-core known-save known-renew = walked 𝓤 H A fn.ended stayed (fn.clauses 𝓤 H A at-mem run) (WpFn 𝓤 H C Λ code.function)
-      (λ κs. (sizes-vals, (slice-vals, (slice-vals, (slice-vals, (ptr-vals, (slice-vals, (slice-vals, (slice-vals, (slice-vals, (slice-vals, (slice-vals, (slice-vals, (slice-vals, (slice-vals, (slice-vals, (slice-vals, (slice-vals, (slice-vals, (slice-vals, (slice-vals, (slice-vals, (slice-vals, tt)))))))))))))))))))))))
-      (λ (κ0, (κ1, (κ2, (κ3, (κ4, (κ5, (κ6, (κ7, (κ8, (κ9, (κ10, (κ11, (κ12, (κ13, (κ14, (κ15, (κ16, (κ17, (κ18, (κ19, (κ20, _))))))))))))))))))))).
-      (sizes-tells, (shr 0 κ0 u32, (mut 1 κ1 u32, (mut 2 κ2 F, (mut-tells (named 3) κ3 P, (mut 4 κ4 u32, (mut 5 κ5 u32, (mut 6 κ6 u16, (mut 7 κ7 u16, (mut 8 κ8 u16, (mut 9 κ9 u32, (mut 10 κ10 u16, (mut 11 κ11 u16, (mut 12 κ12 u16, (mut 13 κ13 u8, (mut 14 κ14 u8, (mut 15 κ15 u32, (mut 16 κ16 u8, (mut 17 κ17 u8, (mut 18 κ18 u16, (mut 19 κ19 u16, (mut 20 κ20 u16, tt)))))))))))))))))))))))
+      (λ κs. (sizes-vals, (slice-vals, (slice-vals, (slice-vals, (ptr-vals, (slice-vals, (slice-vals, (slice-vals, (slice-vals, (slice-vals, (slice-vals, (slice-vals, (slice-vals, (slice-vals, (slice-vals, (slice-vals, (slice-vals, (slice-vals, (slice-vals, (slice-vals, (slice-vals, (slice-vals, (slice-vals, tt))))))))))))))))))))))))
+      (λ (κ0, (κ1, (κ2, (κ3, (κ4, (κ5, (κ6, (κ7, (κ8, (κ9, (κ10, (κ11, (κ12, (κ13, (κ14, (κ15, (κ16, (κ17, (κ18, (κ19, (κ20, (κ21, _)))))))))))))))))))))). let p = mut-tells (named 3) κ3 P in
+      (sizes-tells, (shr 0 κ0 u32, (mut 1 κ1 u32, (mut 2 κ2 F, (p, (mut 4 κ4 u32, (mut 5 κ5 u32, (mut 6 κ6 u16, (mut 7 κ7 u16, (mut 8 κ8 u16, (shr 9 κ9 u16, (mut 10 κ10 u32, (mut 11 κ11 u16, (mut 12 κ12 u16, (mut 13 κ13 u16, (mut 14 κ14 u8, (mut 15 κ15 u8, (mut 16 κ16 u32, (mut 17 κ17 u8, (mut 18 κ18 u8, (mut 19 κ19 u16, (mut 20 κ20 u16, (mut 21 κ21 u16, tt))))))))))))))))))))))))
       (λ κs qs bounds a g are. via 𝓤 _ (fst∗ 𝓤 _ (emp 𝓤))
       (walk 𝓤 H A W at-mem run (κs .0) (qs .0) (κs .1 .0) (qs .1 .0) (κs .1 .1 .0) (qs .1 .1 .0) (κs .1 .1 .1 .0) (qs .1 .1 .1 .0) (κs .1 .1 .1 .1 .0) (qs .1 .1 .1 .1 .0) (κs .1 .1 .1 .1 .1 .0) (qs .1
       .1 .1 .1 .1 .0) (κs .1 .1 .1 .1 .1 .1 .0) (qs .1 .1 .1 .1 .1 .1 .0) (κs .1 .1 .1 .1 .1 .1 .1 .0) (qs .1 .1 .1 .1 .1 .1 .1 .0) (κs .1 .1 .1 .1 .1 .1 .1 .1 .0) (qs .1 .1 .1 .1 .1 .1 .1 .1 .0) (κs
@@ -390,7 +394,8 @@ module _ {M : Type 1} (𝓤 : URA M) (H : Heap 𝓤) (A : Atoms 𝓤) (W : Given
       .1 .1 .1 .1 .1 .1 .1 .1 .1 .0) (κs .1 .1 .1 .1 .1 .1 .1 .1 .1 .1 .1 .1 .1 .1 .1 .1 .0) (qs .1 .1 .1 .1 .1 .1 .1 .1 .1 .1 .1 .1 .1 .1 .1 .1 .0) (κs .1 .1 .1 .1 .1 .1 .1 .1 .1 .1 .1 .1 .1 .1 .1 .1
       .1 .0) (qs .1 .1 .1 .1 .1 .1 .1 .1 .1 .1 .1 .1 .1 .1 .1 .1 .1 .0) (κs .1 .1 .1 .1 .1 .1 .1 .1 .1 .1 .1 .1 .1 .1 .1 .1 .1 .1 .0) (qs .1 .1 .1 .1 .1 .1 .1 .1 .1 .1 .1 .1 .1 .1 .1 .1 .1 .1 .0) (κs
       .1 .1 .1 .1 .1 .1 .1 .1 .1 .1 .1 .1 .1 .1 .1 .1 .1 .1 .1 .0) (qs .1 .1 .1 .1 .1 .1 .1 .1 .1 .1 .1 .1 .1 .1 .1 .1 .1 .1 .1 .0) (κs .1 .1 .1 .1 .1 .1 .1 .1 .1 .1 .1 .1 .1 .1 .1 .1 .1 .1 .1 .1 .0)
-      (qs .1 .1 .1 .1 .1 .1 .1 .1 .1 .1 .1 .1 .1 .1 .1 .1 .1 .1 .1 .1 .0) (a .0)
+      (qs .1 .1 .1 .1 .1 .1 .1 .1 .1 .1 .1 .1 .1 .1 .1 .1 .1 .1 .1 .1 .0) (κs .1 .1 .1 .1 .1 .1 .1 .1 .1 .1 .1 .1 .1 .1 .1 .1 .1 .1 .1 .1 .1 .0) (qs .1 .1 .1 .1 .1 .1 .1 .1 .1 .1 .1 .1 .1 .1 .1 .1 .1
+      .1 .1 .1 .1 .0) (a .0)
       (a .1 .1 .1 .0 .ptr .0) (a .1 .1 .1 .0 .ptr .1) (a .1 .1 .1 .0 .name) (a .1 .1 .1 .0 .now) (are .1 .1 .1 .0 .0 .1)
       (a .1 .1 .1 .1 .0 .ptr .0) (a .1 .1 .1 .1 .0 .ptr .1) (a .1 .1 .1 .1 .0 .name) (a .1 .1 .1 .1 .0 .now)
       (a .1 .0) (are .1 .0 .0 .1) (a .1 .1 .0) (are .1 .1 .0 .0 .1)
@@ -402,16 +407,17 @@ module _ {M : Type 1} (𝓤 : URA M) (H : Heap 𝓤) (A : Atoms 𝓤) (W : Given
       .1 .1 .1 .1 .1 .1 .1 .1 .1 .1 .1 .1 .1 .0 .0 .1) (a .1 .1 .1 .1 .1 .1 .1 .1 .1 .1 .1 .1 .1 .1 .1 .1 .1 .0) (are .1 .1 .1 .1 .1 .1 .1 .1 .1 .1 .1 .1 .1 .1 .1 .1 .1 .0 .0 .1) (a .1 .1 .1 .1 .1 .1
       .1 .1 .1 .1 .1 .1 .1 .1 .1 .1 .1 .1 .0) (are .1 .1 .1 .1 .1 .1 .1 .1 .1 .1 .1 .1 .1 .1 .1 .1 .1 .1 .0 .0 .1) (a .1 .1 .1 .1 .1 .1 .1 .1 .1 .1 .1 .1 .1 .1 .1 .1 .1 .1 .1 .0) (are .1 .1 .1 .1 .1
       .1 .1 .1 .1 .1 .1 .1 .1 .1 .1 .1 .1 .1 .1 .0 .0 .1) (a .1 .1 .1 .1 .1 .1 .1 .1 .1 .1 .1 .1 .1 .1 .1 .1 .1 .1 .1 .1 .0) (are .1 .1 .1 .1 .1 .1 .1 .1 .1 .1 .1 .1 .1 .1 .1 .1 .1 .1 .1 .1 .0 .0 .1)
-      (a .1 .1 .1 .1 .1 .1 .1 .1 .1 .1 .1 .1 .1 .1 .1 .1 .1 .1 .1 .1 .1 .0) (are .1 .1 .1 .1 .1 .1 .1 .1 .1 .1 .1 .1 .1 .1 .1 .1 .1 .1 .1 .1 .1 .0 .0 .1) (are .0) C Λ fm known-load known-core
-      known-save known-renew))
+      (a .1 .1 .1 .1 .1 .1 .1 .1 .1 .1 .1 .1 .1 .1 .1 .1 .1 .1 .1 .1 .1 .0) (are .1 .1 .1 .1 .1 .1 .1 .1 .1 .1 .1 .1 .1 .1 .1 .1 .1 .1 .1 .1 .1 .0 .0 .1) (a .1 .1 .1 .1 .1 .1 .1 .1 .1 .1 .1 .1 .1 .1
+      .1 .1 .1 .1 .1 .1 .1 .1 .0) (are .1 .1 .1 .1 .1 .1 .1 .1 .1 .1 .1 .1 .1 .1 .1 .1 .1 .1 .1 .1 .1 .1 .0 .0 .1) (are .0) C Λ fm known-load known-core known-save known-renew))
 
 meets : {M : Type 1} (𝓤 : URA M) (H : Heap 𝓤) (A : Atoms 𝓤) → Given 𝓤 H A → (at-mem : Memory → SProp 𝓤) (run : Routine → Fun 𝓤) (𝓣 : Tables 𝓤 H)
     → Triple 𝓤 (𝓣 .C #load) (Load 𝓤 H A at-mem run) → Triple 𝓤 (𝓣 .C #core) (Core 𝓤 H A at-mem run) → Triple 𝓤 (𝓣 .C #save) (Save 𝓤 H A at-mem run) → Triple 𝓤 (𝓣 .C #renew) (Renew 𝓤 H A at-mem run)
     → Meets 𝓤 H A fn.signature (WpFn 𝓤 H (𝓣 .C) (𝓣 .Λ) code.function) (fn.spec 𝓤 H A at-mem run)
 meets 𝓤 H A W at-mem run 𝓣 known-load known-core known-save known-renew =
-    let v = goes-value 𝓤 H A W 21 in let g = goes-gave 𝓤 H A W 21 in let h = goes-seen 𝓤 H A W 21 in
+    let v = goes-value 𝓤 H A W 22 in let g = goes-gave 𝓤 H A W 22 in let h = goes-seen 𝓤 H A W 22 in
     walk-meets 𝓤 H A fn.ended stayed W
-    (v Z (λ κs x f. refl), (h 0 tt u32, (g 1 tt u32, (g 2 tt F, (goes-gave-ref 𝓤 H A W 21 3 tt (plain (λ _. P)), (g 4 tt u32, (g 5 tt u32, (g 6 tt u16, (g 7 tt u16, (g 8 tt u16, (g 9 tt u32, (g 10 tt u16, (g 11 tt u16, (g 12 tt u16, (g 13 tt u8, (g 14 tt u8, (g 15 tt u32, (g 16 tt u8, (g 17 tt u8, (g 18 tt u16, (g 19 tt u16, (g 20 tt u16, tt)))))))))))))))))))))) (fn.clauses 𝓤 H A at-mem run)
+    (v Z (λ κs x f. refl), (h 0 tt u32, (g 1 tt u32, (g 2 tt F, (goes-gave-ref 𝓤 H A W 22 3 tt (plain (λ _. P)), (g 4 tt u32, (g 5 tt u32, (g 6 tt u16, (g 7 tt u16, (g 8 tt u16, (h 9 tt u16, (g 10 tt u32, (g 11 tt u16, (g 12 tt u16, (g 13 tt u16, (g 14 tt u8, (g 15 tt u8, (g 16 tt u32, (g 17 tt u8, (g 18 tt u8, (g 19 tt u16, (g 20 tt u16, (g 21 tt u16, tt)))))))))))))))))))))))
+    (fn.clauses 𝓤 H A at-mem run)
     (WpFn 𝓤 H (𝓣 .C) (𝓣 .Λ) code.function) (WpFn-mono 𝓤 H (W .laws) 𝓣 code.function) (walks 𝓤 H A W at-mem run (𝓣 .C) (𝓣 .Λ) (fmOf 𝓤 H (W .laws) 𝓣) known-load known-core known-save known-renew)
 
 pub keeper-apply-all-spec : {M : Type 1} → stated.statement M

@@ -74,8 +74,8 @@ PT = TPl.the-row
 
 abbrev stayed : Stays (fn.ended .signature .params) (fn.ended .kept)
 stayed =
-    let v = value 18 in let h = seen 18 in
-    (v Z, (v usize, (v usize, (h 0 tt F, (v P, (h 1 tt u32, (h 2 tt u32, (h 3 tt u16, (h 4 tt u16, (h 5 tt u16, (h 6 tt u32, (h 7 tt u16, (h 8 tt u16, (h 9 tt u16, (h 10 tt u8, (h 11 tt u8, (h 12 tt u32, (h 13 tt u8, (h 14 tt u8, (h 15 tt u16, (h 16 tt u16, (h 17 tt u16, tt))))))))))))))))))))))
+    let v = value 19 in let h = seen 19 in
+    (v Z, (v usize, (v usize, (h 0 tt F, (v P, (h 1 tt u32, (h 2 tt u32, (h 3 tt u16, (h 4 tt u16, (h 5 tt u16, (h 6 tt u16, (h 7 tt u32, (h 8 tt u16, (h 9 tt u16, (h 10 tt u16, (h 11 tt u8, (h 12 tt u8, (h 13 tt u32, (h 14 tt u8, (h 15 tt u8, (h 16 tt u16, (h 17 tt u16, (h 18 tt u16, tt)))))))))))))))))))))))
 
 module _ {M : Type 1} (𝓤 : URA M) (H : Heap 𝓤) (A : Atoms 𝓤) (at-mem : Memory → SProp 𝓤) (run : Routine → Fun 𝓤) where
   abbrev Core : Contract 𝓤
@@ -83,31 +83,32 @@ module _ {M : Type 1} (𝓤 : URA M) (H : Heap 𝓤) (A : Atoms 𝓤) (at-mem : 
 
 module _ {M : Type 1} (𝓤 : URA M) (H : Heap 𝓤) (A : Atoms 𝓤) (W : Given 𝓤 H A) (at-mem : Memory → SProp 𝓤) (run : Routine → Fun 𝓤) (κ0 : Lft) (q0 : Share) (κ1 : Lft) (q1 : Share) (κ2 : Lft) (q2 :
     Share) (κ3 : Lft) (q3 : Share) (κ4 : Lft) (q4 : Share) (κ5 : Lft) (q5 : Share) (κ6 : Lft) (q6 : Share) (κ7 : Lft) (q7 : Share) (κ8 : Lft) (q8 : Share) (κ9 : Lft) (q9 : Share) (κ10 : Lft) (q10 :
-    Share) (κ11 : Lft) (q11 : Share) (κ12 : Lft) (q12 : Share) (κ13 : Lft) (q13 : Share) (κ14 : Lft) (q14 : Share) (κ15 : Lft) (q15 : Share) (κ16 : Lft) (q16 : Share) (κ17 : Lft) (q17 : Share) (z :
-    Sizes)
+    Share) (κ11 : Lft) (q11 : Share) (κ12 : Lft) (q12 : Share) (κ13 : Lft) (q13 : Share) (κ14 : Lft) (q14 : Share) (κ15 : Lft) (q15 : Share) (κ16 : Lft) (q16 : Share) (κ17 : Lft) (q17 : Share) (κ18 :
+    Lft) (q18 : Share) (z : Sizes)
     (slot page : ℕ)
     (bf of′ : ℕ) (γf : GName) (ys : List Frame) (roomf : Room F (length ys)) (p : Pool) (x0 : RefT (List ℕ)) (room0 : Room u32 (length (now x0))) (x1 : RefT (List ℕ)) (room1 : Room u32 (length (now
     x1))) (x2 : RefT (List ℕ)) (room2 : Room u16 (length (now x2))) (x3 : RefT (List ℕ)) (room3 : Room u16 (length (now x3))) (x4 : RefT (List ℕ)) (room4 : Room u16 (length (now x4))) (x5 : RefT (List
-    ℕ)) (room5 : Room u32 (length (now x5))) (x6 : RefT (List ℕ)) (room6 : Room u16 (length (now x6))) (x7 : RefT (List ℕ)) (room7 : Room u16 (length (now x7))) (x8 : RefT (List ℕ)) (room8 : Room u16
-    (length (now x8))) (x9 : RefT (List ℕ)) (room9 : Room u8 (length (now x9))) (x10 : RefT (List ℕ)) (room10 : Room u8 (length (now x10))) (x11 : RefT (List ℕ)) (room11 : Room u32 (length (now x11)))
-    (x12 : RefT (List ℕ)) (room12 : Room u8 (length (now x12))) (x13 : RefT (List ℕ)) (room13 : Room u8 (length (now x13))) (x14 : RefT (List ℕ)) (room14 : Room u16 (length (now x14))) (x15 : RefT
-    (List ℕ)) (room15 : Room u16 (length (now x15))) (x16 : RefT (List ℕ)) (room16 : Room u16 (length (now x16))) (is-z : Is Z z (sizes-vals z)) (is-p : Is P p (LL.vals TP.the-type TP′.the-laws p))
+    ℕ)) (room5 : Room u16 (length (now x5))) (x6 : RefT (List ℕ)) (room6 : Room u32 (length (now x6))) (x7 : RefT (List ℕ)) (room7 : Room u16 (length (now x7))) (x8 : RefT (List ℕ)) (room8 : Room u16
+    (length (now x8))) (x9 : RefT (List ℕ)) (room9 : Room u16 (length (now x9))) (x10 : RefT (List ℕ)) (room10 : Room u8 (length (now x10))) (x11 : RefT (List ℕ)) (room11 : Room u8 (length (now x11)))
+    (x12 : RefT (List ℕ)) (room12 : Room u32 (length (now x12))) (x13 : RefT (List ℕ)) (room13 : Room u8 (length (now x13))) (x14 : RefT (List ℕ)) (room14 : Room u8 (length (now x14))) (x15 : RefT
+    (List ℕ)) (room15 : Room u16 (length (now x15))) (x16 : RefT (List ℕ)) (room16 : Room u16 (length (now x16))) (x17 : RefT (List ℕ)) (room17 : Room u16 (length (now x17))) (is-z : Is Z z
+    (sizes-vals z)) (is-p : Is P p (LL.vals TP.the-type TP′.the-laws p))
     (slot-fits : slot < 2 ^ 64) (page-fits : page < 2 ^ 64) where
   -- the tables' lifetimes, shares, references and machine values, and their tokens
-  abbrev κt : Lfts 17
-  κt = (κ1, (κ2, (κ3, (κ4, (κ5, (κ6, (κ7, (κ8, (κ9, (κ10, (κ11, (κ12, (κ13, (κ14, (κ15, (κ16, (κ17, tt)))))))))))))))))
+  abbrev κt : Lfts 18
+  κt = (κ1, (κ2, (κ3, (κ4, (κ5, (κ6, (κ7, (κ8, (κ9, (κ10, (κ11, (κ12, (κ13, (κ14, (κ15, (κ16, (κ17, (κ18, tt))))))))))))))))))
 
-  abbrev qt : Shares 17
-  qt = (q1, (q2, (q3, (q4, (q5, (q6, (q7, (q8, (q9, (q10, (q11, (q12, (q13, (q14, (q15, (q16, (q17, tt)))))))))))))))))
+  abbrev qt : Shares 18
+  qt = (q1, (q2, (q3, (q4, (q5, (q6, (q7, (q8, (q9, (q10, (q11, (q12, (q13, (q14, (q15, (q16, (q17, (q18, tt))))))))))))))))))
 
   abbrev xt : EachTable (RefT (List ℕ))
-  xt = (x0, (x1, (x2, (x3, (x4, (x5, (x6, (x7, (x8, (x9, (x10, (x11, (x12, (x13, (x14, (x15, (x16, tt)))))))))))))))))
+  xt = (x0, (x1, (x2, (x3, (x4, (x5, (x6, (x7, (x8, (x9, (x10, (x11, (x12, (x13, (x14, (x15, (x16, (x17, tt))))))))))))))))))
 
   abbrev vt : EachTable (List Val)
-  vt = (table-val x0 ∷ [], (table-val x1 ∷ [], (table-val x2 ∷ [], (table-val x3 ∷ [], (table-val x4 ∷ [], (table-val x5 ∷ [], (table-val x6 ∷ [], (table-val x7 ∷ [], (table-val x8 ∷ [], (table-val x9 ∷ [], (table-val x10 ∷ [], (table-val x11 ∷ [], (table-val x12 ∷ [], (table-val x13 ∷ [], (table-val x14 ∷ [], (table-val x15 ∷ [], (table-val x16 ∷ [], tt)))))))))))))))))
+  vt = (table-val x0 ∷ [], (table-val x1 ∷ [], (table-val x2 ∷ [], (table-val x3 ∷ [], (table-val x4 ∷ [], (table-val x5 ∷ [], (table-val x6 ∷ [], (table-val x7 ∷ [], (table-val x8 ∷ [], (table-val x9 ∷ [], (table-val x10 ∷ [], (table-val x11 ∷ [], (table-val x12 ∷ [], (table-val x13 ∷ [], (table-val x14 ∷ [], (table-val x15 ∷ [], (table-val x16 ∷ [], (table-val x17 ∷ [], tt))))))))))))))))))
 
   abbrev tokens : Item 𝓤
-  tokens = (‵ (flft κ1 q1) ⊛ (‵ (flft κ2 q2) ⊛ (‵ (flft κ3 q3) ⊛ (‵ (flft κ4 q4) ⊛ (‵ (flft κ5 q5) ⊛ (‵ (flft κ6 q6) ⊛ (‵ (flft κ7 q7) ⊛ (‵ (flft κ8 q8) ⊛ (‵ (flft κ9 q9) ⊛ (‵ (flft κ10 q10) ⊛ (‵ (flft κ11 q11) ⊛ (‵ (flft κ12 q12) ⊛ (‵ (flft κ13 q13) ⊛ (‵ (flft κ14 q14) ⊛ (‵ (flft κ15 q15) ⊛ (‵ (flft κ16 q16) ⊛ (‵ (flft κ17 q17) ⊛ ‵ ftrue)))))))))))))))))
+  tokens = (‵ (flft κ1 q1) ⊛ (‵ (flft κ2 q2) ⊛ (‵ (flft κ3 q3) ⊛ (‵ (flft κ4 q4) ⊛ (‵ (flft κ5 q5) ⊛ (‵ (flft κ6 q6) ⊛ (‵ (flft κ7 q7) ⊛ (‵ (flft κ8 q8) ⊛ (‵ (flft κ9 q9) ⊛ (‵ (flft κ10 q10) ⊛ (‵ (flft κ11 q11) ⊛ (‵ (flft κ12 q12) ⊛ (‵ (flft κ13 q13) ⊛ (‵ (flft κ14 q14) ⊛ (‵ (flft κ15 q15) ⊛ (‵ (flft κ16 q16) ⊛ (‵ (flft κ17 q17) ⊛ (‵ (flft κ18 q18) ⊛ ‵ ftrue))))))))))))))))))
 
   -- the parameters, and their machine values
   abbrev n : ℕ
@@ -130,17 +131,17 @@ module _ {M : Type 1} (𝓤 : URA M) (H : Heap 𝓤) (A : Atoms 𝓤) (W : Given
 
   -- what the work's contract says of what it returns
   abbrev Left : Part → Type 0
-  Left r = (r ≡ partOf z (allOf (framesOf (loaded ys) n) p (now x0) (now x1) (now x2) (now x3) (now x4) (now x5) (now x6) (now x7) (now x8) (now x9) (now x10) (now x11) (now x12) (now x13) (now x14) (now x15) (now x16)) slot page) × (r .start + r .count ≤ length (now x5))
+  Left r = (r ≡ partOf z (allOf (framesOf (loaded ys) n) p (now x0) (now x1) (now x2) (now x3) (now x4) (now x5) (now x6) (now x7) (now x8) (now x9) (now x10) (now x11) (now x12) (now x13) (now x14) (now x15) (now x16) (now x17)) slot page) × (r .start + r .count ≤ length (now x6))
 
   exits : (r : Part) (w : Val) → Left r → ent 𝓤 (⋆ 𝓤 H A (‵ (flft κ0 q0) ∷ tokens ∷ ‵ (PT .own r (w ∷ [])) ∷ [])) (Post w)
   exits r w e =
       qed W (‵ (flft κ0 q0) ∷ tokens ∷ ‵ (PT .own r (w ∷ [])) ∷ []) ∵
-      suffices ! _ (ends-at 𝓤 H A fn.ended stayed (fn.clauses 𝓤 H A at-mem run) W bound w r (tt, (tt, (tt, (tt, (tt, (tt, (tt, (tt, (tt, (tt, (tt, (tt, (tt, (tt, (tt, (tt, (tt, (tt, (tt, (tt, (tt, (tt, tt)))))))))))))))))))))) (tt, (tt, (tt, (tt, (tt, (tt, (tt, (tt, (tt, (tt, (tt, (tt, (tt, (tt, (tt, (tt, (tt, (tt, (tt, (tt, (tt, (tt, tt))))))))))))))))))))))) $
+      suffices ! _ (ends-at 𝓤 H A fn.ended stayed (fn.clauses 𝓤 H A at-mem run) W bound w r (tt, (tt, (tt, (tt, (tt, (tt, (tt, (tt, (tt, (tt, (tt, (tt, (tt, (tt, (tt, (tt, (tt, (tt, (tt, (tt, (tt, (tt, (tt, tt))))))))))))))))))))))) (tt, (tt, (tt, (tt, (tt, (tt, (tt, (tt, (tt, (tt, (tt, (tt, (tt, (tt, (tt, (tt, (tt, (tt, (tt, (tt, (tt, (tt, (tt, tt)))))))))))))))))))))))) $
       -- the same for a slice of frames of any length
-      says ! (e .0 ∙ alike z ys (allOf ys p (now x0) (now x1) (now x2) (now x3) (now x4) (now x5) (now x6) (now x7) (now x8) (now x9) (now x10) (now x11) (now x12) (now x13) (now x14) (now x15) (now x16)) (λ (st : State). partOf z st slot page) noPart (part-refuses z slot page)) $ join ! $ frame ! $
+      says ! (e .0 ∙ alike z ys (allOf ys p (now x0) (now x1) (now x2) (now x3) (now x4) (now x5) (now x6) (now x7) (now x8) (now x9) (now x10) (now x11) (now x12) (now x13) (now x14) (now x15) (now x16) (now x17)) (λ (st : State). partOf z st slot page) noPart (part-refuses z slot page)) $ join ! $ frame ! $
       nothing ! $ nothing ! $ fjoin ! $ nothing ! $ fjoin ! $ nothing ! $ fjoin ! $ nothing ! $ fjoin ! $ nothing ! $ fjoin ! $ nothing ! $ fjoin ! $ nothing ! $ fjoin ! $ nothing ! $ fjoin ! $
       nothing ! $ fjoin ! $ nothing ! $ fjoin ! $ nothing ! $ fjoin ! $ nothing ! $ fjoin ! $ nothing ! $ fjoin ! $ nothing ! $ fjoin ! $ nothing ! $ fjoin ! $ nothing ! $ fjoin ! $ nothing ! $ fjoin
-      ! $ nothing ! $
+      ! $ nothing ! $ fjoin ! $ nothing ! $
       fjoin ! $ nothing ! $ fjoin ! $ nothing ! $ fjoin ! $ nothing ! $ fjoin ! $ nothing ! $ fjoin ! $ done !
 
   -- what the work's triple binds outside, that the caller has what it asks, and what it leaves
@@ -148,9 +149,9 @@ module _ {M : Type 1} (𝓤 : URA M) (H : Heap 𝓤) (A : Atoms 𝓤) (W : Given
   to-core v = ((κt, qt, tt, (z, (slot, (page, (n, (loaded ys, (p, xt)))))), (sizes-val z ∷ [], (vint w64 slot ∷ [], (vint w64 page ∷ [], (vint w64 n ∷ [], (v ∷ [], (p-val ∷ [], vt))))))), tt)
 
   abbrev Owned : Fml
-  Owned = owns (ShrSlice (named 0) κ1 u32 ∷ ShrSlice (named 1) κ2 u32 ∷ ShrSlice (named 2) κ3 u16 ∷ ShrSlice (named 3) κ4 u16 ∷ ShrSlice (named 4) κ5 u16 ∷ ShrSlice (named 5) κ6 u32 ∷ ShrSlice (named
-      6) κ7 u16 ∷ ShrSlice (named 7) κ8 u16 ∷ ShrSlice (named 8) κ9 u16 ∷ ShrSlice (named 9) κ10 u8 ∷ ShrSlice (named 10) κ11 u8 ∷ ShrSlice (named 11) κ12 u32 ∷ ShrSlice (named 12) κ13 u8 ∷ ShrSlice
-      (named 13) κ14 u8 ∷ ShrSlice (named 14) κ15 u16 ∷ ShrSlice (named 15) κ16 u16 ∷ ShrSlice (named 16) κ17 u16 ∷ []) xt vt
+  Owned = owns (ShrSlice (named 0) κ1 u32 ∷ ShrSlice (named 1) κ2 u32 ∷ ShrSlice (named 2) κ3 u16 ∷ ShrSlice (named 3) κ4 u16 ∷ ShrSlice (named 4) κ5 u16 ∷ ShrSlice (named 5) κ6 u16 ∷ ShrSlice (named
+      6) κ7 u32 ∷ ShrSlice (named 7) κ8 u16 ∷ ShrSlice (named 8) κ9 u16 ∷ ShrSlice (named 9) κ10 u16 ∷ ShrSlice (named 10) κ11 u8 ∷ ShrSlice (named 11) κ12 u8 ∷ ShrSlice (named 12) κ13 u32 ∷ ShrSlice
+      (named 13) κ14 u8 ∷ ShrSlice (named 14) κ15 u8 ∷ ShrSlice (named 15) κ16 u16 ∷ ShrSlice (named 16) κ17 u16 ∷ ShrSlice (named 17) κ18 u16 ∷ []) xt vt
 
   goes-core : (v : Val) → Is F64 (loaded ys) (v ∷ []) → ent 𝓤 (⋆ 𝓤 H A (tokens ∷ ‵ Owned ∷ [])) (Core 𝓤 H A at-mem run .pre (to-core v))
   goes-core v is =
@@ -163,67 +164,68 @@ module _ {M : Type 1} (𝓤 : URA M) (H : Heap 𝓤) (A : Atoms 𝓤) (W : Given
 
   module _ (C : Calls 𝓤 H) (Λ : Loops 𝓤 H) (fm : FmC 𝓤 H (W .laws) C) (known-load : Triple 𝓤 (C #load) (Load 𝓤 H A at-mem run)) (known-core : Triple 𝓤 (C #core) (Core 𝓤 H A at-mem run)) where
     walk : ent 𝓤 (onEntry 𝓤 H A fn.signature (κ0, κt) (q0, qt) (z, (slot, (page, (xf, (p, xt))))) (sizes-val z ∷ [], (vint w64 slot ∷ [], (vint w64 page ∷ [], (sf ∷ [], (p-val ∷ [], vt))))))
-        (WpFn 𝓤 H C Λ code.function (sizes-val z ∷ vint w64 slot ∷ vint w64 page ∷ sf ∷ p-val ∷ table-val x0 ∷ table-val x1 ∷ table-val x2 ∷ table-val x3 ∷ table-val x4 ∷ table-val x5 ∷ table-val x6 ∷ table-val x7 ∷ table-val x8 ∷ table-val x9 ∷ table-val x10 ∷ table-val x11 ∷ table-val x12 ∷ table-val x13 ∷ table-val x14 ∷ table-val x15 ∷ table-val x16 ∷ []) Post)
+        (WpFn 𝓤 H C Λ code.function (sizes-val z ∷ vint w64 slot ∷ vint w64 page ∷ sf ∷ p-val ∷ table-val x0 ∷ table-val x1 ∷ table-val x2 ∷ table-val x3 ∷ table-val x4 ∷ table-val x5 ∷ table-val x6 ∷ table-val x7 ∷ table-val x8 ∷ table-val x9 ∷ table-val x10 ∷ table-val x11 ∷ table-val x12 ∷ table-val x13 ∷ table-val x14 ∷ table-val x15 ∷ table-val x16 ∷ table-val x17 ∷ []) Post)
     walk =
         qed W ((‵ (flft κ0 q0) ⊛ tokens) ∷ ‵ (owns (Z ∷ usize ∷ usize ∷ ShrSlice (named 0) κ0 F ∷ P ∷ ShrSlice (named 1) κ1 u32 ∷ ShrSlice (named 2) κ2 u32 ∷ ShrSlice (named 3) κ3 u16 ∷ ShrSlice
-        (named 4) κ4 u16 ∷ ShrSlice (named 5) κ5 u16 ∷ ShrSlice (named 6) κ6 u32 ∷ ShrSlice (named 7) κ7 u16 ∷ ShrSlice (named 8) κ8 u16 ∷ ShrSlice (named 9) κ9 u16 ∷ ShrSlice (named 10) κ10 u8 ∷
-        ShrSlice (named 11) κ11 u8 ∷ ShrSlice (named 12) κ12 u32 ∷ ShrSlice (named 13) κ13 u8 ∷ ShrSlice (named 14) κ14 u8 ∷ ShrSlice (named 15) κ15 u16 ∷ ShrSlice (named 16) κ16 u16 ∷ ShrSlice (named
-        17) κ17 u16 ∷ [])
+        (named 4) κ4 u16 ∷ ShrSlice (named 5) κ5 u16 ∷ ShrSlice (named 6) κ6 u16 ∷ ShrSlice (named 7) κ7 u32 ∷ ShrSlice (named 8) κ8 u16 ∷ ShrSlice (named 9) κ9 u16 ∷ ShrSlice (named 10) κ10 u16 ∷
+        ShrSlice (named 11) κ11 u8 ∷ ShrSlice (named 12) κ12 u8 ∷ ShrSlice (named 13) κ13 u32 ∷ ShrSlice (named 14) κ14 u8 ∷ ShrSlice (named 15) κ15 u8 ∷ ShrSlice (named 16) κ16 u16 ∷ ShrSlice (named
+        17) κ17 u16 ∷ ShrSlice (named 18) κ18 u16 ∷ [])
         (z, (slot, (page, (xf, (p, xt))))) (sizes-val z ∷ [], (vint w64 slot ∷ [], (vint w64 page ∷ [], (sf ∷ [], (p-val ∷ [], vt)))))) ∷ []) ∵
         split ! $ move ! (2 ∷ []) $ fsplit ! $ drop ! $ fsplit ! $ drop ! $ fsplit ! $ drop ! $ fsplit ! $ move ! (1 ∷ []) $ fsplit ! $ drop ! $ keep ! (1 ∷ 2 ∷ 0 ∷ 3 ∷ []) $
         -- [what frames owns; its token; what the other references own; their tokens]
-        enter ! C Λ code.function (sizes-val z ∷ vint w64 slot ∷ vint w64 page ∷ sf ∷ p-val ∷ table-val x0 ∷ table-val x1 ∷ table-val x2 ∷ table-val x3 ∷ table-val x4 ∷ table-val x5 ∷ table-val x6 ∷ table-val x7 ∷ table-val x8 ∷ table-val x9 ∷ table-val x10 ∷ table-val x11 ∷ table-val x12 ∷ table-val x13 ∷ table-val x14 ∷ table-val x15 ∷ table-val x16 ∷ []) _ $
+        enter ! C Λ code.function (sizes-val z ∷ vint w64 slot ∷ vint w64 page ∷ sf ∷ p-val ∷ table-val x0 ∷ table-val x1 ∷ table-val x2 ∷ table-val x3 ∷ table-val x4 ∷ table-val x5 ∷ table-val x6 ∷ table-val x7 ∷ table-val x8 ∷ table-val x9 ∷ table-val x10 ∷ table-val x11 ∷ table-val x12 ∷ table-val x13 ∷ table-val x14 ∷ table-val x15 ∷ table-val x16 ∷ table-val x17 ∷ []) _ $
         alloc1 ! (λ l0. alloc1 ! (λ l1. alloc1 ! (λ l2. alloc1 ! (λ l3. alloc1 ! (λ l4. alloc1 ! (λ l5. alloc1 ! (λ l6. alloc1 ! (λ l7. alloc1 ! (λ l8. alloc1 ! (λ l9. alloc1 ! (λ l10. alloc1 ! (λ
         l11. alloc1 ! (λ l12. alloc1 ! (λ l13. alloc1 ! (λ l14. alloc1 ! (λ l15. alloc1 ! (λ l16. alloc1 ! (λ l17. alloc1 ! (λ l18. alloc1 ! (λ l19. alloc1 ! (λ l20. alloc1 ! (λ l21. alloc1 ! (λ l22.
-        alloc1 ! (λ l23. alloc1 ! (λ l24. alloc0 ! $ params1 ! $
-        pass1 ! (init ! 46 refl (typed-sizes 𝓤 H A W z is-z)) $ pass1 ! (init ! 44 refl (tt, record { fits = slot-fits })) $ pass1 ! (init ! 42 refl (tt, record { fits = page-fits })) $ pass1 ! (init
-        ! 40 refl (tt, (tt, (record { fits = roomf .0 }, tt)))) $ pass1 ! (init ! 38 refl (typed-pool 𝓤 H A W p p-val is-p)) $ pass1 ! (init ! 36 refl (tt, (tt, (record { fits = room0 .0 }, tt)))) $
-        pass1 ! (init ! 34 refl (tt, (tt, (record { fits = room1 .0 }, tt)))) $ pass1 ! (init ! 32 refl (tt, (tt, (record { fits = room2 .0 }, tt)))) $ pass1 ! (init ! 30 refl
-        (tt, (tt, (record { fits = room3 .0 }, tt)))) $ pass1 ! (init ! 28 refl (tt, (tt, (record { fits = room4 .0 }, tt)))) $ pass1 ! (init ! 26 refl (tt, (tt, (record { fits = room5 .0 }, tt)))) $
-        pass1 ! (init ! 24 refl (tt, (tt, (record { fits = room6 .0 }, tt)))) $ pass1 ! (init ! 22 refl (tt, (tt, (record { fits = room7 .0 }, tt)))) $ pass1 ! (init ! 20 refl
-        (tt, (tt, (record { fits = room8 .0 }, tt)))) $ pass1 ! (init ! 18 refl (tt, (tt, (record { fits = room9 .0 }, tt)))) $ pass1 ! (init ! 16 refl (tt, (tt, (record { fits = room10 .0 }, tt)))) $
-        pass1 ! (init ! 14 refl (tt, (tt, (record { fits = room11 .0 }, tt)))) $ pass1 ! (init ! 12 refl (tt, (tt, (record { fits = room12 .0 }, tt)))) $ pass1 ! (init ! 10 refl
-        (tt, (tt, (record { fits = room13 .0 }, tt)))) $ pass1 ! (init ! 8 refl (tt, (tt, (record { fits = room14 .0 }, tt)))) $ pass1 ! (init ! 6 refl (tt, (tt, (record { fits = room15 .0 }, tt)))) $
-        pass1 ! (init ! 4 refl (tt, (tt, (record { fits = room16 .0 }, tt)))) $ pass0 ! $
-        assigns ! (of-opd ! (load ! (from ! (fld ! refl (stop !))) (look-in ! 40 (sub ! 1 refl (whole !))))) (from ! (stop !)) (init ! 2 refl (tt, record { fits = roomf .0 })) $
+        alloc1 ! (λ l23. alloc1 ! (λ l24. alloc1 ! (λ l25. alloc0 ! $ params1 ! $
+        pass1 ! (init ! 48 refl (typed-sizes 𝓤 H A W z is-z)) $ pass1 ! (init ! 46 refl (tt, record { fits = slot-fits })) $ pass1 ! (init ! 44 refl (tt, record { fits = page-fits })) $ pass1 ! (init
+        ! 42 refl (tt, (tt, (record { fits = roomf .0 }, tt)))) $ pass1 ! (init ! 40 refl (typed-pool 𝓤 H A W p p-val is-p)) $ pass1 ! (init ! 38 refl (tt, (tt, (record { fits = room0 .0 }, tt)))) $
+        pass1 ! (init ! 36 refl (tt, (tt, (record { fits = room1 .0 }, tt)))) $ pass1 ! (init ! 34 refl (tt, (tt, (record { fits = room2 .0 }, tt)))) $ pass1 ! (init ! 32 refl
+        (tt, (tt, (record { fits = room3 .0 }, tt)))) $ pass1 ! (init ! 30 refl (tt, (tt, (record { fits = room4 .0 }, tt)))) $ pass1 ! (init ! 28 refl (tt, (tt, (record { fits = room5 .0 }, tt)))) $
+        pass1 ! (init ! 26 refl (tt, (tt, (record { fits = room6 .0 }, tt)))) $ pass1 ! (init ! 24 refl (tt, (tt, (record { fits = room7 .0 }, tt)))) $ pass1 ! (init ! 22 refl
+        (tt, (tt, (record { fits = room8 .0 }, tt)))) $ pass1 ! (init ! 20 refl (tt, (tt, (record { fits = room9 .0 }, tt)))) $ pass1 ! (init ! 18 refl (tt, (tt, (record { fits = room10 .0 }, tt)))) $
+        pass1 ! (init ! 16 refl (tt, (tt, (record { fits = room11 .0 }, tt)))) $ pass1 ! (init ! 14 refl (tt, (tt, (record { fits = room12 .0 }, tt)))) $ pass1 ! (init ! 12 refl
+        (tt, (tt, (record { fits = room13 .0 }, tt)))) $ pass1 ! (init ! 10 refl (tt, (tt, (record { fits = room14 .0 }, tt)))) $ pass1 ! (init ! 8 refl (tt, (tt, (record { fits = room15 .0 }, tt))))
+        $ pass1 ! (init ! 6 refl (tt, (tt, (record { fits = room16 .0 }, tt)))) $ pass1 ! (init ! 4 refl (tt, (tt, (record { fits = room17 .0 }, tt)))) $ pass0 ! $
+        assigns ! (of-opd ! (load ! (from ! (fld ! refl (stop !))) (look-in ! 42 (sub ! 1 refl (whole !))))) (from ! (stop !)) (init ! 2 refl (tt, record { fits = roomf .0 })) $
         -- `load`
-        move ! (51 ∷ 50 ∷ []) $ use2 W (raw (Load 𝓤 H A at-mem run .pre (to-load 𝓤 H A at-mem run κ0 q0 xf))) (goes-load 𝓤 H A at-mem run W κ0 q0 xf) $
-        calls-at ! fm (Load 𝓤 H A at-mem run) known-load (to-load 𝓤 H A at-mem run κ0 q0 xf) (and-then ! (load ! (from ! (stop !)) (look ! 41 refl)) (no-more !)) (λ v.
+        move ! (53 ∷ 52 ∷ []) $ use2 W (raw (Load 𝓤 H A at-mem run .pre (to-load 𝓤 H A at-mem run κ0 q0 xf))) (goes-load 𝓤 H A at-mem run W κ0 q0 xf) $
+        calls-at ! fm (Load 𝓤 H A at-mem run) known-load (to-load 𝓤 H A at-mem run κ0 q0 xf) (and-then ! (load ! (from ! (stop !)) (look ! 43 refl)) (no-more !)) (λ v.
         use1 W (later (some (λ (r : List Frame). ((‵ (flft κ0 q0) ⊛ ‵ ftrue) ⊛ ‵ (F64 .own r (v ∷ []))) ⊛ raw (ensured 𝓤 H A load′.ended (load′.clauses 𝓤 H A at-mem run) (κ0, tt) (xf, tt) tt r)))) (id⊢ 𝓤 _) $ await ! tt $ pick ! (λ r.
         split ! $ move ! (1 ∷ []) $ use1 W (raw (fact 𝓤 (r ≡ loaded ys))) (load-of 𝓤 H A at-mem run κ0 xf r) $ heard ! (r ≡ loaded ys) (λ eq. split ! $ rewrite ! 1 (λ (l : List Frame). ‵ (F64 .own l (v ∷ []))) eq refl $
         move ! (1 ∷ []) $ peeks ! F64 (Is F64) (shows 𝓤 H A F64) (loaded ys) (v ∷ []) (λ is-a. drop ! $
         land ! (from ! (stop !)) (init ! 1 refl (typed64 𝓤 H A W (loaded ys) v is-a)) $
         -- the work
-        move ! (52 ∷ 51 ∷ []) $ use2 W (raw (Core 𝓤 H A at-mem run .pre (to-core v))) (goes-core v is-a) $
-        calls-at ! fm (Core 𝓤 H A at-mem run) known-core (to-core v) (and-then ! (load ! (from ! (stop !)) (look ! 48 refl)) (and-then ! (load ! (from ! (stop !)) (look ! 46 refl)) (and-then ! (load !
-        (from ! (stop !)) (look ! 44 refl)) (and-then ! (load ! (from ! (stop !)) (look ! 4 refl)) (and-then ! (load ! (from ! (stop !)) (look ! 2 refl)) (and-then ! (load ! (from ! (stop !)) (look !
-        40 refl)) (and-then ! (load ! (from ! (stop !)) (look ! 38 refl)) (and-then ! (load ! (from ! (stop !)) (look ! 36 refl)) (and-then ! (load ! (from ! (stop !)) (look ! 34 refl)) (and-then !
-        (load ! (from ! (stop !)) (look ! 32 refl)) (and-then ! (load ! (from ! (stop !)) (look ! 30 refl)) (and-then ! (load ! (from ! (stop !)) (look ! 28 refl)) (and-then ! (load ! (from ! (stop
-        !)) (look ! 26 refl)) (and-then ! (load ! (from ! (stop !)) (look ! 24 refl)) (and-then ! (load ! (from ! (stop !)) (look ! 22 refl)) (and-then ! (load ! (from ! (stop !)) (look ! 20 refl))
-        (and-then ! (load ! (from ! (stop !)) (look ! 18 refl)) (and-then ! (load ! (from ! (stop !)) (look ! 16 refl)) (and-then ! (load ! (from ! (stop !)) (look ! 14 refl)) (and-then ! (load !
-        (from ! (stop !)) (look ! 12 refl)) (and-then ! (load ! (from ! (stop !)) (look ! 10 refl)) (and-then ! (load ! (from ! (stop !)) (look ! 8 refl)) (and-then ! (load ! (from ! (stop !)) (look !
-        6 refl)) (no-more !)))))))))))))))))))))))) (λ w.
+        move ! (54 ∷ 53 ∷ []) $ use2 W (raw (Core 𝓤 H A at-mem run .pre (to-core v))) (goes-core v is-a) $
+        calls-at ! fm (Core 𝓤 H A at-mem run) known-core (to-core v) (and-then ! (load ! (from ! (stop !)) (look ! 50 refl)) (and-then ! (load ! (from ! (stop !)) (look ! 48 refl)) (and-then ! (load !
+        (from ! (stop !)) (look ! 46 refl)) (and-then ! (load ! (from ! (stop !)) (look ! 4 refl)) (and-then ! (load ! (from ! (stop !)) (look ! 2 refl)) (and-then ! (load ! (from ! (stop !)) (look !
+        42 refl)) (and-then ! (load ! (from ! (stop !)) (look ! 40 refl)) (and-then ! (load ! (from ! (stop !)) (look ! 38 refl)) (and-then ! (load ! (from ! (stop !)) (look ! 36 refl)) (and-then !
+        (load ! (from ! (stop !)) (look ! 34 refl)) (and-then ! (load ! (from ! (stop !)) (look ! 32 refl)) (and-then ! (load ! (from ! (stop !)) (look ! 30 refl)) (and-then ! (load ! (from ! (stop
+        !)) (look ! 28 refl)) (and-then ! (load ! (from ! (stop !)) (look ! 26 refl)) (and-then ! (load ! (from ! (stop !)) (look ! 24 refl)) (and-then ! (load ! (from ! (stop !)) (look ! 22 refl))
+        (and-then ! (load ! (from ! (stop !)) (look ! 20 refl)) (and-then ! (load ! (from ! (stop !)) (look ! 18 refl)) (and-then ! (load ! (from ! (stop !)) (look ! 16 refl)) (and-then ! (load !
+        (from ! (stop !)) (look ! 14 refl)) (and-then ! (load ! (from ! (stop !)) (look ! 12 refl)) (and-then ! (load ! (from ! (stop !)) (look ! 10 refl)) (and-then ! (load ! (from ! (stop !)) (look
+        ! 8 refl)) (and-then ! (load ! (from ! (stop !)) (look ! 6 refl)) (no-more !))))))))))))))))))))))))) (λ w.
         use1 W (later (some (λ (r′ : Part). (tokens ⊛ ‵ (PT .own r′ (w ∷ []))) ⊛ raw (ensured 𝓤 H A core.ended (core.clauses 𝓤 H A at-mem run) κt (z, (slot, (page, (n, (loaded ys, (p, xt)))))) tt r′)))) (id⊢ 𝓤 _) $ await ! tt $ pick ! (λ r′.
         split ! $ move ! (1 ∷ []) $ use1 W (raw (fact 𝓤 (Left r′))) (core-of r′) $ heard ! (Left r′) (λ e₁.
         split ! $ move ! (1 ∷ []) $ peeks ! (PT) (Is (PT)) (shows 𝓤 H A (PT)) r′ (w ∷ []) (λ is-r.
-        land ! (from ! (stop !)) (init ! 51 refl (LL.lawful TPl.the-type TPl′.the-laws 𝓤 H A W .typed r′ (w ∷ []) is-r .0)) $
-        returns ! (look ! 51 refl) $
-        forget ! 51 refl $ move ! (51 ∷ 52 ∷ []) $ free1 ! $ forget ! 49 refl $ move ! (49 ∷ 50 ∷ []) $ free1 ! $ forget ! 47 refl $ move ! (47 ∷ 48 ∷ []) $ free1 ! $ forget ! 45 refl $ move ! (45 ∷
-        46 ∷ []) $ free1 ! $ forget ! 43 refl $ move ! (43 ∷ 44 ∷ []) $ free1 ! $ forget ! 41 refl $ move ! (41 ∷ 42 ∷ []) $ free1 ! $ forget ! 39 refl $ move ! (39 ∷ 40 ∷ []) $ free1 ! $ forget ! 37
-        refl $ move ! (37 ∷ 38 ∷ []) $ free1 ! $ forget ! 35 refl $ move ! (35 ∷ 36 ∷ []) $ free1 ! $ forget ! 33 refl $ move ! (33 ∷ 34 ∷ []) $ free1 ! $ forget ! 31 refl $ move ! (31 ∷ 32 ∷ []) $
-        free1 ! $ forget ! 29 refl $ move ! (29 ∷ 30 ∷ []) $ free1 ! $ forget ! 27 refl $ move ! (27 ∷ 28 ∷ []) $ free1 ! $ forget ! 25 refl $ move ! (25 ∷ 26 ∷ []) $ free1 ! $ forget ! 23 refl $ move
-        ! (23 ∷ 24 ∷ []) $ free1 ! $ forget ! 21 refl $ move ! (21 ∷ 22 ∷ []) $ free1 ! $ forget ! 19 refl $ move ! (19 ∷ 20 ∷ []) $ free1 ! $ forget ! 17 refl $ move ! (17 ∷ 18 ∷ []) $ free1 ! $
-        forget ! 15 refl $ move ! (15 ∷ 16 ∷ []) $ free1 ! $ forget ! 13 refl $ move ! (13 ∷ 14 ∷ []) $ free1 ! $ forget ! 11 refl $ move ! (11 ∷ 12 ∷ []) $ free1 ! $ forget ! 9 refl $ move ! (9 ∷ 10
-        ∷ []) $ free1 ! $ forget ! 7 refl $ move ! (7 ∷ 8 ∷ []) $ free1 ! $ forget ! 5 refl $ move ! (5 ∷ 6 ∷ []) $ free1 ! $ forget ! 3 refl $ move ! (3 ∷ 4 ∷ []) $ free1 ! $ free0 ! $
-        move ! (2 ∷ []) $ split ! $ keep ! (0 ∷ 3 ∷ 2 ∷ []) $ by ! (exits r′ w e₁))))))))))))))))))))))))))))))))))
+        land ! (from ! (stop !)) (init ! 53 refl (LL.lawful TPl.the-type TPl′.the-laws 𝓤 H A W .typed r′ (w ∷ []) is-r .0)) $
+        returns ! (look ! 53 refl) $
+        forget ! 53 refl $ move ! (53 ∷ 54 ∷ []) $ free1 ! $ forget ! 51 refl $ move ! (51 ∷ 52 ∷ []) $ free1 ! $ forget ! 49 refl $ move ! (49 ∷ 50 ∷ []) $ free1 ! $ forget ! 47 refl $ move ! (47 ∷
+        48 ∷ []) $ free1 ! $ forget ! 45 refl $ move ! (45 ∷ 46 ∷ []) $ free1 ! $ forget ! 43 refl $ move ! (43 ∷ 44 ∷ []) $ free1 ! $ forget ! 41 refl $ move ! (41 ∷ 42 ∷ []) $ free1 ! $ forget ! 39
+        refl $ move ! (39 ∷ 40 ∷ []) $ free1 ! $ forget ! 37 refl $ move ! (37 ∷ 38 ∷ []) $ free1 ! $ forget ! 35 refl $ move ! (35 ∷ 36 ∷ []) $ free1 ! $ forget ! 33 refl $ move ! (33 ∷ 34 ∷ []) $
+        free1 ! $ forget ! 31 refl $ move ! (31 ∷ 32 ∷ []) $ free1 ! $ forget ! 29 refl $ move ! (29 ∷ 30 ∷ []) $ free1 ! $ forget ! 27 refl $ move ! (27 ∷ 28 ∷ []) $ free1 ! $ forget ! 25 refl $ move
+        ! (25 ∷ 26 ∷ []) $ free1 ! $ forget ! 23 refl $ move ! (23 ∷ 24 ∷ []) $ free1 ! $ forget ! 21 refl $ move ! (21 ∷ 22 ∷ []) $ free1 ! $ forget ! 19 refl $ move ! (19 ∷ 20 ∷ []) $ free1 ! $
+        forget ! 17 refl $ move ! (17 ∷ 18 ∷ []) $ free1 ! $ forget ! 15 refl $ move ! (15 ∷ 16 ∷ []) $ free1 ! $ forget ! 13 refl $ move ! (13 ∷ 14 ∷ []) $ free1 ! $ forget ! 11 refl $ move ! (11 ∷
+        12 ∷ []) $ free1 ! $ forget ! 9 refl $ move ! (9 ∷ 10 ∷ []) $ free1 ! $ forget ! 7 refl $ move ! (7 ∷ 8 ∷ []) $ free1 ! $ forget ! 5 refl $ move ! (5 ∷ 6 ∷ []) $ free1 ! $ forget ! 3 refl $
+        move ! (3 ∷ 4 ∷ []) $ free1 ! $ free0 ! $
+        move ! (2 ∷ []) $ split ! $ keep ! (0 ∷ 3 ∷ 2 ∷ []) $ by ! (exits r′ w e₁)))))))))))))))))))))))))))))))))))
 
 module _ {M : Type 1} (𝓤 : URA M) (H : Heap 𝓤) (A : Atoms 𝓤) (W : Given 𝓤 H A) (at-mem : Memory → SProp 𝓤) (run : Routine → Fun 𝓤) where
   walks : (C : Calls 𝓤 H) (Λ : Loops 𝓤 H) → FmC 𝓤 H (W .laws) C → Triple 𝓤 (C #load) (Load 𝓤 H A at-mem run) → Triple 𝓤 (C #core) (Core 𝓤 H A at-mem run)
       → Walks 𝓤 H A fn.ended stayed (WpFn 𝓤 H C Λ code.function) (fn.clauses 𝓤 H A at-mem run)
   walks C Λ fm known-load known-core = walked 𝓤 H A fn.ended stayed (fn.clauses 𝓤 H A at-mem run) (WpFn 𝓤 H C Λ code.function)
-      (λ κs. (sizes-vals, (uint-vals w64, (uint-vals w64, (slice-vals, (LL.vals TP.the-type TP′.the-laws, (slice-vals, (slice-vals, (slice-vals, (slice-vals, (slice-vals, (slice-vals, (slice-vals, (slice-vals, (slice-vals, (slice-vals, (slice-vals, (slice-vals, (slice-vals, (slice-vals, (slice-vals, (slice-vals, (slice-vals, tt)))))))))))))))))))))))
-      (λ (κ0, (κ1, (κ2, (κ3, (κ4, (κ5, (κ6, (κ7, (κ8, (κ9, (κ10, (κ11, (κ12, (κ13, (κ14, (κ15, (κ16, (κ17, _)))))))))))))))))).
-      (sizes-tells, (uint-tells w64, (uint-tells w64, (shr 0 κ0 F, (LL.tells TP.the-type TP′.the-laws, (shr 1 κ1 u32, (shr 2 κ2 u32, (shr 3 κ3 u16, (shr 4 κ4 u16, (shr 5 κ5 u16, (shr 6 κ6 u32, (shr 7 κ7 u16, (shr 8 κ8 u16, (shr 9 κ9 u16, (shr 10 κ10 u8, (shr 11 κ11 u8, (shr 12 κ12 u32, (shr 13 κ13 u8, (shr 14 κ14 u8, (shr 15 κ15 u16, (shr 16 κ16 u16, (shr 17 κ17 u16, tt)))))))))))))))))))))))
+      (λ κs. (sizes-vals, (uint-vals w64, (uint-vals w64, (slice-vals, (LL.vals TP.the-type TP′.the-laws, (slice-vals, (slice-vals, (slice-vals, (slice-vals, (slice-vals, (slice-vals, (slice-vals, (slice-vals, (slice-vals, (slice-vals, (slice-vals, (slice-vals, (slice-vals, (slice-vals, (slice-vals, (slice-vals, (slice-vals, (slice-vals, tt))))))))))))))))))))))))
+      (λ (κ0, (κ1, (κ2, (κ3, (κ4, (κ5, (κ6, (κ7, (κ8, (κ9, (κ10, (κ11, (κ12, (κ13, (κ14, (κ15, (κ16, (κ17, (κ18, _))))))))))))))))))). let e = LL.tells TP.the-type TP′.the-laws in let u = uint-tells w64 in
+      (sizes-tells, (u, (u, (shr 0 κ0 F, (e, (shr 1 κ1 u32, (shr 2 κ2 u32, (shr 3 κ3 u16, (shr 4 κ4 u16, (shr 5 κ5 u16, (shr 6 κ6 u16, (shr 7 κ7 u32, (shr 8 κ8 u16, (shr 9 κ9 u16, (shr 10 κ10 u16, (shr 11 κ11 u8, (shr 12 κ12 u8, (shr 13 κ13 u32, (shr 14 κ14 u8, (shr 15 κ15 u8, (shr 16 κ16 u16, (shr 17 κ17 u16, (shr 18 κ18 u16, tt))))))))))))))))))))))))
       (λ κs qs bounds a g are. via 𝓤 _ (fst∗ 𝓤 _ (emp 𝓤))
       (walk 𝓤 H A W at-mem run (κs .0) (qs .0) (κs .1 .0) (qs .1 .0) (κs .1 .1 .0) (qs .1 .1 .0) (κs .1 .1 .1 .0) (qs .1 .1 .1 .0) (κs .1 .1 .1 .1 .0) (qs .1 .1 .1 .1 .0) (κs .1 .1 .1 .1 .1 .0) (qs .1
       .1 .1 .1 .1 .0) (κs .1 .1 .1 .1 .1 .1 .0) (qs .1 .1 .1 .1 .1 .1 .0) (κs .1 .1 .1 .1 .1 .1 .1 .0) (qs .1 .1 .1 .1 .1 .1 .1 .0) (κs .1 .1 .1 .1 .1 .1 .1 .1 .0) (qs .1 .1 .1 .1 .1 .1 .1 .1 .0) (κs
@@ -231,7 +233,8 @@ module _ {M : Type 1} (𝓤 : URA M) (H : Heap 𝓤) (A : Atoms 𝓤) (W : Given
       .1 .1 .1 .1 .1 .1 .1 .1 .1 .0) (κs .1 .1 .1 .1 .1 .1 .1 .1 .1 .1 .1 .1 .0) (qs .1 .1 .1 .1 .1 .1 .1 .1 .1 .1 .1 .1 .0) (κs .1 .1 .1 .1 .1 .1 .1 .1 .1 .1 .1 .1 .1 .0) (qs .1 .1 .1 .1 .1 .1 .1 .1
       .1 .1 .1 .1 .1 .0) (κs .1 .1 .1 .1 .1 .1 .1 .1 .1 .1 .1 .1 .1 .1 .0) (qs .1 .1 .1 .1 .1 .1 .1 .1 .1 .1 .1 .1 .1 .1 .0) (κs .1 .1 .1 .1 .1 .1 .1 .1 .1 .1 .1 .1 .1 .1 .1 .0) (qs .1 .1 .1 .1 .1 .1
       .1 .1 .1 .1 .1 .1 .1 .1 .1 .0) (κs .1 .1 .1 .1 .1 .1 .1 .1 .1 .1 .1 .1 .1 .1 .1 .1 .0) (qs .1 .1 .1 .1 .1 .1 .1 .1 .1 .1 .1 .1 .1 .1 .1 .1 .0) (κs .1 .1 .1 .1 .1 .1 .1 .1 .1 .1 .1 .1 .1 .1 .1 .1
-      .1 .0) (qs .1 .1 .1 .1 .1 .1 .1 .1 .1 .1 .1 .1 .1 .1 .1 .1 .1 .0) (a .0) (a .1 .0) (a .1 .1 .0)
+      .1 .0) (qs .1 .1 .1 .1 .1 .1 .1 .1 .1 .1 .1 .1 .1 .1 .1 .1 .1 .0) (κs .1 .1 .1 .1 .1 .1 .1 .1 .1 .1 .1 .1 .1 .1 .1 .1 .1 .1 .0) (qs .1 .1 .1 .1 .1 .1 .1 .1 .1 .1 .1 .1 .1 .1 .1 .1 .1 .1 .0) (a
+      .0) (a .1 .0) (a .1 .1 .0)
       (a .1 .1 .1 .0 .ptr .0) (a .1 .1 .1 .0 .ptr .1) (a .1 .1 .1 .0 .name) (a .1 .1 .1 .0 .now) (are .1 .1 .1 .0 .0 .1) (a .1 .1 .1 .1 .0)
       (a .1 .1 .1 .1 .1 .0) (are .1 .1 .1 .1 .1 .0 .0 .1) (a .1 .1 .1 .1 .1 .1 .0) (are .1 .1 .1 .1 .1 .1 .0 .0 .1) (a .1 .1 .1 .1 .1 .1 .1 .0) (are .1 .1 .1 .1 .1 .1 .1 .0 .0 .1) (a .1 .1 .1 .1 .1 .1
       .1 .1 .0) (are .1 .1 .1 .1 .1 .1 .1 .1 .0 .0 .1) (a .1 .1 .1 .1 .1 .1 .1 .1 .1 .0) (are .1 .1 .1 .1 .1 .1 .1 .1 .1 .0 .0 .1) (a .1 .1 .1 .1 .1 .1 .1 .1 .1 .1 .0) (are .1 .1 .1 .1 .1 .1 .1 .1 .1
@@ -241,15 +244,17 @@ module _ {M : Type 1} (𝓤 : URA M) (H : Heap 𝓤) (A : Atoms 𝓤) (W : Given
       .1 .1 .1 .1 .1 .1 .1 .1 .1 .1 .1 .1 .1 .0 .0 .1) (a .1 .1 .1 .1 .1 .1 .1 .1 .1 .1 .1 .1 .1 .1 .1 .1 .1 .0) (are .1 .1 .1 .1 .1 .1 .1 .1 .1 .1 .1 .1 .1 .1 .1 .1 .1 .0 .0 .1) (a .1 .1 .1 .1 .1 .1
       .1 .1 .1 .1 .1 .1 .1 .1 .1 .1 .1 .1 .0) (are .1 .1 .1 .1 .1 .1 .1 .1 .1 .1 .1 .1 .1 .1 .1 .1 .1 .1 .0 .0 .1) (a .1 .1 .1 .1 .1 .1 .1 .1 .1 .1 .1 .1 .1 .1 .1 .1 .1 .1 .1 .0) (are .1 .1 .1 .1 .1
       .1 .1 .1 .1 .1 .1 .1 .1 .1 .1 .1 .1 .1 .1 .0 .0 .1) (a .1 .1 .1 .1 .1 .1 .1 .1 .1 .1 .1 .1 .1 .1 .1 .1 .1 .1 .1 .1 .0) (are .1 .1 .1 .1 .1 .1 .1 .1 .1 .1 .1 .1 .1 .1 .1 .1 .1 .1 .1 .1 .0 .0 .1)
-      (a .1 .1 .1 .1 .1 .1 .1 .1 .1 .1 .1 .1 .1 .1 .1 .1 .1 .1 .1 .1 .1 .0) (are .1 .1 .1 .1 .1 .1 .1 .1 .1 .1 .1 .1 .1 .1 .1 .1 .1 .1 .1 .1 .1 .0 .0 .1) (are .0) (are .1 .1 .1 .1 .0) (are .1 .0 .1)
-      (are .1 .1 .0 .1) C Λ fm known-load known-core))
+      (a .1 .1 .1 .1 .1 .1 .1 .1 .1 .1 .1 .1 .1 .1 .1 .1 .1 .1 .1 .1 .1 .0) (are .1 .1 .1 .1 .1 .1 .1 .1 .1 .1 .1 .1 .1 .1 .1 .1 .1 .1 .1 .1 .1 .0 .0 .1) (a .1 .1 .1 .1 .1 .1 .1 .1 .1 .1 .1 .1 .1 .1
+      .1 .1 .1 .1 .1 .1 .1 .1 .0) (are .1 .1 .1 .1 .1 .1 .1 .1 .1 .1 .1 .1 .1 .1 .1 .1 .1 .1 .1 .1 .1 .1 .0 .0 .1) (are .0) (are .1 .1 .1 .1 .0) (are .1 .0 .1) (are .1 .1 .0 .1) C Λ fm known-load
+      known-core))
 
 meets : {M : Type 1} (𝓤 : URA M) (H : Heap 𝓤) (A : Atoms 𝓤) → Given 𝓤 H A → (at-mem : Memory → SProp 𝓤) (run : Routine → Fun 𝓤) (𝓣 : Tables 𝓤 H) → Triple 𝓤 (𝓣 .C #load) (Load 𝓤 H A at-mem run) → Triple 𝓤 (𝓣 .C #core) (Core 𝓤 H A at-mem run)
     → Meets 𝓤 H A fn.signature (WpFn 𝓤 H (𝓣 .C) (𝓣 .Λ) code.function) (fn.spec 𝓤 H A at-mem run)
 meets 𝓤 H A W at-mem run 𝓣 known-load known-core =
-    let v = goes-value 𝓤 H A W 18 in let h = goes-seen 𝓤 H A W 18 in
+    let v = goes-value 𝓤 H A W 19 in let h = goes-seen 𝓤 H A W 19 in
     walk-meets 𝓤 H A fn.ended stayed W
-    (v Z (λ κs x f. refl), (v usize (λ κs x f. refl), (v usize (λ κs x f. refl), (h 0 tt F, (v P (λ κs x f. refl), (h 1 tt u32, (h 2 tt u32, (h 3 tt u16, (h 4 tt u16, (h 5 tt u16, (h 6 tt u32, (h 7 tt u16, (h 8 tt u16, (h 9 tt u16, (h 10 tt u8, (h 11 tt u8, (h 12 tt u32, (h 13 tt u8, (h 14 tt u8, (h 15 tt u16, (h 16 tt u16, (h 17 tt u16, tt)))))))))))))))))))))) (fn.clauses 𝓤 H A at-mem run)
+    (v Z (λ κs x f. refl), (v usize (λ κs x f. refl), (v usize (λ κs x f. refl), (h 0 tt F, (v P (λ κs x f. refl), (h 1 tt u32, (h 2 tt u32, (h 3 tt u16, (h 4 tt u16, (h 5 tt u16, (h 6 tt u16, (h 7 tt u32, (h 8 tt u16, (h 9 tt u16, (h 10 tt u16, (h 11 tt u8, (h 12 tt u8, (h 13 tt u32, (h 14 tt u8, (h 15 tt u8, (h 16 tt u16, (h 17 tt u16, (h 18 tt u16, tt)))))))))))))))))))))))
+    (fn.clauses 𝓤 H A at-mem run)
     (WpFn 𝓤 H (𝓣 .C) (𝓣 .Λ) code.function) (WpFn-mono 𝓤 H (W .laws) 𝓣 code.function) (walks 𝓤 H A W at-mem run (𝓣 .C) (𝓣 .Λ) (fmOf 𝓤 H (W .laws) 𝓣) known-load known-core)
 
 pub keeper-page-look-spec : {M : Type 1} → stated.statement M

@@ -73,8 +73,8 @@ use Rattle.keeper.proofs.page_look.Code as code
 
 abbrev stayed : Stays (fn.ended .signature .params) (fn.ended .kept)
 stayed =
-    let v = value 19 in let h = seen 19 in
-    (v Z, (v usize, (v usize, (h 0 tt F, (v P, (gave-ref (1 ∷ []) tt (plain (λ _. u32)), (h 2 tt u32, (h 3 tt u32, (h 4 tt u16, (h 5 tt u16, (h 6 tt u16, (h 7 tt u32, (h 8 tt u16, (h 9 tt u16, (h 10 tt u16, (h 11 tt u8, (h 12 tt u8, (h 13 tt u32, (h 14 tt u8, (h 15 tt u8, (h 16 tt u16, (h 17 tt u16, (h 18 tt u16, tt)))))))))))))))))))))))
+    let v = value 20 in let h = seen 20 in
+    (v Z, (v usize, (v usize, (h 0 tt F, (v P, (gave-ref (1 ∷ []) tt (plain (λ _. u32)), (h 2 tt u32, (h 3 tt u32, (h 4 tt u16, (h 5 tt u16, (h 6 tt u16, (h 7 tt u16, (h 8 tt u32, (h 9 tt u16, (h 10 tt u16, (h 11 tt u16, (h 12 tt u8, (h 13 tt u8, (h 14 tt u32, (h 15 tt u8, (h 16 tt u8, (h 17 tt u16, (h 18 tt u16, (h 19 tt u16, tt))))))))))))))))))))))))
 
 module _ {M : Type 1} (𝓤 : URA M) (H : Heap 𝓤) (A : Atoms 𝓤) (at-mem : Memory → SProp 𝓤) (run : Routine → Fun 𝓤) where
   abbrev Core : Contract 𝓤
@@ -83,30 +83,31 @@ module _ {M : Type 1} (𝓤 : URA M) (H : Heap 𝓤) (A : Atoms 𝓤) (at-mem : 
 module _ {M : Type 1} (𝓤 : URA M) (H : Heap 𝓤) (A : Atoms 𝓤) (W : Given 𝓤 H A) (at-mem : Memory → SProp 𝓤) (run : Routine → Fun 𝓤) (κ0 : Lft) (q0 : Share) (κ1 : Lft) (q1 : Share) (κ2 : Lft) (q2 :
     Share) (κ3 : Lft) (q3 : Share) (κ4 : Lft) (q4 : Share) (κ5 : Lft) (q5 : Share) (κ6 : Lft) (q6 : Share) (κ7 : Lft) (q7 : Share) (κ8 : Lft) (q8 : Share) (κ9 : Lft) (q9 : Share) (κ10 : Lft) (q10 :
     Share) (κ11 : Lft) (q11 : Share) (κ12 : Lft) (q12 : Share) (κ13 : Lft) (q13 : Share) (κ14 : Lft) (q14 : Share) (κ15 : Lft) (q15 : Share) (κ16 : Lft) (q16 : Share) (κ17 : Lft) (q17 : Share) (κ18 :
-    Lft) (q18 : Share)
+    Lft) (q18 : Share) (κ19 : Lft) (q19 : Share)
     (z : Sizes) (slot page : ℕ)
     (bf of′ : ℕ) (γf : GName) (ys : List Frame) (roomf : Room F (length ys)) (p : Pool) (br or : ℕ) (γr : GName) (old : ℕ) (x0 : RefT (List ℕ)) (room0 : Room u32 (length (now x0))) (x1 : RefT (List
     ℕ)) (room1 : Room u32 (length (now x1))) (x2 : RefT (List ℕ)) (room2 : Room u16 (length (now x2))) (x3 : RefT (List ℕ)) (room3 : Room u16 (length (now x3))) (x4 : RefT (List ℕ)) (room4 : Room u16
-    (length (now x4))) (x5 : RefT (List ℕ)) (room5 : Room u32 (length (now x5))) (x6 : RefT (List ℕ)) (room6 : Room u16 (length (now x6))) (x7 : RefT (List ℕ)) (room7 : Room u16 (length (now x7))) (x8
-    : RefT (List ℕ)) (room8 : Room u16 (length (now x8))) (x9 : RefT (List ℕ)) (room9 : Room u8 (length (now x9))) (x10 : RefT (List ℕ)) (room10 : Room u8 (length (now x10))) (x11 : RefT (List ℕ))
-    (room11 : Room u32 (length (now x11))) (x12 : RefT (List ℕ)) (room12 : Room u8 (length (now x12))) (x13 : RefT (List ℕ)) (room13 : Room u8 (length (now x13))) (x14 : RefT (List ℕ)) (room14 : Room
-    u16 (length (now x14))) (x15 : RefT (List ℕ)) (room15 : Room u16 (length (now x15))) (x16 : RefT (List ℕ)) (room16 : Room u16 (length (now x16))) (is-z : Is Z z (sizes-vals z)) (is-p : Is P p
+    (length (now x4))) (x5 : RefT (List ℕ)) (room5 : Room u16 (length (now x5))) (x6 : RefT (List ℕ)) (room6 : Room u32 (length (now x6))) (x7 : RefT (List ℕ)) (room7 : Room u16 (length (now x7))) (x8
+    : RefT (List ℕ)) (room8 : Room u16 (length (now x8))) (x9 : RefT (List ℕ)) (room9 : Room u16 (length (now x9))) (x10 : RefT (List ℕ)) (room10 : Room u8 (length (now x10))) (x11 : RefT (List ℕ))
+    (room11 : Room u8 (length (now x11))) (x12 : RefT (List ℕ)) (room12 : Room u32 (length (now x12))) (x13 : RefT (List ℕ)) (room13 : Room u8 (length (now x13))) (x14 : RefT (List ℕ)) (room14 : Room
+    u8 (length (now x14))) (x15 : RefT (List ℕ)) (room15 : Room u16 (length (now x15))) (x16 : RefT (List ℕ)) (room16 : Room u16 (length (now x16))) (x17 : RefT (List ℕ)) (room17 : Room u16 (length
+    (now x17))) (is-z : Is Z z (sizes-vals z)) (is-p : Is P p
     (LL.vals TP.the-type TP′.the-laws p)) (slot-fits : slot < 2 ^ 64) (page-fits : page < 2 ^ 64) where
   -- the tables' lifetimes, shares, references and machine values, and their tokens
-  abbrev κt : Lfts 17
-  κt = (κ2, (κ3, (κ4, (κ5, (κ6, (κ7, (κ8, (κ9, (κ10, (κ11, (κ12, (κ13, (κ14, (κ15, (κ16, (κ17, (κ18, tt)))))))))))))))))
+  abbrev κt : Lfts 18
+  κt = (κ2, (κ3, (κ4, (κ5, (κ6, (κ7, (κ8, (κ9, (κ10, (κ11, (κ12, (κ13, (κ14, (κ15, (κ16, (κ17, (κ18, (κ19, tt))))))))))))))))))
 
-  abbrev qt : Shares 17
-  qt = (q2, (q3, (q4, (q5, (q6, (q7, (q8, (q9, (q10, (q11, (q12, (q13, (q14, (q15, (q16, (q17, (q18, tt)))))))))))))))))
+  abbrev qt : Shares 18
+  qt = (q2, (q3, (q4, (q5, (q6, (q7, (q8, (q9, (q10, (q11, (q12, (q13, (q14, (q15, (q16, (q17, (q18, (q19, tt))))))))))))))))))
 
   abbrev xt : EachTable (RefT (List ℕ))
-  xt = (x0, (x1, (x2, (x3, (x4, (x5, (x6, (x7, (x8, (x9, (x10, (x11, (x12, (x13, (x14, (x15, (x16, tt)))))))))))))))))
+  xt = (x0, (x1, (x2, (x3, (x4, (x5, (x6, (x7, (x8, (x9, (x10, (x11, (x12, (x13, (x14, (x15, (x16, (x17, tt))))))))))))))))))
 
   abbrev vt : EachTable (List Val)
-  vt = (table-val x0 ∷ [], (table-val x1 ∷ [], (table-val x2 ∷ [], (table-val x3 ∷ [], (table-val x4 ∷ [], (table-val x5 ∷ [], (table-val x6 ∷ [], (table-val x7 ∷ [], (table-val x8 ∷ [], (table-val x9 ∷ [], (table-val x10 ∷ [], (table-val x11 ∷ [], (table-val x12 ∷ [], (table-val x13 ∷ [], (table-val x14 ∷ [], (table-val x15 ∷ [], (table-val x16 ∷ [], tt)))))))))))))))))
+  vt = (table-val x0 ∷ [], (table-val x1 ∷ [], (table-val x2 ∷ [], (table-val x3 ∷ [], (table-val x4 ∷ [], (table-val x5 ∷ [], (table-val x6 ∷ [], (table-val x7 ∷ [], (table-val x8 ∷ [], (table-val x9 ∷ [], (table-val x10 ∷ [], (table-val x11 ∷ [], (table-val x12 ∷ [], (table-val x13 ∷ [], (table-val x14 ∷ [], (table-val x15 ∷ [], (table-val x16 ∷ [], (table-val x17 ∷ [], tt))))))))))))))))))
 
   abbrev tokens : Item 𝓤
-  tokens = (‵ (flft κ2 q2) ⊛ (‵ (flft κ3 q3) ⊛ (‵ (flft κ4 q4) ⊛ (‵ (flft κ5 q5) ⊛ (‵ (flft κ6 q6) ⊛ (‵ (flft κ7 q7) ⊛ (‵ (flft κ8 q8) ⊛ (‵ (flft κ9 q9) ⊛ (‵ (flft κ10 q10) ⊛ (‵ (flft κ11 q11) ⊛ (‵ (flft κ12 q12) ⊛ (‵ (flft κ13 q13) ⊛ (‵ (flft κ14 q14) ⊛ (‵ (flft κ15 q15) ⊛ (‵ (flft κ16 q16) ⊛ (‵ (flft κ17 q17) ⊛ (‵ (flft κ18 q18) ⊛ ‵ ftrue)))))))))))))))))
+  tokens = (‵ (flft κ2 q2) ⊛ (‵ (flft κ3 q3) ⊛ (‵ (flft κ4 q4) ⊛ (‵ (flft κ5 q5) ⊛ (‵ (flft κ6 q6) ⊛ (‵ (flft κ7 q7) ⊛ (‵ (flft κ8 q8) ⊛ (‵ (flft κ9 q9) ⊛ (‵ (flft κ10 q10) ⊛ (‵ (flft κ11 q11) ⊛ (‵ (flft κ12 q12) ⊛ (‵ (flft κ13 q13) ⊛ (‵ (flft κ14 q14) ⊛ (‵ (flft κ15 q15) ⊛ (‵ (flft κ16 q16) ⊛ (‵ (flft κ17 q17) ⊛ (‵ (flft κ18 q18) ⊛ (‵ (flft κ19 q19) ⊛ ‵ ftrue))))))))))))))))))
 
   -- the parameters, and their machine values
   abbrev n : ℕ
@@ -132,27 +133,27 @@ module _ {M : Type 1} (𝓤 : URA M) (H : Heap 𝓤) (A : Atoms 𝓤) (W : Given
 
   -- what the work's contract says of what it returns, and of the refusal at the end, of a state
   abbrev Says : State → RefT (List ℕ) → ℕ → Type 0
-  Says st r y = (now r ≡ looked z st slot page .left) × ((y ≡ looked z st slot page .answer .refusal) × (ptr r ≡ wordAt (ptr x5) (partOf z st slot page .start)))
+  Says st r y = (now r ≡ looked z st slot page .left) × ((y ≡ looked z st slot page .answer .refusal) × (ptr r ≡ wordAt (ptr x6) (partOf z st slot page .start)))
 
   abbrev Left : RefT (List ℕ) → ℕ → Type 0
-  Left = Says (allOf (framesOf (loaded ys) n) p (now x0) (now x1) (now x2) (now x3) (now x4) (now x5) (now x6) (now x7) (now x8) (now x9) (now x10) (now x11) (now x12) (now x13) (now x14) (now x15) (now x16))
+  Left = Says (allOf (framesOf (loaded ys) n) p (now x0) (now x1) (now x2) (now x3) (now x4) (now x5) (now x6) (now x7) (now x8) (now x9) (now x10) (now x11) (now x12) (now x13) (now x14) (now x15) (now x16) (now x17))
 
   -- what the call's contract says, from that, for a slice of frames of any length
-  said : (r : RefT (List ℕ)) (y : ℕ) → Left r y → Says (allOf ys p (now x0) (now x1) (now x2) (now x3) (now x4) (now x5) (now x6) (now x7) (now x8) (now x9) (now x10) (now x11) (now x12) (now x13) (now x14) (now x15) (now x16)) r y
+  said : (r : RefT (List ℕ)) (y : ℕ) → Left r y → Says (allOf ys p (now x0) (now x1) (now x2) (now x3) (now x4) (now x5) (now x6) (now x7) (now x8) (now x9) (now x10) (now x11) (now x12) (now x13) (now x14) (now x15) (now x16) (now x17)) r y
   said r y e =
-      let looks = alike z ys (allOf ys p (now x0) (now x1) (now x2) (now x3) (now x4) (now x5) (now x6) (now x7) (now x8) (now x9) (now x10) (now x11) (now x12) (now x13) (now x14) (now x15) (now x16)) (λ (st : State). looked z st slot page) noWords (look-refuses z slot page) in
-      let parts = alike z ys (allOf ys p (now x0) (now x1) (now x2) (now x3) (now x4) (now x5) (now x6) (now x7) (now x8) (now x9) (now x10) (now x11) (now x12) (now x13) (now x14) (now x15) (now x16)) (λ (st : State). partOf z st slot page) noPart (part-refuses z slot page) in
-      (e .0 ∙ ap (λ (o : Outcome (List ℕ)). o .left) looks, (e .1 .0 ∙ ap (λ (o : Outcome (List ℕ)). o .answer .refusal) looks, e .1 .1 ∙ ap (λ (k : Part). wordAt (ptr x5) (k .start)) parts))
+      let looks = alike z ys (allOf ys p (now x0) (now x1) (now x2) (now x3) (now x4) (now x5) (now x6) (now x7) (now x8) (now x9) (now x10) (now x11) (now x12) (now x13) (now x14) (now x15) (now x16) (now x17)) (λ (st : State). looked z st slot page) noWords (look-refuses z slot page) in
+      let parts = alike z ys (allOf ys p (now x0) (now x1) (now x2) (now x3) (now x4) (now x5) (now x6) (now x7) (now x8) (now x9) (now x10) (now x11) (now x12) (now x13) (now x14) (now x15) (now x16) (now x17)) (λ (st : State). partOf z st slot page) noPart (part-refuses z slot page) in
+      (e .0 ∙ ap (λ (o : Outcome (List ℕ)). o .left) looks, (e .1 .0 ∙ ap (λ (o : Outcome (List ℕ)). o .answer .refusal) looks, e .1 .1 ∙ ap (λ (k : Part). wordAt (ptr x6) (k .start)) parts))
 
-  exits : (r : RefT (List ℕ)) (w : Val) (y : ℕ) → Left r y → ent 𝓤 (⋆ 𝓤 H A (‵ (flft κ0 q0) ∷ (‵ (flft κ1 q1) ⊛ tokens) ∷ ‵ (fres γr (u32 .coded .code y)) ∷ ‵ (ShrSlice (named 7) κ7 u32 .own r (w ∷ [])) ∷ [])) (Post w)
+  exits : (r : RefT (List ℕ)) (w : Val) (y : ℕ) → Left r y → ent 𝓤 (⋆ 𝓤 H A (‵ (flft κ0 q0) ∷ (‵ (flft κ1 q1) ⊛ tokens) ∷ ‵ (fres γr (u32 .coded .code y)) ∷ ‵ (ShrSlice (named 8) κ8 u32 .own r (w ∷ [])) ∷ [])) (Post w)
   exits r w y e =
-      qed W (‵ (flft κ0 q0) ∷ (‵ (flft κ1 q1) ⊛ tokens) ∷ ‵ (fres γr (u32 .coded .code y)) ∷ ‵ (ShrSlice (named 7) κ7 u32 .own r (w ∷ [])) ∷ []) ∵
+      qed W (‵ (flft κ0 q0) ∷ (‵ (flft κ1 q1) ⊛ tokens) ∷ ‵ (fres γr (u32 .coded .code y)) ∷ ‵ (ShrSlice (named 8) κ8 u32 .own r (w ∷ [])) ∷ []) ∵
       suffices ! _ (ends-at 𝓤 H A fn.ended stayed (fn.clauses 𝓤 H A at-mem run) W bound w r
-      (tt, (tt, (tt, (tt, (tt, (y, (tt, (tt, (tt, (tt, (tt, (tt, (tt, (tt, (tt, (tt, (tt, (tt, (tt, (tt, (tt, (tt, (tt, tt)))))))))))))))))))))))
-      (tt, (tt, (tt, (tt, (tt, (tt, (tt, (tt, (tt, (tt, (tt, (tt, (tt, (tt, (tt, (tt, (tt, (tt, (tt, (tt, (tt, (tt, (tt, tt)))))))))))))))))))))))) $ says ! (said r y e) $ join ! $ frame ! $
+      (tt, (tt, (tt, (tt, (tt, (y, (tt, (tt, (tt, (tt, (tt, (tt, (tt, (tt, (tt, (tt, (tt, (tt, (tt, (tt, (tt, (tt, (tt, (tt, tt))))))))))))))))))))))))
+      (tt, (tt, (tt, (tt, (tt, (tt, (tt, (tt, (tt, (tt, (tt, (tt, (tt, (tt, (tt, (tt, (tt, (tt, (tt, (tt, (tt, (tt, (tt, (tt, tt))))))))))))))))))))))))) $ says ! (said r y e) $ join ! $ frame ! $
       nothing ! $ nothing ! $ fjoin ! $ nothing ! $ fjoin ! $ nothing ! $ fjoin ! $ nothing ! $ fjoin ! $ nothing ! $ fjoin ! $ nothing ! $ fjoin ! $ nothing ! $ fjoin ! $ nothing ! $ fjoin ! $
       nothing ! $ fjoin ! $ nothing ! $ fjoin ! $ nothing ! $ fjoin ! $ nothing ! $ fjoin ! $ nothing ! $ fjoin ! $ nothing ! $ fjoin ! $ nothing ! $ fjoin ! $ nothing ! $ fjoin ! $ nothing ! $ fjoin
-      ! $ move ! (1 ∷ 0 ∷
+      ! $ nothing ! $ fjoin ! $ move ! (1 ∷ 0 ∷
       []) $ fjoin ! $ nothing ! $ fjoin ! $ nothing ! $ fjoin ! $ nothing ! $ fjoin ! $ nothing ! $ fjoin ! $ nothing ! $ fjoin ! $ done !
 
   -- what the work's triple binds outside, that the caller has what it asks, and what it leaves
@@ -161,8 +162,9 @@ module _ {M : Type 1} (𝓤 : URA M) (H : Heap 𝓤) (A : Atoms 𝓤) (W : Given
 
   abbrev Owned : Fml
   Owned = owns (MutRef (named 0) κ1 u32 ∷ ShrSlice (named 1) κ2 u32 ∷ ShrSlice (named 2) κ3 u32 ∷ ShrSlice (named 3) κ4 u16 ∷ ShrSlice (named 4) κ5 u16 ∷ ShrSlice (named 5) κ6 u16 ∷ ShrSlice (named 6)
-      κ7 u32 ∷ ShrSlice (named 7) κ8 u16 ∷ ShrSlice (named 8) κ9 u16 ∷ ShrSlice (named 9) κ10 u16 ∷ ShrSlice (named 10) κ11 u8 ∷ ShrSlice (named 11) κ12 u8 ∷ ShrSlice (named 12) κ13 u32 ∷ ShrSlice
-      (named 13) κ14 u8 ∷ ShrSlice (named 14) κ15 u8 ∷ ShrSlice (named 15) κ16 u16 ∷ ShrSlice (named 16) κ17 u16 ∷ ShrSlice (named 17) κ18 u16 ∷ []) (xr, xt) (vptr br or ∷ [], vt)
+      κ7 u16 ∷ ShrSlice (named 7) κ8 u32 ∷ ShrSlice (named 8) κ9 u16 ∷ ShrSlice (named 9) κ10 u16 ∷ ShrSlice (named 10) κ11 u16 ∷ ShrSlice (named 11) κ12 u8 ∷ ShrSlice (named 12) κ13 u8 ∷ ShrSlice
+      (named 13) κ14 u32 ∷ ShrSlice (named 14) κ15 u8 ∷ ShrSlice (named 15) κ16 u8 ∷ ShrSlice (named 16) κ17 u16 ∷ ShrSlice (named 17) κ18 u16 ∷ ShrSlice (named 18) κ19 u16 ∷ []) (xr, xt)
+      (vptr br or ∷ [], vt)
 
   goes-core : (v : Val) → Is F64 (loaded ys) (v ∷ []) → ent 𝓤 (⋆ 𝓤 H A ((‵ (flft κ1 q1) ⊛ tokens) ∷ ‵ Owned ∷ [])) (Core 𝓤 H A at-mem run .pre (to-core v))
   goes-core v is =
@@ -173,7 +175,7 @@ module _ {M : Type 1} (𝓤 : URA M) (H : Heap 𝓤) (A : Atoms 𝓤) (W : Given
   core-of : (r : RefT (List ℕ)) → ent 𝓤 (ensured 𝓤 H A core.ended (core.clauses 𝓤 H A at-mem run) (κ1, κt) (z, (slot, (page, (n, (loaded ys, (p, (xr, xt))))))) tt r) (ex 𝓤 (λ (y : ℕ). guard 𝓤 (Left r y) (sem 𝓤 H A (fres γr (u32 .coded .code y)))))
   core-of r =
       qed W (raw (ensured 𝓤 H A core.ended (core.clauses 𝓤 H A at-mem run) (κ1, κt) (z, (slot, (page, (n, (loaded ys, (p, (xr, xt))))))) tt r) ∷ []) ∵
-      use1 W (some (λ (ws : Unit {0} × (Unit {0} × (Unit {0} × (Unit {0} × (Unit {0} × (Unit {0} × (ℕ × (Unit {0} × (Unit {0} × (Unit {0} × (Unit {0} × (Unit {0} × (Unit {0} × (Unit {0} × (Unit {0} × (Unit {0} × (Unit {0} × (Unit {0} × (Unit {0} × (Unit {0} × (Unit {0} × (Unit {0} × (Unit {0} × (Unit {0} × (Unit {0}))))))))))))))))))))))))). ‵ (lasts core.ended (κ1, κt)
+      use1 W (some (λ (ws : Unit {0} × (Unit {0} × (Unit {0} × (Unit {0} × (Unit {0} × (Unit {0} × (ℕ × (Unit {0} × (Unit {0} × (Unit {0} × (Unit {0} × (Unit {0} × (Unit {0} × (Unit {0} × (Unit {0} × (Unit {0} × (Unit {0} × (Unit {0} × (Unit {0} × (Unit {0} × (Unit {0} × (Unit {0} × (Unit {0} × (Unit {0} × (Unit {0} × (Unit {0})))))))))))))))))))))))))). ‵ (lasts core.ended (κ1, κt)
       (z, (slot, (page, (n, (loaded ys, (p, (xr, xt))))))) ws) ⊛ raw (fact 𝓤 (Left r (ws .1 .1 .1 .1 .1 .1 .0))))) (id⊢ 𝓤 _) $ pick ! (λ ws.
       split ! $ move ! (1 ∷ []) $ heard ! (Left r (ws .1 .1 .1 .1 .1 .1 .0)) (λ e₁. fsplit ! $ drop ! $ fsplit ! $ drop ! $ fsplit ! $ drop ! $ fsplit ! $ drop ! $ fsplit ! $ drop ! $ fsplit ! $ drop ! $ fsplit ! $
       show ! (λ (y : ℕ). guard 𝓤 (Left r y) (sem 𝓤 H A (fres γr (u32 .coded .code y)))) (ws .1 .1 .1 .1 .1 .1 .0) $ check ! e₁ $ keep ! (0 ∷ []) $ done !))
@@ -181,69 +183,70 @@ module _ {M : Type 1} (𝓤 : URA M) (H : Heap 𝓤) (A : Atoms 𝓤) (W : Given
   module _ (C : Calls 𝓤 H) (Λ : Loops 𝓤 H) (fm : FmC 𝓤 H (W .laws) C) (known-load : Triple 𝓤 (C #load) (Load 𝓤 H A at-mem run)) (known-core : Triple 𝓤 (C #core) (Core 𝓤 H A at-mem run)) where
     walk : ent 𝓤 (onEntry 𝓤 H A fn.signature (κ0, (κ1, κt)) (q0, (q1, qt)) (z, (slot, (page, (xf, (p, (xr, xt))))))
         (sizes-val z ∷ [], (vint w64 slot ∷ [], (vint w64 page ∷ [], (sf ∷ [], (p-val ∷ [], (vptr br or ∷ [], vt))))))) (WpFn 𝓤 H C Λ code.function (sizes-val z ∷ vint w64 slot ∷ vint w64 page ∷ sf ∷
-        p-val ∷ vptr br or ∷ table-val x0 ∷ table-val x1 ∷ table-val x2 ∷ table-val x3 ∷ table-val x4 ∷ table-val x5 ∷ table-val x6 ∷ table-val x7 ∷ table-val x8 ∷ table-val x9 ∷ table-val x10 ∷ table-val x11 ∷ table-val x12 ∷ table-val x13 ∷ table-val x14 ∷ table-val x15 ∷ table-val x16 ∷ []) Post)
+        p-val ∷ vptr br or ∷ table-val x0 ∷ table-val x1 ∷ table-val x2 ∷ table-val x3 ∷ table-val x4 ∷ table-val x5 ∷ table-val x6 ∷ table-val x7 ∷ table-val x8 ∷ table-val x9 ∷ table-val x10 ∷ table-val x11 ∷ table-val x12 ∷ table-val x13 ∷ table-val x14 ∷ table-val x15 ∷ table-val x16 ∷ table-val x17 ∷ []) Post)
     walk =
         qed W ((‵ (flft κ0 q0) ⊛ (‵ (flft κ1 q1) ⊛ tokens)) ∷ ‵ (owns (Z ∷ usize ∷ usize ∷ ShrSlice (named 0) κ0 F ∷ P ∷ MutRef (named 1) κ1 u32 ∷ ShrSlice (named 2) κ2 u32 ∷ ShrSlice (named 3) κ3 u32
-        ∷ ShrSlice (named 4) κ4 u16 ∷ ShrSlice (named 5) κ5 u16 ∷ ShrSlice (named 6) κ6 u16 ∷ ShrSlice (named 7) κ7 u32 ∷ ShrSlice (named 8) κ8 u16 ∷ ShrSlice (named 9) κ9 u16 ∷ ShrSlice (named 10)
-        κ10 u16 ∷ ShrSlice (named 11) κ11 u8 ∷ ShrSlice (named 12) κ12 u8 ∷ ShrSlice (named 13) κ13 u32 ∷ ShrSlice (named 14) κ14 u8 ∷ ShrSlice (named 15) κ15 u8 ∷ ShrSlice (named 16) κ16 u16 ∷
-        ShrSlice (named 17) κ17 u16 ∷ ShrSlice (named 18) κ18 u16 ∷ []) (z, (slot, (page, (xf, (p, (xr, xt))))))
+        ∷ ShrSlice (named 4) κ4 u16 ∷ ShrSlice (named 5) κ5 u16 ∷ ShrSlice (named 6) κ6 u16 ∷ ShrSlice (named 7) κ7 u16 ∷ ShrSlice (named 8) κ8 u32 ∷ ShrSlice (named 9) κ9 u16 ∷ ShrSlice (named 10)
+        κ10 u16 ∷ ShrSlice (named 11) κ11 u16 ∷ ShrSlice (named 12) κ12 u8 ∷ ShrSlice (named 13) κ13 u8 ∷ ShrSlice (named 14) κ14 u32 ∷ ShrSlice (named 15) κ15 u8 ∷ ShrSlice (named 16) κ16 u8 ∷
+        ShrSlice (named 17) κ17 u16 ∷ ShrSlice (named 18) κ18 u16 ∷ ShrSlice (named 19) κ19 u16 ∷ []) (z, (slot, (page, (xf, (p, (xr, xt))))))
         (sizes-val z ∷ [], (vint w64 slot ∷ [], (vint w64 page ∷ [], (sf ∷ [], (p-val ∷ [], (vptr br or ∷ [], vt))))))) ∷ []) ∵
         split ! $ move ! (2 ∷ []) $ fsplit ! $ drop ! $ fsplit ! $ drop ! $ fsplit ! $ drop ! $ fsplit ! $ move ! (1 ∷ []) $ fsplit ! $ drop ! $ keep ! (1 ∷ 2 ∷ 0 ∷ 3 ∷ []) $
         -- [what frames owns; its token; what the other references own; their tokens]
-        enter ! C Λ code.function (sizes-val z ∷ vint w64 slot ∷ vint w64 page ∷ sf ∷ p-val ∷ vptr br or ∷ table-val x0 ∷ table-val x1 ∷ table-val x2 ∷ table-val x3 ∷ table-val x4 ∷ table-val x5 ∷ table-val x6 ∷ table-val x7 ∷ table-val x8 ∷ table-val x9 ∷ table-val x10 ∷ table-val x11 ∷ table-val x12 ∷ table-val x13 ∷ table-val x14 ∷ table-val x15 ∷ table-val x16 ∷ []) _ $
+        enter ! C Λ code.function (sizes-val z ∷ vint w64 slot ∷ vint w64 page ∷ sf ∷ p-val ∷ vptr br or ∷ table-val x0 ∷ table-val x1 ∷ table-val x2 ∷ table-val x3 ∷ table-val x4 ∷ table-val x5 ∷ table-val x6 ∷ table-val x7 ∷ table-val x8 ∷ table-val x9 ∷ table-val x10 ∷ table-val x11 ∷ table-val x12 ∷ table-val x13 ∷ table-val x14 ∷ table-val x15 ∷ table-val x16 ∷ table-val x17 ∷ []) _ $
         alloc1 ! (λ l0. alloc1 ! (λ l1. alloc1 ! (λ l2. alloc1 ! (λ l3. alloc1 ! (λ l4. alloc1 ! (λ l5. alloc1 ! (λ l6. alloc1 ! (λ l7. alloc1 ! (λ l8. alloc1 ! (λ l9. alloc1 ! (λ l10. alloc1 ! (λ
         l11. alloc1 ! (λ l12. alloc1 ! (λ l13. alloc1 ! (λ l14. alloc1 ! (λ l15. alloc1 ! (λ l16. alloc1 ! (λ l17. alloc1 ! (λ l18. alloc1 ! (λ l19. alloc1 ! (λ l20. alloc1 ! (λ l21. alloc1 ! (λ l22.
-        alloc1 ! (λ l23. alloc1 ! (λ l24. alloc1 ! (λ l25. alloc1 ! (λ l26. alloc0 ! $ params1 ! $
-        pass1 ! (init ! 50 refl (typed-sizes 𝓤 H A W z is-z)) $ pass1 ! (init ! 48 refl (tt, record { fits = slot-fits })) $ pass1 ! (init ! 46 refl (tt, record { fits = page-fits })) $ pass1 ! (init
-        ! 44 refl (tt, (tt, (record { fits = roomf .0 }, tt)))) $ pass1 ! (init ! 42 refl (typed-pool 𝓤 H A W p p-val is-p)) $ pass1 ! (init ! 40 refl (tt, tt)) $ pass1 ! (init ! 38 refl
-        (tt, (tt, (record { fits = room0 .0 }, tt)))) $ pass1 ! (init ! 36 refl (tt, (tt, (record { fits = room1 .0 }, tt)))) $ pass1 ! (init ! 34 refl (tt, (tt, (record { fits = room2 .0 }, tt)))) $
-        pass1 ! (init ! 32 refl (tt, (tt, (record { fits = room3 .0 }, tt)))) $ pass1 ! (init ! 30 refl (tt, (tt, (record { fits = room4 .0 }, tt)))) $ pass1 ! (init ! 28 refl
-        (tt, (tt, (record { fits = room5 .0 }, tt)))) $ pass1 ! (init ! 26 refl (tt, (tt, (record { fits = room6 .0 }, tt)))) $ pass1 ! (init ! 24 refl (tt, (tt, (record { fits = room7 .0 }, tt)))) $
-        pass1 ! (init ! 22 refl (tt, (tt, (record { fits = room8 .0 }, tt)))) $ pass1 ! (init ! 20 refl (tt, (tt, (record { fits = room9 .0 }, tt)))) $ pass1 ! (init ! 18 refl
-        (tt, (tt, (record { fits = room10 .0 }, tt)))) $ pass1 ! (init ! 16 refl (tt, (tt, (record { fits = room11 .0 }, tt)))) $ pass1 ! (init ! 14 refl (tt, (tt, (record { fits = room12 .0 }, tt))))
-        $ pass1 ! (init ! 12 refl (tt, (tt, (record { fits = room13 .0 }, tt)))) $ pass1 ! (init ! 10 refl (tt, (tt, (record { fits = room14 .0 }, tt)))) $ pass1 ! (init ! 8 refl
-        (tt, (tt, (record { fits = room15 .0 }, tt)))) $ pass1 ! (init ! 6 refl (tt, (tt, (record { fits = room16 .0 }, tt)))) $ pass0 ! $
-        assigns ! (of-opd ! (load ! (from ! (fld ! refl (stop !))) (look-in ! 44 (sub ! 1 refl (whole !))))) (from ! (stop !)) (init ! 4 refl (tt, record { fits = roomf .0 })) $
+        alloc1 ! (λ l23. alloc1 ! (λ l24. alloc1 ! (λ l25. alloc1 ! (λ l26. alloc1 ! (λ l27. alloc0 ! $ params1 ! $
+        pass1 ! (init ! 52 refl (typed-sizes 𝓤 H A W z is-z)) $ pass1 ! (init ! 50 refl (tt, record { fits = slot-fits })) $ pass1 ! (init ! 48 refl (tt, record { fits = page-fits })) $ pass1 ! (init
+        ! 46 refl (tt, (tt, (record { fits = roomf .0 }, tt)))) $ pass1 ! (init ! 44 refl (typed-pool 𝓤 H A W p p-val is-p)) $ pass1 ! (init ! 42 refl (tt, tt)) $ pass1 ! (init ! 40 refl
+        (tt, (tt, (record { fits = room0 .0 }, tt)))) $ pass1 ! (init ! 38 refl (tt, (tt, (record { fits = room1 .0 }, tt)))) $ pass1 ! (init ! 36 refl (tt, (tt, (record { fits = room2 .0 }, tt)))) $
+        pass1 ! (init ! 34 refl (tt, (tt, (record { fits = room3 .0 }, tt)))) $ pass1 ! (init ! 32 refl (tt, (tt, (record { fits = room4 .0 }, tt)))) $ pass1 ! (init ! 30 refl
+        (tt, (tt, (record { fits = room5 .0 }, tt)))) $ pass1 ! (init ! 28 refl (tt, (tt, (record { fits = room6 .0 }, tt)))) $ pass1 ! (init ! 26 refl (tt, (tt, (record { fits = room7 .0 }, tt)))) $
+        pass1 ! (init ! 24 refl (tt, (tt, (record { fits = room8 .0 }, tt)))) $ pass1 ! (init ! 22 refl (tt, (tt, (record { fits = room9 .0 }, tt)))) $ pass1 ! (init ! 20 refl
+        (tt, (tt, (record { fits = room10 .0 }, tt)))) $ pass1 ! (init ! 18 refl (tt, (tt, (record { fits = room11 .0 }, tt)))) $ pass1 ! (init ! 16 refl (tt, (tt, (record { fits = room12 .0 }, tt))))
+        $ pass1 ! (init ! 14 refl (tt, (tt, (record { fits = room13 .0 }, tt)))) $ pass1 ! (init ! 12 refl (tt, (tt, (record { fits = room14 .0 }, tt)))) $ pass1 ! (init ! 10 refl
+        (tt, (tt, (record { fits = room15 .0 }, tt)))) $ pass1 ! (init ! 8 refl (tt, (tt, (record { fits = room16 .0 }, tt)))) $ pass1 ! (init ! 6 refl (tt, (tt, (record { fits = room17 .0 }, tt)))) $
+        pass0 ! $
+        assigns ! (of-opd ! (load ! (from ! (fld ! refl (stop !))) (look-in ! 46 (sub ! 1 refl (whole !))))) (from ! (stop !)) (init ! 4 refl (tt, record { fits = roomf .0 })) $
         -- `load`
-        move ! (55 ∷ 54 ∷ []) $ use2 W (raw (Load 𝓤 H A at-mem run .pre (to-load 𝓤 H A at-mem run κ0 q0 xf))) (goes-load 𝓤 H A at-mem run W κ0 q0 xf) $
-        calls-at ! fm (Load 𝓤 H A at-mem run) known-load (to-load 𝓤 H A at-mem run κ0 q0 xf) (and-then ! (load ! (from ! (stop !)) (look ! 45 refl)) (no-more !)) (λ v.
+        move ! (57 ∷ 56 ∷ []) $ use2 W (raw (Load 𝓤 H A at-mem run .pre (to-load 𝓤 H A at-mem run κ0 q0 xf))) (goes-load 𝓤 H A at-mem run W κ0 q0 xf) $
+        calls-at ! fm (Load 𝓤 H A at-mem run) known-load (to-load 𝓤 H A at-mem run κ0 q0 xf) (and-then ! (load ! (from ! (stop !)) (look ! 47 refl)) (no-more !)) (λ v.
         use1 W (later (some (λ (r : List Frame). ((‵ (flft κ0 q0) ⊛ ‵ ftrue) ⊛ ‵ (F64 .own r (v ∷ []))) ⊛ raw (ensured 𝓤 H A load′.ended (load′.clauses 𝓤 H A at-mem run) (κ0, tt) (xf, tt) tt r)))) (id⊢ 𝓤 _) $ await ! tt $ pick ! (λ r.
         split ! $ move ! (1 ∷ []) $ use1 W (raw (fact 𝓤 (r ≡ loaded ys))) (load-of 𝓤 H A at-mem run κ0 xf r) $ heard ! (r ≡ loaded ys) (λ eq. split ! $ rewrite ! 1 (λ (l : List Frame). ‵ (F64 .own l (v ∷ []))) eq refl $
         move ! (1 ∷ []) $ peeks ! F64 (Is F64) (shows 𝓤 H A F64) (loaded ys) (v ∷ []) (λ is-a. drop ! $
         land ! (from ! (stop !)) (init ! 3 refl (typed64 𝓤 H A W (loaded ys) v is-a)) $
-        assigns ! (addr ! (from ! (hop ! (look ! 41 refl) (stop !)))) (from ! (stop !)) (init ! 1 refl (tt, tt)) $
+        assigns ! (addr ! (from ! (hop ! (look ! 43 refl) (stop !)))) (from ! (stop !)) (init ! 1 refl (tt, tt)) $
         -- the work
-        move ! (56 ∷ 55 ∷ []) $ use2 W (raw (Core 𝓤 H A at-mem run .pre (to-core v))) (goes-core v is-a) $
-        calls-at ! fm (Core 𝓤 H A at-mem run) known-core (to-core v) (and-then ! (load ! (from ! (stop !)) (look ! 52 refl)) (and-then ! (load ! (from ! (stop !)) (look ! 50 refl)) (and-then ! (load !
-        (from ! (stop !)) (look ! 48 refl)) (and-then ! (load ! (from ! (stop !)) (look ! 6 refl)) (and-then ! (load ! (from ! (stop !)) (look ! 4 refl)) (and-then ! (load ! (from ! (stop !)) (look !
-        44 refl)) (and-then ! (load ! (from ! (stop !)) (look ! 2 refl)) (and-then ! (load ! (from ! (stop !)) (look ! 40 refl)) (and-then ! (load ! (from ! (stop !)) (look ! 38 refl)) (and-then !
-        (load ! (from ! (stop !)) (look ! 36 refl)) (and-then ! (load ! (from ! (stop !)) (look ! 34 refl)) (and-then ! (load ! (from ! (stop !)) (look ! 32 refl)) (and-then ! (load ! (from ! (stop
-        !)) (look ! 30 refl)) (and-then ! (load ! (from ! (stop !)) (look ! 28 refl)) (and-then ! (load ! (from ! (stop !)) (look ! 26 refl)) (and-then ! (load ! (from ! (stop !)) (look ! 24 refl))
-        (and-then ! (load ! (from ! (stop !)) (look ! 22 refl)) (and-then ! (load ! (from ! (stop !)) (look ! 20 refl)) (and-then ! (load ! (from ! (stop !)) (look ! 18 refl)) (and-then ! (load !
-        (from ! (stop !)) (look ! 16 refl)) (and-then ! (load ! (from ! (stop !)) (look ! 14 refl)) (and-then ! (load ! (from ! (stop !)) (look ! 12 refl)) (and-then ! (load ! (from ! (stop !)) (look
-        ! 10 refl)) (and-then ! (load ! (from ! (stop !)) (look ! 8 refl)) (no-more !))))))))))))))))))))))))) (λ w.
-        use1 W (later (some (λ (r′ : RefT (List ℕ)). ((‵ (flft κ1 q1) ⊛ tokens) ⊛ ‵ (ShrSlice (named 7) κ7 u32 .own r′ (w ∷ []))) ⊛ raw (ensured 𝓤 H A core.ended (core.clauses 𝓤 H A at-mem run) (κ1, κt) (z, (slot, (page, (n, (loaded ys, (p, (xr, xt))))))) tt r′)))) (id⊢ 𝓤 _) $ await ! tt $ pick ! (λ r′.
+        move ! (58 ∷ 57 ∷ []) $ use2 W (raw (Core 𝓤 H A at-mem run .pre (to-core v))) (goes-core v is-a) $
+        calls-at ! fm (Core 𝓤 H A at-mem run) known-core (to-core v) (and-then ! (load ! (from ! (stop !)) (look ! 54 refl)) (and-then ! (load ! (from ! (stop !)) (look ! 52 refl)) (and-then ! (load !
+        (from ! (stop !)) (look ! 50 refl)) (and-then ! (load ! (from ! (stop !)) (look ! 6 refl)) (and-then ! (load ! (from ! (stop !)) (look ! 4 refl)) (and-then ! (load ! (from ! (stop !)) (look !
+        46 refl)) (and-then ! (load ! (from ! (stop !)) (look ! 2 refl)) (and-then ! (load ! (from ! (stop !)) (look ! 42 refl)) (and-then ! (load ! (from ! (stop !)) (look ! 40 refl)) (and-then !
+        (load ! (from ! (stop !)) (look ! 38 refl)) (and-then ! (load ! (from ! (stop !)) (look ! 36 refl)) (and-then ! (load ! (from ! (stop !)) (look ! 34 refl)) (and-then ! (load ! (from ! (stop
+        !)) (look ! 32 refl)) (and-then ! (load ! (from ! (stop !)) (look ! 30 refl)) (and-then ! (load ! (from ! (stop !)) (look ! 28 refl)) (and-then ! (load ! (from ! (stop !)) (look ! 26 refl))
+        (and-then ! (load ! (from ! (stop !)) (look ! 24 refl)) (and-then ! (load ! (from ! (stop !)) (look ! 22 refl)) (and-then ! (load ! (from ! (stop !)) (look ! 20 refl)) (and-then ! (load !
+        (from ! (stop !)) (look ! 18 refl)) (and-then ! (load ! (from ! (stop !)) (look ! 16 refl)) (and-then ! (load ! (from ! (stop !)) (look ! 14 refl)) (and-then ! (load ! (from ! (stop !)) (look
+        ! 12 refl)) (and-then ! (load ! (from ! (stop !)) (look ! 10 refl)) (and-then ! (load ! (from ! (stop !)) (look ! 8 refl)) (no-more !)))))))))))))))))))))))))) (λ w.
+        use1 W (later (some (λ (r′ : RefT (List ℕ)). ((‵ (flft κ1 q1) ⊛ tokens) ⊛ ‵ (ShrSlice (named 8) κ8 u32 .own r′ (w ∷ []))) ⊛ raw (ensured 𝓤 H A core.ended (core.clauses 𝓤 H A at-mem run) (κ1, κt) (z, (slot, (page, (n, (loaded ys, (p, (xr, xt))))))) tt r′)))) (id⊢ 𝓤 _) $ await ! tt $ pick ! (λ r′.
         split ! $ move ! (1 ∷ []) $ use1 W (some (λ (y : ℕ). given (Left r′ y) (‵ (fres γr (u32 .coded .code y))))) (core-of r′) $ pick ! (λ y. learn ! (λ e₁.
-        move ! (1 ∷ []) $ split ! $ move ! (1 ∷ []) $ peeks ! (ShrSlice (named 7) κ7 u32) (Is (ShrSlice (named 7) κ7 u32)) (shows 𝓤 H A (ShrSlice (named 7) κ7 u32)) r′ (w ∷ []) (λ is-r.
-        land ! (from ! (stop !)) (init ! 56 refl (shr-slice-lawful 𝓤 H A W (named 7) κ7 u32 .typed r′ (w ∷ []) is-r .0)) $
-        returns ! (look ! 56 refl) $
-        forget ! 56 refl $ move ! (56 ∷ 57 ∷ []) $ free1 ! $ forget ! 54 refl $ move ! (54 ∷ 55 ∷ []) $ free1 ! $ forget ! 52 refl $ move ! (52 ∷ 53 ∷ []) $ free1 ! $ forget ! 50 refl $ move ! (50 ∷
-        51 ∷ []) $ free1 ! $ forget ! 48 refl $ move ! (48 ∷ 49 ∷ []) $ free1 ! $ forget ! 46 refl $ move ! (46 ∷ 47 ∷ []) $ free1 ! $ forget ! 44 refl $ move ! (44 ∷ 45 ∷ []) $ free1 ! $ forget ! 42
-        refl $ move ! (42 ∷ 43 ∷ []) $ free1 ! $ forget ! 40 refl $ move ! (40 ∷ 41 ∷ []) $ free1 ! $ forget ! 38 refl $ move ! (38 ∷ 39 ∷ []) $ free1 ! $ forget ! 36 refl $ move ! (36 ∷ 37 ∷ []) $
-        free1 ! $ forget ! 34 refl $ move ! (34 ∷ 35 ∷ []) $ free1 ! $ forget ! 32 refl $ move ! (32 ∷ 33 ∷ []) $ free1 ! $ forget ! 30 refl $ move ! (30 ∷ 31 ∷ []) $ free1 ! $ forget ! 28 refl $ move
-        ! (28 ∷ 29 ∷ []) $ free1 ! $ forget ! 26 refl $ move ! (26 ∷ 27 ∷ []) $ free1 ! $ forget ! 24 refl $ move ! (24 ∷ 25 ∷ []) $ free1 ! $ forget ! 22 refl $ move ! (22 ∷ 23 ∷ []) $ free1 ! $
-        forget ! 20 refl $ move ! (20 ∷ 21 ∷ []) $ free1 ! $ forget ! 18 refl $ move ! (18 ∷ 19 ∷ []) $ free1 ! $ forget ! 16 refl $ move ! (16 ∷ 17 ∷ []) $ free1 ! $ forget ! 14 refl $ move ! (14 ∷
-        15 ∷ []) $ free1 ! $ forget ! 12 refl $ move ! (12 ∷ 13 ∷ []) $ free1 ! $ forget ! 10 refl $ move ! (10 ∷ 11 ∷ []) $ free1 ! $ forget ! 8 refl $ move ! (8 ∷ 9 ∷ []) $ free1 ! $ forget ! 6 refl
-        $ move ! (6 ∷ 7 ∷ []) $ free1 ! $ forget ! 4 refl $ move ! (4 ∷ 5 ∷ []) $ free1 ! $ free0 ! $
-        move ! (3 ∷ []) $ split ! $ keep ! (0 ∷ 3 ∷ 4 ∷ 2 ∷ []) $ by ! (exits r′ w y e₁)))))))))))))))))))))))))))))))))))))
+        move ! (1 ∷ []) $ split ! $ move ! (1 ∷ []) $ peeks ! (ShrSlice (named 8) κ8 u32) (Is (ShrSlice (named 8) κ8 u32)) (shows 𝓤 H A (ShrSlice (named 8) κ8 u32)) r′ (w ∷ []) (λ is-r.
+        land ! (from ! (stop !)) (init ! 58 refl (shr-slice-lawful 𝓤 H A W (named 8) κ8 u32 .typed r′ (w ∷ []) is-r .0)) $
+        returns ! (look ! 58 refl) $
+        forget ! 58 refl $ move ! (58 ∷ 59 ∷ []) $ free1 ! $ forget ! 56 refl $ move ! (56 ∷ 57 ∷ []) $ free1 ! $ forget ! 54 refl $ move ! (54 ∷ 55 ∷ []) $ free1 ! $ forget ! 52 refl $ move ! (52 ∷
+        53 ∷ []) $ free1 ! $ forget ! 50 refl $ move ! (50 ∷ 51 ∷ []) $ free1 ! $ forget ! 48 refl $ move ! (48 ∷ 49 ∷ []) $ free1 ! $ forget ! 46 refl $ move ! (46 ∷ 47 ∷ []) $ free1 ! $ forget ! 44
+        refl $ move ! (44 ∷ 45 ∷ []) $ free1 ! $ forget ! 42 refl $ move ! (42 ∷ 43 ∷ []) $ free1 ! $ forget ! 40 refl $ move ! (40 ∷ 41 ∷ []) $ free1 ! $ forget ! 38 refl $ move ! (38 ∷ 39 ∷ []) $
+        free1 ! $ forget ! 36 refl $ move ! (36 ∷ 37 ∷ []) $ free1 ! $ forget ! 34 refl $ move ! (34 ∷ 35 ∷ []) $ free1 ! $ forget ! 32 refl $ move ! (32 ∷ 33 ∷ []) $ free1 ! $ forget ! 30 refl $ move
+        ! (30 ∷ 31 ∷ []) $ free1 ! $ forget ! 28 refl $ move ! (28 ∷ 29 ∷ []) $ free1 ! $ forget ! 26 refl $ move ! (26 ∷ 27 ∷ []) $ free1 ! $ forget ! 24 refl $ move ! (24 ∷ 25 ∷ []) $ free1 ! $
+        forget ! 22 refl $ move ! (22 ∷ 23 ∷ []) $ free1 ! $ forget ! 20 refl $ move ! (20 ∷ 21 ∷ []) $ free1 ! $ forget ! 18 refl $ move ! (18 ∷ 19 ∷ []) $ free1 ! $ forget ! 16 refl $ move ! (16 ∷
+        17 ∷ []) $ free1 ! $ forget ! 14 refl $ move ! (14 ∷ 15 ∷ []) $ free1 ! $ forget ! 12 refl $ move ! (12 ∷ 13 ∷ []) $ free1 ! $ forget ! 10 refl $ move ! (10 ∷ 11 ∷ []) $ free1 ! $ forget ! 8
+        refl $ move ! (8 ∷ 9 ∷ []) $ free1 ! $ forget ! 6 refl $ move ! (6 ∷ 7 ∷ []) $ free1 ! $ forget ! 4 refl $ move ! (4 ∷ 5 ∷ []) $ free1 ! $ free0 ! $
+        move ! (3 ∷ []) $ split ! $ keep ! (0 ∷ 3 ∷ 4 ∷ 2 ∷ []) $ by ! (exits r′ w y e₁))))))))))))))))))))))))))))))))))))))
 
 module _ {M : Type 1} (𝓤 : URA M) (H : Heap 𝓤) (A : Atoms 𝓤) (W : Given 𝓤 H A) (at-mem : Memory → SProp 𝓤) (run : Routine → Fun 𝓤) where
   walks : (C : Calls 𝓤 H) (Λ : Loops 𝓤 H) → FmC 𝓤 H (W .laws) C → Triple 𝓤 (C #load) (Load 𝓤 H A at-mem run) → Triple 𝓤 (C #core) (Core 𝓤 H A at-mem run)
       → Walks 𝓤 H A fn.ended stayed (WpFn 𝓤 H C Λ code.function) (fn.clauses 𝓤 H A at-mem run)
   walks C Λ fm known-load known-core = walked 𝓤 H A fn.ended stayed (fn.clauses 𝓤 H A at-mem run) (WpFn 𝓤 H C Λ code.function)
-      (λ κs. (sizes-vals, (uint-vals w64, (uint-vals w64, (slice-vals, (LL.vals TP.the-type TP′.the-laws, (ptr-vals, (slice-vals, (slice-vals, (slice-vals, (slice-vals, (slice-vals, (slice-vals, (slice-vals, (slice-vals, (slice-vals, (slice-vals, (slice-vals, (slice-vals, (slice-vals, (slice-vals, (slice-vals, (slice-vals, (slice-vals, tt))))))))))))))))))))))))
-      (λ (κ0, (κ1, (κ2, (κ3, (κ4, (κ5, (κ6, (κ7, (κ8, (κ9, (κ10, (κ11, (κ12, (κ13, (κ14, (κ15, (κ16, (κ17, (κ18, _))))))))))))))))))). let e = LL.tells TP.the-type TP′.the-laws in
-      (sizes-tells, (uint-tells w64, (uint-tells w64, (shr 0 κ0 F, (e, (mut-tells (named 1) κ1 u32, (shr 2 κ2 u32, (shr 3 κ3 u32, (shr 4 κ4 u16, (shr 5 κ5 u16, (shr 6 κ6 u16, (shr 7 κ7 u32, (shr 8 κ8 u16, (shr 9 κ9 u16, (shr 10 κ10 u16, (shr 11 κ11 u8, (shr 12 κ12 u8, (shr 13 κ13 u32, (shr 14 κ14 u8, (shr 15 κ15 u8, (shr 16 κ16 u16, (shr 17 κ17 u16, (shr 18 κ18 u16, tt))))))))))))))))))))))))
+      (λ κs. (sizes-vals, (uint-vals w64, (uint-vals w64, (slice-vals, (LL.vals TP.the-type TP′.the-laws, (ptr-vals, (slice-vals, (slice-vals, (slice-vals, (slice-vals, (slice-vals, (slice-vals, (slice-vals, (slice-vals, (slice-vals, (slice-vals, (slice-vals, (slice-vals, (slice-vals, (slice-vals, (slice-vals, (slice-vals, (slice-vals, (slice-vals, tt)))))))))))))))))))))))))
+      (λ (κ0, (κ1, (κ2, (κ3, (κ4, (κ5, (κ6, (κ7, (κ8, (κ9, (κ10, (κ11, (κ12, (κ13, (κ14, (κ15, (κ16, (κ17, (κ18, (κ19, _)))))))))))))))))))). let e = LL.tells TP.the-type TP′.the-laws in let u = uint-tells w64 in
+      (sizes-tells, (u, (u, (shr 0 κ0 F, (e, (mut-tells (named 1) κ1 u32, (shr 2 κ2 u32, (shr 3 κ3 u32, (shr 4 κ4 u16, (shr 5 κ5 u16, (shr 6 κ6 u16, (shr 7 κ7 u16, (shr 8 κ8 u32, (shr 9 κ9 u16, (shr 10 κ10 u16, (shr 11 κ11 u16, (shr 12 κ12 u8, (shr 13 κ13 u8, (shr 14 κ14 u32, (shr 15 κ15 u8, (shr 16 κ16 u8, (shr 17 κ17 u16, (shr 18 κ18 u16, (shr 19 κ19 u16, tt)))))))))))))))))))))))))
       (λ κs qs bounds a g are. via 𝓤 _ (fst∗ 𝓤 _ (emp 𝓤))
       (walk 𝓤 H A W at-mem run (κs .0) (qs .0) (κs .1 .0) (qs .1 .0) (κs .1 .1 .0) (qs .1 .1 .0) (κs .1 .1 .1 .0) (qs .1 .1 .1 .0) (κs .1 .1 .1 .1 .0) (qs .1 .1 .1 .1 .0) (κs .1 .1 .1 .1 .1 .0) (qs .1
       .1 .1 .1 .1 .0) (κs .1 .1 .1 .1 .1 .1 .0) (qs .1 .1 .1 .1 .1 .1 .0) (κs .1 .1 .1 .1 .1 .1 .1 .0) (qs .1 .1 .1 .1 .1 .1 .1 .0) (κs .1 .1 .1 .1 .1 .1 .1 .1 .0) (qs .1 .1 .1 .1 .1 .1 .1 .1 .0) (κs
@@ -251,8 +254,8 @@ module _ {M : Type 1} (𝓤 : URA M) (H : Heap 𝓤) (A : Atoms 𝓤) (W : Given
       .1 .1 .1 .1 .1 .1 .1 .1 .1 .0) (κs .1 .1 .1 .1 .1 .1 .1 .1 .1 .1 .1 .1 .0) (qs .1 .1 .1 .1 .1 .1 .1 .1 .1 .1 .1 .1 .0) (κs .1 .1 .1 .1 .1 .1 .1 .1 .1 .1 .1 .1 .1 .0) (qs .1 .1 .1 .1 .1 .1 .1 .1
       .1 .1 .1 .1 .1 .0) (κs .1 .1 .1 .1 .1 .1 .1 .1 .1 .1 .1 .1 .1 .1 .0) (qs .1 .1 .1 .1 .1 .1 .1 .1 .1 .1 .1 .1 .1 .1 .0) (κs .1 .1 .1 .1 .1 .1 .1 .1 .1 .1 .1 .1 .1 .1 .1 .0) (qs .1 .1 .1 .1 .1 .1
       .1 .1 .1 .1 .1 .1 .1 .1 .1 .0) (κs .1 .1 .1 .1 .1 .1 .1 .1 .1 .1 .1 .1 .1 .1 .1 .1 .0) (qs .1 .1 .1 .1 .1 .1 .1 .1 .1 .1 .1 .1 .1 .1 .1 .1 .0) (κs .1 .1 .1 .1 .1 .1 .1 .1 .1 .1 .1 .1 .1 .1 .1 .1
-      .1 .0) (qs .1 .1 .1 .1 .1 .1 .1 .1 .1 .1 .1 .1 .1 .1 .1 .1 .1 .0) (κs .1 .1 .1 .1 .1 .1 .1 .1 .1 .1 .1 .1 .1 .1 .1 .1 .1 .1 .0) (qs .1 .1 .1 .1 .1 .1 .1 .1 .1 .1 .1 .1 .1 .1 .1 .1 .1 .1 .0) (a
-      .0) (a .1 .0)
+      .1 .0) (qs .1 .1 .1 .1 .1 .1 .1 .1 .1 .1 .1 .1 .1 .1 .1 .1 .1 .0) (κs .1 .1 .1 .1 .1 .1 .1 .1 .1 .1 .1 .1 .1 .1 .1 .1 .1 .1 .0) (qs .1 .1 .1 .1 .1 .1 .1 .1 .1 .1 .1 .1 .1 .1 .1 .1 .1 .1 .0) (κs
+      .1 .1 .1 .1 .1 .1 .1 .1 .1 .1 .1 .1 .1 .1 .1 .1 .1 .1 .1 .0) (qs .1 .1 .1 .1 .1 .1 .1 .1 .1 .1 .1 .1 .1 .1 .1 .1 .1 .1 .1 .0) (a .0) (a .1 .0)
       (a .1 .1 .0)
       (a .1 .1 .1 .0 .ptr .0) (a .1 .1 .1 .0 .ptr .1) (a .1 .1 .1 .0 .name) (a .1 .1 .1 .0 .now) (are .1 .1 .1 .0 .0 .1) (a .1 .1 .1 .1 .0) (a .1 .1 .1 .1 .1 .0 .ptr .0) (a .1 .1 .1 .1 .1 .0 .ptr .1) (a .1 .1 .1 .1 .1 .0 .name) (a .1 .1 .1 .1 .1 .0 .now)
       (a .1 .1 .1 .1 .1 .1 .0) (are .1 .1 .1 .1 .1 .1 .0 .0 .1) (a .1 .1 .1 .1 .1 .1 .1 .0) (are .1 .1 .1 .1 .1 .1 .1 .0 .0 .1) (a .1 .1 .1 .1 .1 .1 .1 .1 .0) (are .1 .1 .1 .1 .1 .1 .1 .1 .0 .0 .1) (a
@@ -264,14 +267,16 @@ module _ {M : Type 1} (𝓤 : URA M) (H : Heap 𝓤) (A : Atoms 𝓤) (W : Given
       .1 .1 .1 .1 .1 .1 .1 .1 .1 .1 .1 .1 .1 .1 .1 .1 .0 .0 .1) (a .1 .1 .1 .1 .1 .1 .1 .1 .1 .1 .1 .1 .1 .1 .1 .1 .1 .1 .1 .0) (are .1 .1 .1 .1 .1 .1 .1 .1 .1 .1 .1 .1 .1 .1 .1 .1 .1 .1 .1 .0 .0 .1)
       (a .1 .1 .1 .1 .1 .1 .1 .1 .1 .1 .1 .1 .1 .1 .1 .1 .1 .1 .1 .1 .0) (are .1 .1 .1 .1 .1 .1 .1 .1 .1 .1 .1 .1 .1 .1 .1 .1 .1 .1 .1 .1 .0 .0 .1) (a .1 .1 .1 .1 .1 .1 .1 .1 .1 .1 .1 .1 .1 .1 .1 .1
       .1 .1 .1 .1 .1 .0) (are .1 .1 .1 .1 .1 .1 .1 .1 .1 .1 .1 .1 .1 .1 .1 .1 .1 .1 .1 .1 .1 .0 .0 .1) (a .1 .1 .1 .1 .1 .1 .1 .1 .1 .1 .1 .1 .1 .1 .1 .1 .1 .1 .1 .1 .1 .1 .0) (are .1 .1 .1 .1 .1 .1
-      .1 .1 .1 .1 .1 .1 .1 .1 .1 .1 .1 .1 .1 .1 .1 .1 .0 .0 .1) (are .0) (are .1 .1 .1 .1 .0) (are .1 .0 .1) (are .1 .1 .0 .1) C Λ fm known-load known-core))
+      .1 .1 .1 .1 .1 .1 .1 .1 .1 .1 .1 .1 .1 .1 .1 .1 .0 .0 .1) (a .1 .1 .1 .1 .1 .1 .1 .1 .1 .1 .1 .1 .1 .1 .1 .1 .1 .1 .1 .1 .1 .1 .1 .0) (are .1 .1 .1 .1 .1 .1 .1 .1 .1 .1 .1 .1 .1 .1 .1 .1 .1 .1
+      .1 .1 .1 .1 .1 .0 .0 .1) (are .0) (are .1 .1 .1 .1 .0) (are .1 .0 .1) (are .1 .1 .0 .1) C Λ fm known-load known-core))
 
 meets : {M : Type 1} (𝓤 : URA M) (H : Heap 𝓤) (A : Atoms 𝓤) → Given 𝓤 H A → (at-mem : Memory → SProp 𝓤) (run : Routine → Fun 𝓤) (𝓣 : Tables 𝓤 H) → Triple 𝓤 (𝓣 .C #load) (Load 𝓤 H A at-mem run) → Triple 𝓤 (𝓣 .C #core) (Core 𝓤 H A at-mem run)
     → Meets 𝓤 H A fn.signature (WpFn 𝓤 H (𝓣 .C) (𝓣 .Λ) code.function) (fn.spec 𝓤 H A at-mem run)
 meets 𝓤 H A W at-mem run 𝓣 known-load known-core =
-    let v = goes-value 𝓤 H A W 19 in let h = goes-seen 𝓤 H A W 19 in let r = goes-gave-ref 𝓤 H A W 19 1 tt (plain (λ _. u32)) in
+    let v = goes-value 𝓤 H A W 20 in let h = goes-seen 𝓤 H A W 20 in let r = goes-gave-ref 𝓤 H A W 20 1 tt (plain (λ _. u32)) in
     walk-meets 𝓤 H A fn.ended stayed W
-    (v Z (λ κs x f. refl), (v usize (λ κs x f. refl), (v usize (λ κs x f. refl), (h 0 tt F, (v P (λ κs x f. refl), (r, (h 2 tt u32, (h 3 tt u32, (h 4 tt u16, (h 5 tt u16, (h 6 tt u16, (h 7 tt u32, (h 8 tt u16, (h 9 tt u16, (h 10 tt u16, (h 11 tt u8, (h 12 tt u8, (h 13 tt u32, (h 14 tt u8, (h 15 tt u8, (h 16 tt u16, (h 17 tt u16, (h 18 tt u16, tt))))))))))))))))))))))) (fn.clauses 𝓤 H A at-mem run)
+    (v Z (λ κs x f. refl), (v usize (λ κs x f. refl), (v usize (λ κs x f. refl), (h 0 tt F, (v P (λ κs x f. refl), (r, (h 2 tt u32, (h 3 tt u32, (h 4 tt u16, (h 5 tt u16, (h 6 tt u16, (h 7 tt u16, (h 8 tt u32, (h 9 tt u16, (h 10 tt u16, (h 11 tt u16, (h 12 tt u8, (h 13 tt u8, (h 14 tt u32, (h 15 tt u8, (h 16 tt u8, (h 17 tt u16, (h 18 tt u16, (h 19 tt u16, tt))))))))))))))))))))))))
+    (fn.clauses 𝓤 H A at-mem run)
     (WpFn 𝓤 H (𝓣 .C) (𝓣 .Λ) code.function) (WpFn-mono 𝓤 H (W .laws) 𝓣 code.function) (walks 𝓤 H A W at-mem run (𝓣 .C) (𝓣 .Λ) (fmOf 𝓤 H (W .laws) 𝓣) known-load known-core)
 
 pub page-look-spec : {M : Type 1} → stated.statement M

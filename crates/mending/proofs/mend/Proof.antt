@@ -34,7 +34,7 @@ start t = search
 
 -- what is lent
 abbrev lent : tie.Start → Lent
-lent s = lentOf (s .args .records .now) (s .args .numbers .now) (s .args .accounts .now) (s .args .maps .now) (s .args .limits .now) (s .args .changes .now)
+lent s = lentOf (s .args .records .now) (s .args .numbers .now) (s .args .accounts .now) (s .args .maps .now) (s .args .limits .now) (s .args .parents .now) (s .args .changes .now)
 
 returns : tie.Need-returns
 returns c =
@@ -150,8 +150,8 @@ drop-shared-requires c κs =
     let c4 = chain-next z l f 3 c3 (p4 .fit-entries .ensures _ _) in
     (given-maps z l f r c4, chain-fit z l f c4)
 
-cast-t53 : tie.Need-cast-t53
-cast-t53 c =
+cast-t54 : tie.Need-cast-t54
+cast-t54 c =
     let p5 : tie.After-drop-shared = search in
     let p4 = fourth p5 in
     let p3 = third p4 in
@@ -199,4 +199,4 @@ mend-spec =
     tie.close
     (tie.spec (λ c κs. search needs) (λ c. search needs) (λ c. search needs) (λ c. search needs) returns add-if2 mul-if2 mul-if2-2
     (λ c. search needs) (λ c. search needs) (λ c. search needs) returns-2 empty-doubled-requires empty-unfilled-requires fit-accounts-requires fit-entries-requires drop-shared-requires
-    cast-t53 (λ c. search needs) (λ c. search needs) (λ c. search needs) (λ c. search needs) returns-3)
+    cast-t54 (λ c. search needs) (λ c. search needs) (λ c. search needs) (λ c. search needs) returns-3)

@@ -4,6 +4,7 @@ use crate::drive::counts::KINDS;
 use crate::event::{Answer, Part, Request};
 use crate::keeper::Keeper;
 use crate::linked::c_port::Lent;
+use crate::tables::Sizes;
 
 /// A subject's call of one kind: the tables as it is lent them, and the values.
 pub type Made<T> = fn(&mut T, &[u32; 4]) -> Answer;
@@ -33,7 +34,9 @@ macro_rules! calls {
             calls!(request $subject, "limit", $tables, 0x0F, $apply),
             calls!(request $subject, "join", $tables, 18, $apply),
             calls!(request $subject, "turn", $tables, 19, $apply),
-            calls!(one $subject, "format", $tables, |tables, _| $format(tables)),
+            calls!(one $subject, "format", $tables, |tables, _| {
+                $format(tables, &[0; Sizes::MOST.accounts][..tables.sizes.accounts])
+            }),
             calls!(one $subject, "restart", $tables, |tables, _| $restart(tables)),
             calls!(one $subject, "page_look", $tables, |tables, values| start($look(tables, values[0], values[1]))),
             calls!(one $subject, "refused", $tables, |tables, _| {

@@ -1,5 +1,6 @@
 //! One thing that a list does, and what came of it.
 
+use super::trees::Wanted;
 use super::Subject;
 use crate::event::{Answer, Part, Request};
 use crate::keeper::Keeper;
@@ -7,7 +8,7 @@ use crate::keeper::Keeper;
 /// A public call.
 #[derive(Clone, Copy, Debug)]
 pub enum Call {
-    Format,
+    Format { wanted: Wanted },
     Restart,
     Apply(Request),
     Look { slot: u32, page: u32 },
@@ -54,7 +55,7 @@ impl Call {
 
     pub fn make(&self, subject: &Subject, keeper: &mut Keeper) -> Outcome {
         match *self {
-            Call::Format => Outcome::Answer((subject.format)(keeper)),
+            Call::Format { wanted } => Outcome::Answer((subject.format)(keeper, wanted.parents())),
             Call::Restart => Outcome::Answer((subject.restart)(keeper)),
             Call::Apply(request) => Outcome::Answer((subject.apply)(keeper, request)),
             Call::Look { slot, page } => Outcome::Part((subject.page_look)(keeper, slot, page)),

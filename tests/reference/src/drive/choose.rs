@@ -2,9 +2,10 @@
 
 use super::act::{Act, Before, Call};
 use super::aims::{self, Aim};
-use super::counts::{tag, REQUESTS};
+use super::counts::{tag, MOVE, REQUESTS};
 use super::random::Random;
 use super::shadow::marked;
+use super::trees;
 use crate::keeper::Keeper;
 use crate::tables::{Sizes, NO_TRANSFER, WRITING};
 
@@ -32,13 +33,18 @@ impl Chooser {
         let mut first = Vec::new();
         let full = sizes.records >= LARGE && random.percent(50);
         for account in 0..sizes.accounts {
-            let pages =
-                if full { 65_535 } else { random.pick(&[1, 2, sizes.frames, sizes.all_pages(), 65_535]) };
+            let pages = match full {
+                true => 65_535,
+                // account 0 pays for all that have none
+                false if account == 0 => random.pick(&[0, 2, sizes.frames, sizes.all_pages(), 65_535]),
+                false => random.pick(&[0, 0, 1, 2, sizes.frames, sizes.all_pages(), 65_535]),
+            };
             first.push(Call::request(0x0F, [account, pages, 0, 0]));
         }
         first.push(Call::Restart);
         if !full {
-            first.push(Call::Format);
+            let parents = trees::tree(sizes.accounts, &mut random);
+            first.push(Call::Format { wanted: trees::Wanted::of(&parents) });
         }
         let (line, joins) = (random.pick(&[0, 5, 20, 40]), random.pick(&[20, 40, 50, 90]));
         Chooser { random, first, aim: None, lost: false, numbers: 0, full, line, joins }
@@ -92,7 +98,7 @@ impl Chooser {
 
     fn any_call(&mut self, keeper: &Keeper) -> Call {
         match self.random.below(10) {
-            0 => Call::Format,
+            0 => Call::Format { wanted: trees::wanted(keeper.sizes.accounts, &mut self.random) },
             1..=3 => Call::Restart,
             4 => self.look(keeper),
             5..=6 => self.any_values(keeper),
@@ -120,13 +126,17 @@ impl Chooser {
         let slot = random.below(sizes.slots);
         let page = random.below(sizes.pages);
         let word = random.below(sizes.words);
-        let kind = tag(random.below(REQUESTS));
+        let kind = match random.below(REQUESTS + 1) {
+            REQUESTS => MOVE,
+            kind => tag(kind),
+        };
         let values = match kind {
             0x01 => [slot, random.below(sizes.accounts), random.up_to(sizes.slots + 2), 0],
             0x0B => [slot, random.below(sizes.pages + 1), 0, 0],
             0x0D => [random.below(sizes.frames), random.below(2), 0, 0],
             0x0E => [slot, random.below(2), 0, 0],
             0x0F => [random.below(sizes.accounts), random.below(sizes.all_pages() + 2), 0, 0],
+            MOVE => [random.below(sizes.accounts), random.below(sizes.accounts), random.below(4), 0],
             _ => [slot, page, word, random.below(3)],
         };
         Call::request(kind, values)
@@ -175,8 +185,9 @@ impl Chooser {
             return call;
         }
         for _ in 0..5 {
-            let found = match self.random.below(40) {
+            let found = match self.random.below(42) {
                 0..=5 => self.about_designs(keeper),
+                40..=41 => self.shift(keeper),
                 6..=12 => self.fault(keeper),
                 13..=23 => self.touch(keeper),
                 24..=29 => self.claim(keeper),
@@ -238,7 +249,8 @@ impl Chooser {
         match self.random.below(5) {
             0 => {
                 let (account, most) = (self.random.below(sizes.accounts), sizes.all_pages() + 1);
-                Some(Call::request(0x0F, [account, self.random.below(most), 0, 0]))
+                let pages = if self.random.percent(20) { 0 } else { self.random.below(most) };
+                Some(Call::request(0x0F, [account, pages, 0, 0]))
             }
             1 => {
                 let slot = self.random.find(sizes.slots, |slot| keeper.disk.numbers[slot] == 0)?;
@@ -251,6 +263,23 @@ impl Chooser {
                 Some(Call::request(0x03, [slot, 0, 0, 0]))
             }
         }
+    }
+
+    /// Between an account and its parent, either way: one page, all that the giver has, all that it does not use, or any number.
+    fn shift(&mut self, keeper: &Keeper) -> Option<Call> {
+        let disk = &keeper.disk;
+        let child = self.random.find(keeper.sizes.accounts, |account| account > 0)?;
+        let parent = disk.parents[child] as usize;
+        let (giver, taker) = if self.random.percent(50) { (child, parent) } else { (parent, child) };
+        let (limit, used) = (disk.limits[giver] as usize, keeper.memory.used[giver] as usize);
+        let pages = match self.random.below(5) {
+            0 => 1,
+            1 => limit,
+            2 => limit.saturating_sub(used),
+            3 => self.random.below(limit + 1),
+            _ => self.random.below(limit.min(keeper.sizes.all_pages()) + 2),
+        };
+        Some(Call::request(MOVE, [giver, taker, pages, 0]))
     }
 
     /// Truncate or update.

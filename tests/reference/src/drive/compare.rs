@@ -65,8 +65,10 @@ pub fn promises(call: &Call, before: &Keeper, side: &Side) -> Result<(), String>
             check(part.refusal == 0 || (part.start, part.count) == (0, 0), "a refused look has a part")?;
             check(part.refusal != 0 || whole, "a look is not one frame's part")
         }
-        (Call::Format, _) => {
+        (Call::Format { wanted }, _) => {
             check(side.after.memory == before.memory, "format changed memory")?;
+            check(side.after.disk.parents[1..] == wanted.parents()[1..], "format stored other parents")?;
+            check(side.after.disk.parents[0] == 0, "format stored a parent of account 0")?;
             check(rules::disk::kept(&side.after.sizes, &side.after.disk), "format broke a disk rule")
         }
         (Call::Restart, _) => {
@@ -75,6 +77,7 @@ pub fn promises(call: &Call, before: &Keeper, side: &Side) -> Result<(), String>
         }
         _ => {
             check(rules::kept(side.after), "an event broke a rule")?;
+            check(limits_kept(call, before, side.after), "an event changed the sum of the limits, or a parent")?;
             check(transfers_untouched(call, before, side.after), "an event changed the words of a frame in transfer")?;
             check(along_the_lines(before, side.after), "a record moved along no line")?;
             check(line_moves(call, before, side), "the waiting line is not as it should be")
@@ -108,6 +111,17 @@ const LINES: [(u8, u8); 11] = [
 fn along_the_lines(before: &Keeper, after: &Keeper) -> bool {
     let moves = before.memory.states.iter().zip(&after.memory.states);
     moves.into_iter().all(|(&from, &to)| from == to || LINES.contains(&(from, to)))
+}
+
+/// Only the limit event alters the sum of the limits, only it and a move a limit, and no event a parent.
+fn limits_kept(call: &Call, before: &Keeper, after: &Keeper) -> bool {
+    let sum = |keeper: &Keeper| keeper.disk.limits.iter().map(|&limit| limit as usize).sum::<usize>();
+    let kept = match call {
+        Call::Apply(Request { kind: 15, .. }) => true,
+        Call::Apply(Request { kind: 17, .. }) => sum(before) == sum(after),
+        _ => before.disk.limits == after.disk.limits,
+    };
+    kept && before.disk.parents == after.disk.parents
 }
 
 /// No event but its page done changes the words of a frame in transfer.

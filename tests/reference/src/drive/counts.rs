@@ -4,6 +4,7 @@ use super::act::{Call, Outcome};
 use super::batch::Batches;
 use super::bound::Bound;
 use super::choose::LARGE;
+use super::moves::Moves;
 use super::turns::Turns;
 use crate::event::Request;
 use crate::events::pages::{free_records, neighbour};
@@ -48,6 +49,9 @@ pub fn tag(kind: usize) -> u32 {
     }
 }
 
+/// Move stands apart: the benchmark has the kinds above, and with one account it could make no move.
+pub const MOVE: u32 = 17;
+
 #[derive(Default)]
 pub struct Counts {
     pub carried_out: BTreeMap<&'static str, u64>,
@@ -59,6 +63,7 @@ pub struct Counts {
     pub taken: Taken,
     pub written: Written,
     pub batches: Batches,
+    pub moves: Moves,
     pub turns: Turns,
     pub bound: Bound,
 }
@@ -159,15 +164,16 @@ impl Counts {
     fn count(&mut self, call: &Call, outcome: &Outcome) {
         self.calls += 1;
         let kind = || match call {
-            Call::Format => REQUESTS,
-            Call::Restart => REQUESTS + 1,
-            Call::Look { .. } => REQUESTS + 2,
+            Call::Format { .. } => KINDS[REQUESTS],
+            Call::Restart => KINDS[REQUESTS + 1],
+            Call::Look { .. } => KINDS[REQUESTS + 2],
+            Call::Apply(Request { kind: MOVE, .. }) => "move",
             Call::Apply(request) => {
-                (0..REQUESTS).find(|&kind| tag(kind) == request.kind).expect("a kind of request")
+                KINDS[(0..REQUESTS).find(|&kind| tag(kind) == request.kind).expect("a kind of request")]
             }
         };
         match outcome.refusal() {
-            0 => *self.carried_out.entry(KINDS[kind()]).or_default() += 1,
+            0 => *self.carried_out.entry(kind()).or_default() += 1,
             number => *self.refused.entry(number).or_default() += 1,
         }
     }
@@ -181,6 +187,7 @@ impl Counts {
         if outcome.refusal() == 0 {
             self.written.note(call, before);
         }
+        self.moves.note(call, outcome.refusal(), before, after);
         if let (Call::Apply(Request { kind: 19, .. }), Outcome::Answer(answer)) = (call, outcome) {
             self.turns.note(answer, before, after);
         }
@@ -188,12 +195,13 @@ impl Counts {
 
     /// Kinds never carried out.
     pub fn kinds_missing(&self) -> Vec<&'static str> {
-        KINDS.into_iter().filter(|kind| !self.carried_out.contains_key(kind)).collect()
+        let all = KINDS.into_iter().chain(["move"]);
+        all.filter(|kind| !self.carried_out.contains_key(kind)).collect()
     }
 
-    /// Refusals of 1 to 22, and 27, never given.
+    /// Refusals of 1 to 22, and 25 to 27, never given.
     pub fn refusals_missing(&self) -> Vec<u32> {
-        (1..=22).chain([27]).filter(|number| !self.refused.contains_key(number)).collect()
+        (1..=22).chain(25..=27).filter(|number| !self.refused.contains_key(number)).collect()
     }
 }
 
@@ -203,6 +211,7 @@ impl fmt::Display for Counts {
         writeln!(out, "{:?}", self.taken)?;
         writeln!(out, "{:?}", self.written)?;
         writeln!(out, "{:?}", self.batches)?;
+        writeln!(out, "{:?}", self.moves)?;
         writeln!(out, "{:?}", self.turns)?;
         writeln!(out, "{:?}", self.bound)?;
         writeln!(out, "carried out: {:?}", self.carried_out)?;

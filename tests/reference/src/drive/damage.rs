@@ -5,7 +5,7 @@ use crate::keeper::Keeper;
 use crate::queue;
 use crate::tables::{Frame, FREE, RELEASED};
 
-pub const TABLES: usize = 19;
+pub const TABLES: usize = 20;
 
 /// One damage or two.
 pub fn damage(keeper: &mut Keeper, seed: u64) {
@@ -153,7 +153,8 @@ fn swap_cells(keeper: &mut Keeper, random: &mut Random) {
     fn swap<T>(table: &mut [T], one: usize, other: usize) {
         table.swap(one % table.len(), other % table.len());
     }
-    match random.below(8) {
+    match random.below(9) {
+        8 => swap(&mut keeper.disk.parents, one, other),
         0 => swap(&mut keeper.disk.numbers, one, other),
         1 => swap(&mut keeper.disk.accounts, one, other),
         2 => swap(&mut keeper.memory.frames, one, other),
@@ -224,6 +225,7 @@ fn change_cell(keeper: &mut Keeper, random: &mut Random) {
         15 => put(&mut memory.used, at, &change),
         16 => put(&mut memory.line, at, &change),
         17 => memory.pool.hand = change(memory.pool.hand),
+        18 => put(&mut disk.parents, at, &change),
         _ => memory.pool.free = change(memory.pool.free),
     }
 }

@@ -34,8 +34,8 @@ pub fn list(seed: u64, length: usize) -> Vec<u8> {
 /// Keeps the tables in step with the list: what is in it, and the format that comes before it.
 fn make(keeper: &mut Keeper, call: Call, listed: bool) {
     match call {
-        Call::Format => {
-            keeper.format();
+        Call::Format { wanted } => {
+            keeper.format(wanted.parents());
             keeper.restart();
         }
         Call::Restart if listed => {

@@ -8,7 +8,7 @@ use super::compare::{compare, promises, Side};
 use super::counts::Counts;
 use super::random::Random;
 use super::shadow::Shadow;
-use super::{cut, damage, misfit, Subject};
+use super::{cut, damage, misfit, trees, Subject};
 use crate::bench::disk;
 use crate::keeper::Keeper;
 use crate::rules;
@@ -41,10 +41,10 @@ fn mixed(random: &mut Random) -> Sizes {
         1 => [1024, 4096, 64, 64, 256, 16],
         2 => [1, 4096, 64, 64, 256, 16],
         3..=9 => [64, 300, 64, 16, 32, 16],
-        10..=39 => [8, 60, 12, 6, 12, 4],
+        10..=39 => [8, 60, 12, 6, 12, 8],
         40..=49 => return crate::program::SIZES,
         50..=64 => return roomy(random),
-        _ => [3, 12, 5, 4, 5, 3],
+        _ => [3, 12, 5, 4, 5, 5],
     };
     let [words, records, frames, slots, pages, accounts] = most.map(|most| random.up_to(most));
     Sizes { words, records, frames, slots, pages, accounts }
@@ -65,6 +65,7 @@ fn roomy(random: &mut Random) -> Sizes {
 /// A disk on which at most three records are free, if the designs have pages enough; one slot is empty, if there are two.
 fn nearly_full(sizes: Sizes, random: &mut Random) -> Keeper {
     let mut keeper = Keeper::lent(sizes);
+    keeper.disk.parents = trees::tree(sizes.accounts, random);
     let filled = (sizes.slots - 1).max(1);
     for slot in 0..filled {
         keeper.disk.numbers[slot] = slot as u32 + 1;

@@ -20,7 +20,7 @@ fn bend_table(keeper: &mut Keeper, random: &mut Random) {
     }
     let longer = random.percent(50);
     let (disk, memory) = (&mut keeper.disk, &mut keeper.memory);
-    match random.below(18) {
+    match random.below(19) {
         0 => bend(&mut disk.records, longer),
         1 => bend(&mut disk.numbers, longer),
         2 => bend(&mut disk.accounts, longer),
@@ -38,6 +38,7 @@ fn bend_table(keeper: &mut Keeper, random: &mut Random) {
         14 => bend(&mut memory.updating, longer),
         15 => bend(&mut memory.images, longer),
         16 => bend(&mut memory.line, longer),
+        17 => bend(&mut disk.parents, longer),
         _ => bend(&mut memory.used, longer),
     }
 }

@@ -12,9 +12,11 @@ pub mod damage; // tables damaged
 pub mod fields; // a random list as bytes for the event program
 pub mod list; // a whole run of lists
 pub mod misfit; // tables of wrong lengths
+pub mod moves; // what was seen of limits, moves and payers
 pub mod packs; // packs to mend
 pub mod random; // random numbers from a seed
 pub mod shadow; // what each page must read as
+pub mod trees; // trees of accounts
 pub mod turns; // how turns went
 
 use crate::event::{Answer, Part, Request};
@@ -24,7 +26,7 @@ use crate::keeper::Keeper;
 #[derive(Clone, Copy)]
 pub struct Subject {
     pub name: &'static str,
-    pub format: fn(&mut Keeper) -> Answer,
+    pub format: fn(&mut Keeper, &[u16]) -> Answer,
     pub restart: fn(&mut Keeper) -> Answer,
     pub apply: fn(&mut Keeper, Request) -> Answer,
     pub apply_all: fn(&mut Keeper, &[u32], &mut [u32]) -> Answer,

@@ -1,6 +1,7 @@
 //! Random packs for mending: sound, hurt in one place, or hurt everywhere, of all sizes.
 
 use super::random::Random;
+use super::trees::tree;
 use crate::tables::{Disk, Sizes};
 
 /// Small sizes mostly, now and then the largest.
@@ -22,7 +23,7 @@ fn sizes(random: &mut Random) -> Sizes {
 
 /// A pack that keeps the disk rules: numbers, records and accounts given out once.
 fn sound(random: &mut Random, sizes: &Sizes) -> Disk {
-    let mut disk = Disk::zeros(sizes);
+    let mut disk = Disk { parents: tree(sizes.accounts, random), ..Disk::zeros(sizes) };
     let mut records: Vec<u16> = (1..=sizes.records as u16).collect();
     for slot in 0..sizes.slots {
         if random.percent(70) {
@@ -52,6 +53,13 @@ fn hurt(random: &mut Random, sizes: &Sizes, disk: &mut Disk) {
     }
 }
 
+/// A parent that is not lower: no mending helps.
+fn hurt_parents(random: &mut Random, sizes: &Sizes, disk: &mut Disk) {
+    if let Some(account) = random.find(sizes.accounts, |account| account > 0) {
+        disk.parents[account] = random.pick(&[account as u16, account as u16 + 1, u16::MAX]);
+    }
+}
+
 /// A pack and its sizes.
 pub fn pack(seed: u64) -> (Sizes, Disk) {
     let mut random = Random::new(seed);
@@ -65,6 +73,9 @@ pub fn pack(seed: u64) -> (Sizes, Disk) {
     };
     for _ in 0..times {
         hurt(&mut random, &sizes, &mut disk);
+    }
+    if random.percent(5) {
+        hurt_parents(&mut random, &sizes, &mut disk);
     }
     (sizes, disk)
 }

@@ -37,7 +37,7 @@ impl Shadow {
             return Ok(());
         }
         match (act.call, outcome) {
-            (Call::Format | Call::Restart, _) => self.pages.fill(None),
+            (Call::Format { .. } | Call::Restart, _) => self.pages.fill(None),
             (Call::Look { slot, page }, Outcome::Part(part)) => {
                 let words = &after.memory.frame_words[part.start..part.start + part.count];
                 return self.same(after.flat(slot as usize, page as usize), |own| own == words);

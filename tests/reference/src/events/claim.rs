@@ -1,6 +1,6 @@
 //! Claim: frees the first page of the removal list that was not used lately, or begins its write.
 
-use super::{account_of, free_frame, set_state};
+use super::{free_frame, set_state};
 use crate::keeper::Keeper;
 use crate::queue;
 use crate::tables::{NULLED, WRITING};
@@ -46,8 +46,8 @@ fn take(keeper: &mut Keeper, frame: usize) {
     }
     if entry.modified == 1 {
         set_state(keeper, record, NULLED);
-        let account = account_of(keeper, page);
-        keeper.memory.used[account] -= 1;
+        let payer = keeper.payer(page / keeper.sizes.pages);
+        keeper.memory.used[payer] -= 1;
     }
     free_frame(keeper, frame);
 }

@@ -1,13 +1,8 @@
-//! Events about an account or a whole design: limit, create, delete, activate, deactivate.
+//! Events about a whole design: create, delete, activate, deactivate.
 
 use super::set_state;
 use crate::keeper::Keeper;
 use crate::tables::{FILED, LIVE};
-
-pub fn limit(keeper: &mut Keeper, account: usize, pages: usize) -> u32 {
-    keeper.disk.limits[account] = pages as u16;
-    0
-}
 
 pub fn create(keeper: &mut Keeper, slot: usize, account: usize, number: u32) -> u32 {
     keeper.disk.numbers[slot] = number;

@@ -2,6 +2,7 @@
 
 mod claim;
 mod designs;
+mod limits;
 pub mod line;
 pub mod pages;
 mod transfers;
@@ -17,7 +18,8 @@ pub fn carry_out(keeper: &mut Keeper, event: Event) -> u32 {
         Event::Delete { slot } => designs::delete(keeper, slot),
         Event::Activate { slot } => designs::activate(keeper, slot),
         Event::Deactivate { slot } => designs::deactivate(keeper, slot),
-        Event::Limit { account, pages } => designs::limit(keeper, account, pages),
+        Event::Limit { account, pages } => limits::limit(keeper, account, pages),
+        Event::Move { giver, taker, pages } => limits::shift(keeper, giver, taker, pages),
         Event::Fault { slot, page } => pages::fault(keeper, slot, page),
         Event::Read { slot, page, word } => pages::read(keeper, slot, page, word),
         Event::Write { slot, page, word, value } => pages::write(keeper, slot, page, word, value),
@@ -38,11 +40,6 @@ pub fn carry_out(keeper: &mut Keeper, event: Event) -> u32 {
 fn free_frame(keeper: &mut Keeper, frame: usize) {
     keeper.memory.frames[frame] = Frame::default();
     queue::push_end(&mut keeper.memory.free_queue, frame);
-}
-
-/// The account that pays for a page.
-fn account_of(keeper: &Keeper, page: usize) -> usize {
-    keeper.disk.accounts[page / keeper.sizes.pages] as usize
 }
 
 /// Moves a record to a state other than free; its slot stays.

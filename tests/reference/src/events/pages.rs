@@ -1,6 +1,6 @@
 //! Events about pages in frames: fault, read, write, wire, unwire, truncate.
 
-use super::{account_of, free_frame, set_state};
+use super::{free_frame, set_state};
 use crate::keeper::Keeper;
 use crate::queue;
 use crate::tables::{Frame, LIVE, NULLED, READING, RELEASED};
@@ -72,13 +72,13 @@ pub fn read(keeper: &mut Keeper, slot: usize, page: usize, word: usize) -> u32 {
     keeper.memory.frame_words[frame * keeper.sizes.words + word]
 }
 
-/// A page's first write is charged to its account.
+/// A page's first write is charged to the account that pays.
 pub fn write(keeper: &mut Keeper, slot: usize, page: usize, word: usize, value: u32) -> u32 {
     let frame = frame_at(keeper, slot, page);
     let page = keeper.flat(slot, page);
     if !keeper.charged(page) {
-        let account = account_of(keeper, page);
-        keeper.memory.used[account] += 1;
+        let payer = keeper.payer(slot);
+        keeper.memory.used[payer] += 1;
     }
     keeper.memory.frames[frame].used = 1;
     keeper.memory.frames[frame].modified = 1;
@@ -103,11 +103,11 @@ pub fn unwire(keeper: &mut Keeper, slot: usize, page: usize) -> u32 {
 
 /// Pages from `count` up become zeros: their records released, never freed here; their frames freed in page order.
 pub fn truncate(keeper: &mut Keeper, slot: usize, count: usize) -> u32 {
-    let account = keeper.disk.accounts[slot] as usize;
+    let payer = keeper.payer(slot);
     for page in keeper.pages_of(slot).skip(count) {
         let frame = keeper.frame_of(page);
         if keeper.charged(page) {
-            keeper.memory.used[account] -= 1;
+            keeper.memory.used[payer] -= 1;
         }
         if let Some(frame) = frame {
             queue::remove(&mut keeper.memory.removal_list, frame);

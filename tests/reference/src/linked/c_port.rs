@@ -21,6 +21,7 @@ struct Disk {
     accounts: Slice<u16>,
     maps: Slice<u16>,
     limits: Slice<u16>,
+    parents: Slice<u16>,
 }
 
 #[repr(C)]
@@ -53,7 +54,7 @@ pub struct Lent<'a> {
 
 #[link(name = "keeper_c", kind = "static")]
 extern "C" {
-    fn c_port_format(keeper: *mut Lent) -> Answer;
+    fn c_port_format(keeper: *mut Lent, wanted: *const u16, wanted_count: usize) -> Answer;
     fn c_port_restart(keeper: *mut Lent) -> Answer;
     fn c_port_apply(keeper: *mut Lent, request: Request) -> Answer;
     fn c_port_mend(keeper: *mut Lent, changes: Slice<Change>) -> Answer;
@@ -79,6 +80,7 @@ fn lent_disk(disk: &mut tables::Disk) -> Disk {
         accounts: slice(&mut disk.accounts),
         maps: slice(&mut disk.maps),
         limits: slice(&mut disk.limits),
+        parents: slice(&mut disk.parents),
     }
 }
 
@@ -112,8 +114,8 @@ impl Lent<'_> {
         }
     }
 
-    pub fn format(&mut self) -> Answer {
-        unsafe { c_port_format(self) }
+    pub fn format(&mut self, wanted: &[u16]) -> Answer {
+        unsafe { c_port_format(self, wanted.as_ptr(), wanted.len()) }
     }
 
     pub fn restart(&mut self) -> Answer {
@@ -140,7 +142,7 @@ impl Lent<'_> {
 
 pub const C_PORT: Subject = Subject {
     name: "C port",
-    format: |keeper| Lent::of(keeper).format(),
+    format: |keeper, wanted| Lent::of(keeper).format(wanted),
     restart: |keeper| Lent::of(keeper).restart(),
     apply: |keeper, request| Lent::of(keeper).apply(request),
     apply_all: |keeper, requests, answers| Lent::of(keeper).apply_all(requests, answers),

@@ -11,6 +11,8 @@ use crate::tables::{Frame, Pool, Sizes};
 extern "C" {
     fn keeper_format(
         sizes: Sizes,
+        wanted: *const u16,
+        wanted_count: usize,
         records: *mut u32,
         records_count: usize,
         numbers: *mut u32,
@@ -21,6 +23,8 @@ extern "C" {
         maps_count: usize,
         limits: *mut u16,
         limits_count: usize,
+        parents: *mut u16,
+        parents_count: usize,
     ) -> Answer;
     fn keeper_restart(
         sizes: Sizes,
@@ -37,6 +41,8 @@ extern "C" {
         maps_count: usize,
         limits: *const u16,
         limits_count: usize,
+        parents: *const u16,
+        parents_count: usize,
         frame_words: *mut u32,
         frame_words_count: usize,
         free_queue: *mut u16,
@@ -78,6 +84,8 @@ extern "C" {
         maps_count: usize,
         limits: *mut u16,
         limits_count: usize,
+        parents: *const u16,
+        parents_count: usize,
         frame_words: *mut u32,
         frame_words_count: usize,
         free_queue: *mut u16,
@@ -122,6 +130,8 @@ extern "C" {
         maps_count: usize,
         limits: *mut u16,
         limits_count: usize,
+        parents: *const u16,
+        parents_count: usize,
         frame_words: *mut u32,
         frame_words_count: usize,
         free_queue: *mut u16,
@@ -164,6 +174,8 @@ extern "C" {
         maps_count: usize,
         limits: *const u16,
         limits_count: usize,
+        parents: *const u16,
+        parents_count: usize,
         frame_words: *const u32,
         frame_words_count: usize,
         free_queue: *const u16,
@@ -201,6 +213,8 @@ extern "C" {
         maps_count: usize,
         limits: *const u16,
         limits_count: usize,
+        parents: *const u16,
+        parents_count: usize,
         changes: *mut u32,
         changes_count: usize,
     ) -> Answer;
@@ -210,6 +224,27 @@ extern "C" {
 /// The call with the keeper's tables behind its first values: all of them, or the disk part.
 // lends: made by tools/tables.py from tools/tables.txt
 macro_rules! lend {
+    ($name:ident($keeper:ident; disk$(, $first:expr)*; $at:ident$(; $last:expr)*)) => {
+        unsafe {
+            $name(
+                $keeper.sizes,
+                $($first,)*
+                $keeper.disk.records.$at(),
+                $keeper.disk.records.len(),
+                $keeper.disk.numbers.$at(),
+                $keeper.disk.numbers.len(),
+                $keeper.disk.accounts.$at(),
+                $keeper.disk.accounts.len(),
+                $keeper.disk.maps.$at(),
+                $keeper.disk.maps.len(),
+                $keeper.disk.limits.$at(),
+                $keeper.disk.limits.len(),
+                $keeper.disk.parents.$at(),
+                $keeper.disk.parents.len(),
+                $($last,)*
+            )
+        }
+    };
     ($name:ident($keeper:ident; $($first:expr),*; $pool:expr; $at:ident)) => {
         unsafe {
             $name(
@@ -228,6 +263,8 @@ macro_rules! lend {
                 $keeper.disk.maps.len(),
                 $keeper.disk.limits.$at(),
                 $keeper.disk.limits.len(),
+                $keeper.disk.parents.$at(),
+                $keeper.disk.parents.len(),
                 $keeper.memory.frame_words.$at(),
                 $keeper.memory.frame_words.len(),
                 $keeper.memory.free_queue.$at(),
@@ -255,29 +292,11 @@ macro_rules! lend {
             )
         }
     };
-    ($name:ident($keeper:ident; disk; $at:ident$(; $last:expr)*)) => {
-        unsafe {
-            $name(
-                $keeper.sizes,
-                $keeper.disk.records.$at(),
-                $keeper.disk.records.len(),
-                $keeper.disk.numbers.$at(),
-                $keeper.disk.numbers.len(),
-                $keeper.disk.accounts.$at(),
-                $keeper.disk.accounts.len(),
-                $keeper.disk.maps.$at(),
-                $keeper.disk.maps.len(),
-                $keeper.disk.limits.$at(),
-                $keeper.disk.limits.len(),
-                $($last,)*
-            )
-        }
-    };
 }
 // end of lends
 
-pub fn format(keeper: &mut Keeper) -> Answer {
-    lend!(keeper_format(keeper; disk; as_mut_ptr))
+pub fn format(keeper: &mut Keeper, wanted: &[u16]) -> Answer {
+    lend!(keeper_format(keeper; disk, wanted.as_ptr(), wanted.len(); as_mut_ptr))
 }
 
 pub fn restart(keeper: &mut Keeper) -> Answer {

@@ -65,7 +65,7 @@ pub fn broken(keeper: &Keeper) -> Vec<&'static str> {
 }
 
 impl View<'_> {
-    fn of(keeper: &Keeper) -> View<'_> {
+    pub fn of(keeper: &Keeper) -> View<'_> {
         let (sizes, disk, memory) = (&keeper.sizes, &keeper.disk, &keeper.memory);
         let mut holder = vec![0; sizes.records];
         let mut lister = vec![0; sizes.records];

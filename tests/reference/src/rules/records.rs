@@ -1,6 +1,7 @@
 //! The memory rules about records, addresses, images, slots and counts.
 
 use super::{distinct, View};
+use crate::accounts;
 use crate::tables::{FILED, FREE, LEAVING, LIVE, NULLED, RELEASED};
 
 pub fn one_holder(view: &View) -> bool {
@@ -87,24 +88,7 @@ pub fn free_agrees(view: &View) -> bool {
         && view.memory.pool.free as usize == count
 }
 
-/// Charged pages of active designs, and map entries above 0 of inactive ones.
+/// By the account that pays.
 pub fn used_counts(view: &View) -> bool {
-    let mut counts = vec![0; view.sizes.accounts];
-    let mut woven = vec![false; view.sizes.all_pages()];
-    for frame in view.memory.frames.iter().filter(|frame| frame.page != 0 && frame.modified == 1) {
-        woven[frame.page as usize - 1] = true;
-    }
-    for page in 0..view.sizes.all_pages() {
-        let slot = view.slot_of(page);
-        let charged = if view.memory.active[slot] == 1 {
-            let address = view.memory.addresses[page] as usize;
-            woven[page] || address != 0 && view.memory.states[address - 1] == LIVE
-        } else {
-            view.disk.maps[page] != 0
-        };
-        if charged {
-            counts[view.disk.accounts[slot] as usize] += 1;
-        }
-    }
-    counts == view.memory.used
+    accounts::counts(view, &view.disk.limits) == view.memory.used
 }

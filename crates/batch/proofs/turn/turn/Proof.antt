@@ -13,7 +13,7 @@ use Rattle.batch.proofs.turn.turn.Tie as tie
 abbrev lent : tie.Start → State
 lent s =
     let a = s .args in
-    allGiven (take (a .sizes .frames) (a .held .frames)) (a .held .pool) (a .records) (a .numbers) (a .accounts) (a .maps) (a .limits)
+    allGiven (take (a .sizes .frames) (a .held .frames)) (a .held .pool) (a .records) (a .numbers) (a .accounts) (a .maps) (a .limits) (a .parents)
     (a .frame-words) (a .free-queue) (a .removal-list) (a .addresses) (a .states) (a .owners) (a .free-map) (a .active) (a .updating) (a .images) (a .line) (a .used)
 
 -- from the request back to the start; from the work back to the decoded event; from the end back to the work
@@ -88,7 +88,6 @@ turn-spec =
     (λ c. worked c .carry .kept .1 .1 .1 .1 .1 .1 .0)
     (λ c. worked c .carry .kept .1 .1 .1 .1 .1 .1 .1 .0)
     (λ c. worked c .carry .kept .1 .1 .1 .1 .1 .1 .1 .1 .0)
-    (λ c. worked c .carry .kept .1 .1 .1 .1 .1 .1 .1 .1 .1 .0)
     (λ c. worked c .carry .kept .1 .1 .1 .1 .1 .1 .1 .1 .1 .1 .0)
     (λ c. worked c .carry .kept .1 .1 .1 .1 .1 .1 .1 .1 .1 .1 .1 .0)
     (λ c. worked c .carry .kept .1 .1 .1 .1 .1 .1 .1 .1 .1 .1 .1 .1 .0)
@@ -100,4 +99,5 @@ turn-spec =
     (λ c. worked c .carry .kept .1 .1 .1 .1 .1 .1 .1 .1 .1 .1 .1 .1 .1 .1 .1 .1 .1 .1 .0)
     (λ c. worked c .carry .kept .1 .1 .1 .1 .1 .1 .1 .1 .1 .1 .1 .1 .1 .1 .1 .1 .1 .1 .1 .0)
     (λ c. worked c .carry .kept .1 .1 .1 .1 .1 .1 .1 .1 .1 .1 .1 .1 .1 .1 .1 .1 .1 .1 .1 .1 .0)
+    (λ c. worked c .carry .kept .1 .1 .1 .1 .1 .1 .1 .1 .1 .1 .1 .1 .1 .1 .1 .1 .1 .1 .1 .1 .1 .0)
     returns-2)

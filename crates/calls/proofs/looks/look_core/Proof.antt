@@ -12,17 +12,17 @@ abbrev start : tie.After-place-core → tie.Start
 start k = search
 
 add-end : tie.Need-add-end
-add-end c = let s : tie.Start = search in omega (arith, c .before .place-core .ensures .1, s .good .1 .1 .1 .1 .1 .1 .1 .1 .1 .1 .1 .1 .0 .0)
+add-end c = let s : tie.Start = search in omega (arith, c .before .place-core .ensures .1, s .good .1 .1 .1 .1 .1 .1 .1 .1 .1 .1 .1 .1 .1 .0 .0)
 
 mul-result : tie.Need-mul-result
-mul-result c = let s : tie.Start = search in omega (arith, c .before .place-core .ensures .1, s .good .1 .1 .1 .1 .1 .1 .1 .1 .1 .1 .1 .1 .0 .1)
+mul-result c = let s : tie.Start = search in omega (arith, c .before .place-core .ensures .1, s .good .1 .1 .1 .1 .1 .1 .1 .1 .1 .1 .1 .1 .1 .0 .1)
 
 returns : tie.Need-returns
 returns c =
     let k = c .before .before in
     let a = start k .args in
     part-looked (a .sizes)
-    (allGiven (framesOf (a .frames) (a .lent)) (a .pool) (a .records) (a .numbers) (a .accounts) (a .maps) (a .limits) (a .frame-words) (a .free-queue) (a .removal-list)
+    (allGiven (framesOf (a .frames) (a .lent)) (a .pool) (a .records) (a .numbers) (a .accounts) (a .maps) (a .limits) (a .parents) (a .frame-words) (a .free-queue) (a .removal-list)
     (a .addresses) (a .states) (a .owners) (a .free-map) (a .active) (a .updating) (a .images) (a .line) (a .used))
     (a .slot) (a .page) (k .place-core .result) (a .frame-words .ptr) (k .place-core .ensures .0)
 

@@ -16,7 +16,7 @@ use Rattle.designs.proofs.create.create.Statement.{statement}
 use Rattle.designs.proofs.create.create.Tie as tie
 
 abbrev state : tie.Start → State
-state s = seenFiles (s .args .numbers .now) (s .args .accounts .now) [] [] []
+state s = seenFiles (s .args .numbers .now) (s .args .accounts .now) [] []
 
 abbrev event : tie.Start → Design
 event s = Design.Create (s .args .slot) (s .args .account) (s .args .number)
@@ -33,7 +33,7 @@ cast-put16 c =
     let b : tie.Else1 = search in
     let k : tie.After-ask-create = search in
     let s : tie.Start = search in
-    let t = all-yes 0 (questions (s .args .sizes) (seenFiles (s .args .numbers .now) [] [] [] []) (Event.Design (event s))) tt (sym (k .ask-create .ensures) ∙ b .if1 .left) in
+    let t = all-yes 0 (questions (s .args .sizes) (seenFiles (s .args .numbers .now) [] [] []) (Event.Design (event s))) tt (sym (k .ask-create .ensures) ∙ b .if1 .left) in
     omega (arith, t .0 .1 .0, s .pre .accounts-most)
 
 returns-2 : tie.Need-returns-2

@@ -13,7 +13,7 @@ use Rattle.designs.proofs.delete.delete.Statement.{statement}
 use Rattle.designs.proofs.delete.delete.Tie as tie
 
 abbrev state : tie.Start → State
-state s = seenFiles (s .args .numbers .now) (s .args .accounts .now) (s .args .maps .now) [] (s .args .active .now)
+state s = seenFiles (s .args .numbers .now) (s .args .accounts .now) (s .args .maps .now) (s .args .active .now)
 
 abbrev event : tie.Start → Design
 event s = Design.Delete (s .args .slot)

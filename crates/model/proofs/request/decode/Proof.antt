@@ -2,7 +2,7 @@
 use borrow.Author.Needs.{needs}
 use mathlib.Core.Path.{_∙_}
 use mathlib.Core.List.{_++_}
-use Rattle.model.specs.Requests.{designKinds, pageKinds, writebackKinds, waitingKinds, decoded, decodes-by}
+use Rattle.model.specs.Requests.{designKinds, pageKinds, writebackKinds, accountKinds, waitingKinds, decoded, decodes-by}
 use Rattle.model.proofs.Tagged.{passed}
 use Rattle.model.proofs.request.decode.Statement.{statement}
 use Rattle.model.proofs.request.decode.Tie as tie
@@ -10,7 +10,7 @@ use Rattle.model.proofs.request.decode.Tie as tie
 returns : tie.Need-returns
 unfolding decoded
 returns c = let s : tie.Start = search in let r = s .args .request in
-    decodes-by r _ (c .page .ensures ∙ passed (r .kind) Unit (designKinds r) (pageKinds r ++ writebackKinds r ++ waitingKinds r) (c .before .match .rest))
+    decodes-by r _ (c .page .ensures ∙ passed (r .kind) Unit (designKinds r) (pageKinds r ++ writebackKinds r ++ accountKinds r ++ waitingKinds r) (c .before .match .rest))
 
 returns-2 : tie.Need-returns-2
 unfolding decoded
@@ -28,9 +28,5 @@ returns-5 : tie.Need-returns-5
 unfolding decoded
 returns-5 c = let s : tie.Start = search in decodes-by (s .args .request) _ (rw (c .match .keys4))
 
-returns-6 : tie.Need-returns-6
-unfolding decoded
-returns-6 c = let s : tie.Start = search in decodes-by (s .args .request) _ (rw (c .match .keys5))
-
 pub decode-spec : {M : Type 1} → statement M
-decode-spec = tie.close (tie.spec (λ c. search needs) (λ c. search needs) (λ c κs. search needs) returns returns-2 returns-3 returns-4 returns-5 returns-6)
+decode-spec = tie.close (tie.spec (λ c. search needs) (λ c. search needs) (λ c κs. search needs) returns returns-2 returns-3 returns-4 returns-5)

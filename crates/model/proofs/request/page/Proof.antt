@@ -2,14 +2,14 @@
 use borrow.Author.Needs.{needs}
 use mathlib.Core.Path.{_∙_}
 use mathlib.Core.List.{_++_}
-use Rattle.model.specs.Requests.{pageKinds, writebackKinds, waitingKinds}
+use Rattle.model.specs.Requests.{pageKinds, writebackKinds, accountKinds, waitingKinds}
 use Rattle.model.proofs.Tagged.{passed}
 use Rattle.model.proofs.request.page.Statement.{statement}
 use Rattle.model.proofs.request.page.Tie as tie
 
 returns : tie.Need-returns
 returns c = let s : tie.Start = search in let r = s .args .request in
-    c .writeback .ensures ∙ passed (r .kind) Unit (pageKinds r) (writebackKinds r ++ waitingKinds r) (c .before .match .rest)
+    c .writeback .ensures ∙ passed (r .kind) Unit (pageKinds r) (writebackKinds r ++ accountKinds r ++ waitingKinds r) (c .before .match .rest)
 
 pub page-spec : {M : Type 1} → statement M
 page-spec =

@@ -15,6 +15,7 @@ call s = let a = s .args in record {
   numbers = a .numbers .now;
   accounts = a .accounts .now;
   limits = a .limits .now;
+  parents = a .parents .now;
   words = a .words .now;
   addresses = a .addresses .now;
   states = a .states .now;
@@ -59,7 +60,7 @@ page-of-requires c κs =
 returns-2 : tie.Need-returns-2
 returns-2 c =
     let n : tie.After-pay = search in
-    let q : tie.After-at16 = search in
+    let q : tie.After-slot-payer = search in
     let b : tie.After-is-charged = search in
     let j : tie.After-page-of = search in
     let g : tie.After-frame-at = search in
@@ -70,9 +71,9 @@ returns-2 c =
     let x = c .answered2 .ensures in
     let h = k .ask-served .ensures .1 (e .if1 .left) .1 in
     let o = write-denied (call s) (k .ask-served .result) (k .ask-served .ensures .0) (e .if1 .left) h (s .pre) (f .its-frame .result) (g .frame-at .result) (f .its-frame .ensures) (g .frame-at .ensures)
-    (j .page-of .result) (b .is-charged .result) (n .pay .result) (q .at16 .result) _ (j .page-of .ensures) (b .is-charged .ensures) (q .at16 .ensures) (n .pay .ensures .0) (n .pay .ensures .1) (c .before .if2 .left) in
+    (j .page-of .result) (b .is-charged .result) (n .pay .result) (q .slot-payer .result) _ (j .page-of .ensures) (b .is-charged .ensures) (q .slot-payer .ensures) (n .pay .ensures .0) (n .pay .ensures .1) (c .before .if2 .left) in
     let u = used-denied (call s) (k .ask-served .result) (k .ask-served .ensures .0) (e .if1 .left) h (s .pre) (f .its-frame .result) (g .frame-at .result) (f .its-frame .ensures) (g .frame-at .ensures)
-    (j .page-of .result) (b .is-charged .result) (n .pay .result) (q .at16 .result) _ (j .page-of .ensures) (b .is-charged .ensures) (q .at16 .ensures) (n .pay .ensures .0) (n .pay .ensures .1) (c .before .if2 .left) in
+    (j .page-of .result) (b .is-charged .result) (n .pay .result) (q .slot-payer .result) _ (j .page-of .ensures) (b .is-charged .ensures) (q .slot-payer .ensures) (n .pay .ensures .0) (n .pay .ensures .1) (c .before .if2 .left) in
     ((λ i. x i .answer) ∙ (λ i. o i .answer), ((λ i. take (s .args .sizes .frames) (x i .frames)) ∙ (λ i. o i .left .memory .core .frames), (λ i. o i .left .memory .core .words, u)))
 
 word-of-requires : tie.Need-word-of-requires
@@ -92,7 +93,7 @@ returns-3 c =
     let l : tie.After-with-frame = search in
     let t : tie.Then2 = search in
     let n : tie.After-pay = search in
-    let q : tie.After-at16 = search in
+    let q : tie.After-slot-payer = search in
     let b : tie.After-is-charged = search in
     let j : tie.After-page-of = search in
     let g : tie.After-frame-at = search in
@@ -103,17 +104,17 @@ returns-3 c =
     let x = c .answered3 .ensures in
     let h = k .ask-served .ensures .1 (e .if1 .left) .1 in
     let o = write-yes (call s) (k .ask-served .result) (k .ask-served .ensures .0) (e .if1 .left) h (s .pre) (f .its-frame .result) (g .frame-at .result) (f .its-frame .ensures) (g .frame-at .ensures)
-    (j .page-of .result) (b .is-charged .result) (n .pay .result) (q .at16 .result) _ (j .page-of .ensures) (b .is-charged .ensures) (q .at16 .ensures) (n .pay .ensures .0) (n .pay .ensures .1) (t .if2 .taken) in
+    (j .page-of .result) (b .is-charged .result) (n .pay .result) (q .slot-payer .result) _ (j .page-of .ensures) (b .is-charged .ensures) (q .slot-payer .ensures) (n .pay .ensures .0) (n .pay .ensures .1) (t .if2 .taken) in
     let us = used-yes (call s) (k .ask-served .result) (k .ask-served .ensures .0) (e .if1 .left) h (s .pre) (f .its-frame .result) (g .frame-at .result) (f .its-frame .ensures) (g .frame-at .ensures)
-    (j .page-of .result) (b .is-charged .result) (n .pay .result) (q .at16 .result) _ (j .page-of .ensures) (b .is-charged .ensures) (q .at16 .ensures) (n .pay .ensures .0) (n .pay .ensures .1) (t .if2 .taken) in
+    (j .page-of .result) (b .is-charged .result) (n .pay .result) (q .slot-payer .result) _ (j .page-of .ensures) (b .is-charged .ensures) (q .slot-payer .ensures) (n .pay .ensures .0) (n .pay .ensures .1) (t .if2 .taken) in
     let fs = write-frames (call s) (k .ask-served .result) (k .ask-served .ensures .0) (e .if1 .left) h (s .pre) (f .its-frame .result) (g .frame-at .result) (f .its-frame .ensures) (g .frame-at .ensures)
-    (j .page-of .result) (b .is-charged .result) (n .pay .result) (q .at16 .result) _ (j .page-of .ensures) (b .is-charged .ensures) (q .at16 .ensures) (n .pay .ensures .0) (n .pay .ensures .1) (t .if2 .taken) (l .with-frame .result) (l .with-frame .ensures) in
+    (j .page-of .result) (b .is-charged .result) (n .pay .result) (q .slot-payer .result) _ (j .page-of .ensures) (b .is-charged .ensures) (q .slot-payer .ensures) (n .pay .ensures .0) (n .pay .ensures .1) (t .if2 .taken) (l .with-frame .result) (l .with-frame .ensures) in
     let ws = write-words (call s) (k .ask-served .result) (k .ask-served .ensures .0) (e .if1 .left) h (s .pre) (f .its-frame .result) (g .frame-at .result) (f .its-frame .ensures) (g .frame-at .ensures)
-    (j .page-of .result) (b .is-charged .result) (n .pay .result) (q .at16 .result) _ (j .page-of .ensures) (b .is-charged .ensures) (q .at16 .ensures) (n .pay .ensures .0) (n .pay .ensures .1) (t .if2 .taken) (w .word-of .result) _ (w .word-of .ensures) (u .put32 .ensures) in
+    (j .page-of .result) (b .is-charged .result) (n .pay .result) (q .slot-payer .result) _ (j .page-of .ensures) (b .is-charged .ensures) (q .slot-payer .ensures) (n .pay .ensures .0) (n .pay .ensures .1) (t .if2 .taken) (w .word-of .result) _ (w .word-of .ensures) (u .put32 .ensures) in
     ((λ i. x i .answer) ∙ (λ i. o i .answer), ((λ i. take (s .args .sizes .frames) (x i .frames)) ∙ fs, (ws, us)))
 
 pub write-spec : {M : Type 1} → statement M
 write-spec =
     tie.close
-    (tie.spec ask-served-requires (λ c κs. search needs) returns its-frame-requires (λ c κs. search needs) page-of-requires (λ c κs. search needs) (λ c κs. search needs) (λ c. search needs) (λ c κs. search needs) (λ c κs. search needs) (λ c. search needs) returns-2
+    (tie.spec ask-served-requires (λ c κs. search needs) returns its-frame-requires (λ c κs. search needs) page-of-requires (λ c κs. search needs) (λ c κs. search needs) (λ c κs. search needs) (λ c κs. search needs) (λ c. search needs) returns-2
     (λ c κs. search needs) word-of-requires (λ c κs. search needs) (λ c κs. search needs) (λ c. search needs) (λ c. search needs) returns-3)

@@ -1,4 +1,4 @@
--- The five tests are the rule's; the products are small.
+-- The six tests are the rule's; the products are small.
 use mathlib.Core.Bool.{and-assoc}
 use native.Mathlib.Omega.{arith}
 use Rattle.tables.specs.Rule.{test}

@@ -14,12 +14,12 @@ use Rattle.questions.proofs.question2.disk_rules.Tie as tie
 disk-requires : tie.Need-disk-requires
 disk-requires c κs =
     let s₀ : tie.Start = search in let pre = s₀ .pre in let args = s₀ .args in
-    (record { within = within (args .z) (pre .0); numbers-long = pre .1 .1 .0; accounts-long = pre .1 .1 .1 .0; maps-long = pre .1 .1 .1 .1 .0 }, omega (arith, length-replicate {A = ℕ} 128 0, within (args .z) (pre .0) .records-most), λ k h. at-zeros 128 k)
+    (record { within = within (args .z) (pre .0); numbers-long = pre .1 .1 .0; accounts-long = pre .1 .1 .1 .0; maps-long = pre .1 .1 .1 .1 .0; parents-long = pre .1 .1 .1 .1 .1 .1 }, omega (arith, length-replicate {A = ℕ} 128 0, within (args .z) (pre .0) .records-most), λ k h. at-zeros 128 k)
 
 returns : tie.Need-returns
 returns c =
     let s₀ : tie.Start = search in let pre = s₀ .pre in let args = s₀ .args in
-    λ m. c .before .disk .ensures .0 ∙ disk-told (args .z) (record { disk = diskOf (args .records .now) (args .numbers .now) (args .accounts .now) (args .maps .now) (args .limits .now); memory = m }) (record { within = within (args .z) (pre .0); numbers-long = pre .1 .1 .0; accounts-long = pre .1 .1 .1 .0; maps-long = pre .1 .1 .1 .1 .0 })
+    λ m. c .before .disk .ensures .0 ∙ disk-told (args .z) (record { disk = diskOf (args .records .now) (args .numbers .now) (args .accounts .now) (args .maps .now) (args .limits .now) (args .parents .now); memory = m }) (record { within = within (args .z) (pre .0); numbers-long = pre .1 .1 .0; accounts-long = pre .1 .1 .1 .0; maps-long = pre .1 .1 .1 .1 .0; parents-long = pre .1 .1 .1 .1 .1 .1 })
 
 pub disk-rules-spec : {M : Type 1} → statement M
 disk-rules-spec = tie.close (tie.spec (λ c. search needs) disk-requires returns)

@@ -5,16 +5,19 @@ use Rattle.replay.proofs.machine.start.Statement.{statement}
 use Rattle.replay.proofs.machine.start.Tie as tie
 
 -- the place before the call
-abbrev blanked : tie.After-carry-arg17 → tie.After-blank
+abbrev blanked : tie.After-carry-arg18 → tie.After-blank
 blanked c = search
+
+abbrev sized : tie.After-format → tie.After-sizes
+sized f = search
 
 returns : tie.Need-returns
 returns c =
     let b = blanked (c .before) in
     let k = b .before in
     let f = k .before in
-    let z = f .before .before .before .before .before .before in
+    let z = sized f in
     by-start _ _ (z .sizes .ensures) (f .format .ensures) (k .cut .ensures) (rw (b .blank .ensures) at (c .carry .ensures))
 
 pub start-spec : {M : Type 1} → statement M
-start-spec = tie.close (tie.spec (λ c κs. search needs) (λ c κs. search needs) (λ c κs. search needs) (λ c κs. search needs) (λ c κs. search needs) returns)
+start-spec = tie.close (tie.spec (λ c κs. search needs) (λ c. search needs) (λ c κs. search needs) (λ c κs. search needs) (λ c κs. search needs) (λ c κs. search needs) returns)

@@ -8,7 +8,7 @@ use native.Mathlib.Omega.{arith}
 use lib.ListN.{length}
 use Rattle.tables.specs.Base.{at}
 use Rattle.model.specs.Sizes.{mostSlots}
-use Rattle.restarts.specs.ByEntry.{Filled, filled-tab, filled-by, filled-start}
+use Rattle.leaves.specs.ByEntry.{Filled, filled-tab, filled-by, filled-start}
 use Rattle.restarts.specs.Filed.{filedStates, filedOwners, stateBy, ownerBy, state-none, owner-none, state-turn, state-pass, owner-turn, owner-pass}
 use Rattle.restarts.proofs.filed.file_records.Statement.{statement}
 use Rattle.restarts.proofs.filed.file_records.Tie as tie

@@ -4,7 +4,7 @@ use Prim.Native.Nat.{suc, _-_}
 use native.Mathlib.Omega.{arith}
 use lib.ListN.{length}
 use native.Mathlib.Numerals.{add-one}
-use Rattle.restarts.specs.ByEntry.{Begun, begun-none, begun-on, begun-all, filled-is}
+use Rattle.leaves.specs.ByEntry.{Begun, begun-none, begun-on, begun-all, filled-is}
 use Rattle.restarts.specs.Restarts.{queued-all}
 use Rattle.restarts.proofs.queue.fill_queue.Statement.{statement}
 use Rattle.restarts.proofs.queue.fill_queue.Tie as tie

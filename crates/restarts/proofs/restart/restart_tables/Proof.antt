@@ -21,11 +21,11 @@ fill-queue-requires c κs =
     let s₀ : tie.Start = search in
     let p = s₀ .pre in omega (arith, p .free-queue-long, p .recorded .within .frames-most)
 
-cast-t42 : tie.Need-cast-t42
-cast-t42 c =
+cast-t44 : tie.Need-cast-t44
+cast-t44 c =
     let records : tie.After-restart-records = search in let t = records .restart-records in
     let s = begun (cleared records) in
-    omega (arith, pool-room (s .args .sizes) (seen (s .args .accounts .now) (s .args .maps .now)) (t .result) (s .pre .recorded .within) (t .ensures .1 .1 .1 .1))
+    omega (arith, pool-room (s .args .sizes) (seen (s .args .accounts .now) (s .args .maps .now) (s .args .limits .now) (s .args .parents .now)) (t .result) (s .pre .recorded .within) (t .ensures .1 .1 .1 .1))
 
 returns : tie.Need-returns
 returns c =
@@ -34,7 +34,7 @@ returns c =
     let k = cleared records .clear-tables .ensures in
     let s = begun (cleared records) in
     let z = s .args .sizes in
-    let d = seen (s .args .accounts .now) (s .args .maps .now) in
+    let d = seen (s .args .accounts .now) (s .args .maps .now) (s .args .limits .now) (s .args .parents .now) in
     let p = s .pre in (
       refl,
       (
@@ -76,4 +76,4 @@ returns c =
 pub restart-tables-spec : {M : Type 1} → statement M
 restart-tables-spec =
     tie.close
-    (tie.spec (λ c κs. search needs) fill-queue-requires (λ c κs. search needs) (λ c κs. search needs) cast-t42 (λ c. search needs) (λ c. search needs) (λ c. search needs) (λ c. search needs) (λ c. search needs) (λ c. search needs) (λ c. search needs) (λ c. search needs) (λ c. search needs) (λ c. search needs) (λ c. search needs) returns)
+    (tie.spec (λ c κs. search needs) fill-queue-requires (λ c κs. search needs) (λ c κs. search needs) cast-t44 (λ c. search needs) (λ c. search needs) (λ c. search needs) (λ c. search needs) (λ c. search needs) (λ c. search needs) (λ c. search needs) (λ c. search needs) (λ c. search needs) (λ c. search needs) (λ c. search needs) returns)

@@ -4,7 +4,7 @@ use mathlib.Core.Path.{refl}
 use Prim.Native.Nat.{_-_}
 use native.Mathlib.Omega.{arith}
 use lib.ListN.{length}
-use Rattle.restarts.specs.ByEntry.{Begun, begun-none, begun-on, begun-all, filled-is, filled-zeros}
+use Rattle.leaves.specs.ByEntry.{Begun, begun-none, begun-on, begun-all, filled-is, filled-zeros}
 use Rattle.restarts.proofs.zero.zero8.Statement.{statement}
 use Rattle.restarts.proofs.zero.zero8.Tie as tie
 

@@ -2,6 +2,7 @@
 use borrow.Author.Needs.{needs}
 use mathlib.Core.Path.{_≡_, refl, sym, _∙_}
 use Prim.Native.Nat.{_-_, _<_, _≤_}
+use native.Mathlib.Nat.{le-trans, mul-le-mul-right}
 use native.Mathlib.Omega.{arith}
 use lib.ListN.{length}
 use Rattle.tables.specs.Base.{at}
@@ -98,7 +99,7 @@ charge-requires c κs =
     let s₀ = begun at-loop in let pre = s₀ .pre in
     let w : tie.After-woven-page Inv-loop μ-loop = search in
     let less = woven-fits t in
-    (pre .0 .pages, rw (pre .0 .accounts-long) (omega (arith, w .woven-page .ensures, less, pre .0 .addresses-long)), omega (arith, w .woven-page .ensures, less), pre .0 .addresses-fit, pre .0 .accounts-fit, loop .inv .2 .sized, tallied-few _ _ _ _ _ _ _ _ (loop .inv .2) (omega (arith, within then1)) (pre .4))
+    (pre .0 .pages, le-trans (omega (arith, w .woven-page .ensures, less, pre .0 .addresses-long)) (mul-le-mul-right (s₀ .args .z .pages) (pre .0 .accounts-long)), omega (arith, w .woven-page .ensures, less), pre .0 .addresses-fit, pre .0 .accounts-fit, loop .inv .2 .sized, tallied-few _ _ _ _ _ _ _ _ (loop .inv .2) (omega (arith, within then1)) (pre .4))
 
 loop-again : tie.Need-loop-again Inv-loop μ-loop
 loop-again c =

@@ -17,7 +17,7 @@ use Rattle.waiting.proofs.turn.fetch.Tie as tie
 abbrev lent : tie.Start → State
 lent s =
     let a = s .args in
-    allGiven (take (a .sizes .frames) (a .frames)) (a .pool) (a .records) (a .numbers) (a .accounts) (a .maps) (a .limits) (a .frame-words) (a .free-queue) (a .removal-list)
+    allGiven (take (a .sizes .frames) (a .frames)) (a .pool) (a .records) (a .numbers) (a .accounts) (a .maps) (a .limits) (a .parents) (a .frame-words) (a .free-queue) (a .removal-list)
     (a .addresses) (a .states) (a .owners) (a .free-map) (a .active) (a .updating) (a .images) (a .line) (a .used)
 
 -- ── the places ──
@@ -87,13 +87,13 @@ fetch-spec =
     claim-requires
     (λ c κs. search needs)
     (λ c. let t : tie.Then1 = search in faulted (t .before) .fault .kept .1 .1 .1 .1 .1 .1 .0)
-    (λ c. let m : tie.After-claim = search in let t : tie.Then1 = search in m .claim .kept .1 .1 .1 .1 .0 ∙ faulted (t .before) .fault .kept .1 .1 .1 .1 .1 .1 .1 .0)
-    (λ c. let m : tie.After-claim = search in let t : tie.Then1 = search in m .claim .kept .1 .1 .1 .1 .1 .0 ∙ faulted (t .before) .fault .kept .1 .1 .1 .1 .1 .1 .1 .1 .0)
+    (λ c. let m : tie.After-claim = search in let t : tie.Then1 = search in m .claim .kept .1 .1 .1 .1 .1 .1 .0 ∙ faulted (t .before) .fault .kept .1 .1 .1 .1 .1 .1 .1 .0)
+    (λ c. let m : tie.After-claim = search in let t : tie.Then1 = search in m .claim .kept .1 .1 .1 .1 .1 .1 .1 .0 ∙ faulted (t .before) .fault .kept .1 .1 .1 .1 .1 .1 .1 .1 .0)
     (λ c. let t : tie.Then1 = search in faulted (t .before) .fault .kept .1 .1 .1 .1 .1 .1 .1 .1 .1 .0)
-    (λ c. search needs)
-    (λ c. search needs)
-    (λ c. search needs)
-    (λ c. search needs)
+    (λ c. let m : tie.After-claim = search in let t : tie.Then1 = search in m .claim .kept .1 .1 .1 .1 .1 .1 .1 .1 .1 .0 ∙ faulted (t .before) .fault .kept .1 .1 .1 .1 .1 .1 .1 .1 .1 .1 .0)
+    (λ c. let t : tie.Then1 = search in faulted (t .before) .fault .kept .1 .1 .1 .1 .1 .1 .1 .1 .1 .1 .1 .0)
+    (λ c. let t : tie.Then1 = search in faulted (t .before) .fault .kept .1 .1 .1 .1 .1 .1 .1 .1 .1 .1 .1 .1 .0)
+    (λ c. let m : tie.After-claim = search in m .claim .kept .1 .1 .1 .1 .1 .1 .1 .1 .1 .1 .0)
     returns
     settle-requires
     (λ c. search needs)

@@ -10,6 +10,7 @@ use Rattle.tables.specs.Base.{at, if}
 use Rattle.tables.specs.QueueEntries.{size-more}
 use Rattle.model.specs.declared.frame.Frame.{Frame}
 use Rattle.model.specs.State.{frameAt}
+use Rattle.leaves.specs.Payers.{whoPays}
 use Rattle.writeback.proofs.DoneWork.{answered}
 use Rattle.writeback.proofs.ClaimWork.{Taken, refused, taken, write-begins, freed}
 use Rattle.writeback.proofs.claim.claim.Statement.{statement}
@@ -31,8 +32,8 @@ some p = listed (turned p)
 abbrev start : tie.After-first → tie.Start
 start p = entered (some p)
 
-told : (p : tie.After-first) → (let a = start p .args in Taken (a .sizes) (a .frames) (a .accounts .now) (a .words .now) (a .free-queue .now) (a .addresses .now) (a .states .now) (a .used .now) (p .first .result))
-told p = taken _ _ _ _ _ (start p .args .removal-list .now) _ _ _ (some p .before .at16 .ensures) (some p .if1 .left) (start p .pre) (turned p .turn .ensures) (p .first .ensures)
+told : (p : tie.After-first) → (let a = start p .args in Taken (a .sizes) (a .frames) (a .accounts .now) (a .limits .now) (a .parents .now) (a .words .now) (a .free-queue .now) (a .addresses .now) (a .states .now) (a .used .now) (p .first .result))
+told p = taken _ _ _ _ _ _ _ (start p .args .removal-list .now) _ _ _ (some p .before .at16 .ensures) (some p .if1 .left) (start p .pre) (turned p .turn .ensures) (p .first .ensures)
 
 -- the number of the frame's page, and its record
 abbrev popped : tie.After-frame-at → tie.After-pop
@@ -51,7 +52,7 @@ recorded : (g : tie.After-frame-at) → (let a = start (first g) .args in pred (
 recorded g = ap (λ (i : ℕ). pred (at (start (first g) .args .addresses .now) i)) (paged g)
 
 returns : tie.Need-returns
-returns c = refused _ _ _ _ _ _ _ _ _ (c .before .before .at16 .ensures) (c .before .if1 .taken) (c .answered .ensures)
+returns c = refused _ _ _ _ _ _ _ _ _ _ _ (c .before .before .at16 .ensures) (c .before .if1 .taken) (c .answered .ensures)
 
 turn-requires : tie.Need-turn-requires
 turn-requires c κs =
@@ -81,7 +82,7 @@ returns-2 c =
     let q : tie.After-pop = search in
     let p = shown q in
     let t = turned p in
-    write-begins _ _ _ _ _ _ _ _ _ (some p .before .at16 .ensures) (some p .if1 .left) (start p .pre) (t .turn .ensures) (p .first .ensures)
+    write-begins _ _ _ _ _ _ _ _ _ _ _ (some p .before .at16 .ensures) (some p .if1 .left) (start p .pre) (t .turn .ensures) (p .first .ensures)
     (b .begins .ensures ∙ rw (g .frame-at .ensures)) (w .if2 .taken) (q .pop .ensures) (v .frame-at2 .ensures)
     (c .answered2 .ensures ∙ ap (λ (l : List Frame). answered l 0 (t .turn .result .looks)) (c .before .with-frame .ensures ∙ ap (set (t .turn .result .frames) (p .first .result)) (c .before .before .writing .ensures)))
 
@@ -122,10 +123,12 @@ returns-3 c =
     let t = turned p in
     let a = start p .args in
     let e = n .named .ensures ∙ paged g in
-    freed _ _ _ _ _ _ _ _ _ (some p .before .at16 .ensures) (some p .if1 .left) (start p .pre) (t .turn .ensures) (p .first .ensures)
+    freed _ _ _ _ _ _ _ _ _ _ _ (some p .before .at16 .ensures) (some p .if1 .left) (start p .pre) (t .turn .ensures) (p .first .ensures)
     (b .begins .ensures ∙ rw (g .frame-at .ensures)) (r .before .if2 .left) (r .record-of .ensures ∙ recorded g) (q .pop .ensures) (k .push-back .ensures)
     (u .uncharge-modified .ensures
-    ∙ (λ x. if (eqb (g .frame-at .ensures x .modified) 1) (set (a .used .now) (at (a .accounts .now) (e x / a .sizes .pages)) (at (a .used .now) (at (a .accounts .now) (e x / a .sizes .pages)) - 1)) (a .used .now)))
+    ∙ (λ x. if (eqb (g .frame-at .ensures x .modified) 1)
+    (set (a .used .now) (whoPays (a .accounts .now) (a .limits .now) (a .parents .now) (e x / a .sizes .pages)) (at (a .used .now) (whoPays (a .accounts .now) (a .limits .now) (a .parents .now) (e x / a .sizes .pages)) - 1))
+    (a .used .now)))
     (c .answered3 .ensures ∙ ap (λ (l : List Frame). answered l 0 (t .turn .result .looks)) (c .before .with-frame2 .ensures ∙ ap (set (t .turn .result .frames) (p .first .result)) (c .before .before .no-frame .ensures)))
     (m .make-nulled .ensures ∙ rw (g .frame-at .ensures))
 

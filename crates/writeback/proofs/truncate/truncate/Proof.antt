@@ -11,10 +11,10 @@ start p = search
 
 told : (p : tie.Else1)
     → (let a = start p .args in
-    Passed (a .sizes) (a .frames) (a .accounts .now) (a .free-queue .now) (a .removal-list .now) (a .addresses .now) (a .states .now) (a .used .now) (a .slot) (a .k))
+    Passed (a .sizes) (a .frames) (a .accounts .now) (a .limits .now) (a .parents .now) (a .free-queue .now) (a .removal-list .now) (a .addresses .now) (a .states .now) (a .used .now) (a .slot) (a .k))
 told p =
     let a = start p .args in
-    passed (a .sizes) (a .frames) (a .numbers .now) (a .accounts .now) (a .free-queue .now) (a .removal-list .now) (a .addresses .now) (a .states .now) (a .active .now) (a .used .now)
+    passed (a .sizes) (a .frames) (a .numbers .now) (a .accounts .now) (a .limits .now) (a .parents .now) (a .free-queue .now) (a .removal-list .now) (a .addresses .now) (a .states .now) (a .active .now) (a .used .now)
     (a .slot) (a .k) (p .before .ask-truncate .ensures) (p .if1 .left) (start p .pre)
 
 ask-truncate-requires : tie.Need-ask-truncate-requires
@@ -23,7 +23,7 @@ ask-truncate-requires c κs =
     (s .pre .most, s .pre .pages-most, s .pre .slots-most)
 
 returns : tie.Need-returns
-returns c = refused _ _ _ _ _ _ _ _ _ _ _ _ (c .before .before .ask-truncate .ensures) (c .before .if1 .taken) (c .answered .ensures)
+returns c = refused _ _ _ _ _ _ _ _ _ _ _ _ _ _ (c .before .before .ask-truncate .ensures) (c .before .if1 .taken) (c .answered .ensures)
 
 charges-requires : tie.Need-charges-requires
 charges-requires c κs =
@@ -64,7 +64,7 @@ returns-2 c =
     let counted : tie.After-charges = search in
     let p : tie.Else1 = search in
     let a = start p .args in
-    cut-off (a .sizes) (a .frames) (a .numbers .now) (a .accounts .now) (a .free-queue .now) (a .removal-list .now) (a .addresses .now) (a .states .now) (a .active .now) (a .used .now)
+    cut-off (a .sizes) (a .frames) (a .numbers .now) (a .accounts .now) (a .limits .now) (a .parents .now) (a .free-queue .now) (a .removal-list .now) (a .addresses .now) (a .states .now) (a .active .now) (a .used .now)
     (a .slot) (a .k) (p .before .ask-truncate .ensures) (p .if1 .left) (start p .pre) (omega (arith, start p .good .1 .1 .1 .0))
     (counted .charges .ensures) (uncharged .uncharge .ensures) (freed .free-frames .ensures .0) (freed .free-frames .ensures .1) (released .release-from .ensures) (cleared .clear-from .ensures)
     (c .before .clear-frames .ensures) (c .answered2 .ensures)

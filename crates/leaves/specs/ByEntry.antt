@@ -59,6 +59,9 @@ module _ {n : ℕ} {f : ℕ → ℕ} {k : ℕ} {l : List ℕ} (d : Begun n f k l
     ];
   }
 
+  pub begun-by : {m : List ℕ} → m ≡ l → Begun n f k m
+  begun-by e = rw e d
+
   pub begun-all : n ≤ k → Filled n f l
   begun-all h = record { long = d .long; entries = λ i g. d .so-far i (omega (arith, h, g)) }
 
