@@ -1,13 +1,13 @@
 /* The search for a free record alone: the proved one (alone.txt), the C port's, and the C port's as it was (old_search.h). bench/run.py builds it and makes the table.
    alone SECONDS prints the least times in nanoseconds of a search, less those of a call that does nothing; alone by itself makes each call once, for callgrind to count. */
 #include <stdbool.h>
-#include <stdio.h>
-#include <stdlib.h>
 #include <string.h>
-#include "cases.h"
 #include "keeper.h"
+#include "cases.h"
 
-enum { N = MOST_PAGES, MANY = 100 };
+/* a side's call that does nothing, then its search */
+enum { N = MOST_PAGES, MANY = 100, TURNS = 2 * SIDES };
+#include "timing.h"
 
 size_t proved_pick(size_t records, size_t pages, const uint16_t *addresses, size_t addresses_count, const uint32_t *map, size_t map_count, size_t hand, size_t page);
 size_t proved_none(size_t records, size_t pages, const uint16_t *addresses, size_t addresses_count, const uint32_t *map, size_t map_count, size_t hand, size_t page);
@@ -28,15 +28,28 @@ __attribute__((noinline)) static size_t c_none(const struct keeper *k, size_t pa
     return page;
 }
 
-/* A side's search, or its call that does nothing. */
-__attribute__((noinline)) static size_t call(int side, bool searches, size_t page)
+__attribute__((noinline)) static size_t call(int turn, size_t page)
 {
     const struct keeper *k = &keeper;
-    if (side == 0)
+    bool searches = turn % 2;
+    if (turn / 2 == 0)
         return (searches ? proved_pick : proved_none)(k->sizes.records, k->sizes.pages, addresses, N, map, R / 32, pool.hand, page);
     if (!searches)
         return c_none(k, page);
-    return (side == 1 ? c_port_pick : old_port_pick)(k, page);
+    return (turn / 2 == 1 ? c_port_pick : old_port_pick)(k, page);
+}
+
+static void check(const struct one *c, int turn, size_t result)
+{
+    if (turn % 2 == 0 || result == c->free)
+        return;
+    fprintf(stderr, "alone: side %d, %s %zu %s: another record\n", turn / 2, c->by, c->distance, c->side);
+    exit(1);
+}
+
+/* a search changes nothing */
+static void again(void)
+{
 }
 
 static void fill(const struct one *c)
@@ -47,60 +60,32 @@ static void fill(const struct one *c)
         addresses[0] = (uint16_t)(c->near + 1);
     map[c->free / 32] = UINT32_C(1) << (c->free % 32);
     pool.hand = (uint32_t)c->hand;
-    for (int side = 0; side < SIDES; side++)
-        if (call(side, true, c->page) != c->free) {
-            fprintf(stderr, "alone: side %d, %s %zu %s: another record\n", side, c->by, c->distance, c->side);
-            exit(1);
-        }
+    for (int turn = 0; turn < TURNS; turn++)
+        check(c, turn, call(turn, c->page));
 }
 
 /* The least time of one call of many in a row, the sides in turn. */
 static void measure(const struct one *cases, double wanted)
 {
-    static double least[CASES][SIDES][2];
+    static double least[CASES][TURNS];
     double begun = seconds();
     for (long round = 0; round < 3 || seconds() - begun < wanted; round++)
         for (int n = 0; n < CASES; n++) {
             fill(&cases[n]);
-            for (int turn = 0; turn < 2 * SIDES; turn++) {
+            for (int turn = 0; turn < TURNS; turn++) {
                 volatile size_t page = cases[n].page;
                 double before = seconds();
                 for (int k = 0; k < MANY; k++)
-                    call(turn / 2, turn % 2, page);
-                double took = (seconds() - before) * 1e9 / MANY, *best = &least[n][turn / 2][turn % 2];
-                if (round == 0 || took < *best)
-                    *best = took;
+                    call(turn, page);
+                double took = (seconds() - before) * 1e9 / MANY;
+                if (round == 0 || took < least[n][turn])
+                    least[n][turn] = took;
             }
         }
     for (int n = 0; n < CASES; n++) {
-        printf("%s\t%zu\t%s", cases[n].by, cases[n].distance, cases[n].side);
+        double search[SIDES];
         for (int side = 0; side < SIDES; side++)
-            printf("\t%.1f", least[n][side][1] - least[n][side][0]);
-        printf("\n");
+            search[side] = least[n][2 * side + 1] - least[n][2 * side];
+        print(&cases[n], search, SIDES, 1);
     }
-}
-
-static void count(const struct one *cases)
-{
-    for (int n = 0; n < CASES; n++) {
-        fill(&cases[n]);
-        for (int turn = 0; turn < 2 * SIDES; turn++) {
-            callgrind(START);
-            call(turn / 2, turn % 2, cases[n].page);
-            callgrind(STOP);
-            callgrind(DUMP);
-        }
-        printf("%s\t%zu\t%s\n", cases[n].by, cases[n].distance, cases[n].side);
-    }
-}
-
-int main(int words, char **word)
-{
-    static struct one cases[CASES];
-    list(cases);
-    if (words > 1)
-        measure(cases, atof(word[1]));
-    else
-        count(cases);
-    return 0;
 }

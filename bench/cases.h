@@ -4,7 +4,6 @@
 
 #include <stddef.h>
 #include <stdint.h>
-#include <time.h>
 
 enum { R = 4096, SIDES = 3, CASES = 25 };
 
@@ -23,23 +22,6 @@ static void list(struct one *cases)
         *cases++ = (struct one){"neighbour", "above", d, 0, 0, d, 1};
         *cases++ = (struct one){"neighbour", "below", d, R - 1, 0, R - 1 - d, 1};
     }
-}
-
-static double seconds(void)
-{
-    struct timespec now;
-    clock_gettime(CLOCK_MONOTONIC, &now);
-    return (double)now.tv_sec + (double)now.tv_nsec * 1e-9;
-}
-
-/* CALLGRIND_DUMP_STATS, _START_INSTRUMENTATION and _STOP_ of valgrind/callgrind.h, by the instructions that valgrind knows them by */
-enum { DUMP = 0x43540000, START = 0x43540004, STOP = 0x43540005 };
-
-static void callgrind(uint64_t request)
-{
-    uint64_t values[6] = {request}, result = 0;
-    __asm__ volatile("rolq $3, %%rdi; rolq $13, %%rdi; rolq $61, %%rdi; rolq $51, %%rdi; xchgq %%rbx, %%rbx"
-                     : "+d"(result) : "a"(values) : "cc", "memory");
 }
 
 #endif

@@ -2,8 +2,6 @@
    the C port with the search as it was (old_search.h). bench/run.py builds it and makes the table.
    search SECONDS prints the least times in nanoseconds; search alone makes each fault once, for callgrind to count, a file for each. */
 #include <stdbool.h>
-#include <stdio.h>
-#include <stdlib.h>
 #include <string.h>
 #include <x86intrin.h>
 #include "cases.h"
@@ -20,7 +18,8 @@
 struct answer old_port_apply(struct keeper *keeper, struct request request);
 
 /* one word a record: the words of a page are not what is measured */
-enum { W = 1, F = MOST_FRAMES, S = MOST_SLOTS, N = MOST_PAGES, Q = MOST_ACCOUNTS };
+enum { W = 1, F = MOST_FRAMES, S = MOST_SLOTS, N = MOST_PAGES, Q = MOST_ACCOUNTS, TURNS = SIDES };
+#include "timing.h"
 
 static struct {
     uint32_t records[R * W], numbers[S];
@@ -65,16 +64,22 @@ static void fill(const struct one *c)
     start = memory;
 }
 
-#define LENT(slice) (slice).at, (slice).len
-__attribute__((noinline)) static uint32_t fault(int side, uint32_t page)
+static void again(void)
 {
-    struct request request = {FAULT, 0, page, 0, 0};
+    memory = start;
+}
+
+#define LENT(slice) (slice).at, (slice).len
+/* A fault by a side. */
+__attribute__((noinline)) static size_t call(int side, size_t page)
+{
+    struct request request = {FAULT, 0, (uint32_t)page, 0, 0};
     if (side == 1)
         return c_port_apply(&keeper, request).refusal;
     if (side == 2)
         return old_port_apply(&keeper, request).refusal;
     KeeperSizes sizes = {W, R, F, S, N, Q};
-    KeeperRequest asked = {FAULT, 0, page, 0, 0};
+    KeeperRequest asked = {FAULT, 0, (uint32_t)page, 0, 0};
     struct disk *d = &keeper.disk;
     struct memory *m = &keeper.memory;
     return keeper_apply(sizes, asked, (KeeperFrame *)m->frames.at, m->frames.len, (KeeperPool *)m->pool, LENT(d->records), LENT(d->numbers),
@@ -84,11 +89,11 @@ __attribute__((noinline)) static uint32_t fault(int side, uint32_t page)
 }
 
 /* The fault was carried out, the page has that record, and the hand stands past it. */
-static void check(const struct one *c, uint32_t refusal)
+static void check(const struct one *c, int side, size_t refusal)
 {
     if (refusal == 0 && memory.addresses[c->page] == c->free + 1 && memory.pool.hand == (c->free + 1) % R && memory.pool.free == 0)
         return;
-    fprintf(stderr, "search: %s %zu %s: refusal %u, record %d\n", c->by, c->distance, c->side, refusal, memory.addresses[c->page] - 1);
+    fprintf(stderr, "search: side %d, %s %zu %s: refusal %zu, record %d\n", side, c->by, c->distance, c->side, refusal, memory.addresses[c->page] - 1);
     exit(1);
 }
 
@@ -112,11 +117,11 @@ static void measure(const struct one *cases, double wanted)
         for (int n = 0; n < CASES; n++) {
             fill(&cases[n]);
             for (int turn = 0; turn < 10 * SIDES; turn++) {
-                memory = start;
+                again();
                 uint64_t first = ticks(), before = ticks();
-                uint32_t refusal = fault(turn % SIDES, (uint32_t)cases[n].page);
+                size_t refusal = call(turn % SIDES, cases[n].page);
                 uint64_t took = ticks() - before;
-                check(&cases[n], refusal);
+                check(&cases[n], turn % SIDES, refusal);
                 own = before - first < own ? before - first : own;
                 if (took < least[n][turn % SIDES])
                     least[n][turn % SIDES] = took;
@@ -125,41 +130,9 @@ static void measure(const struct one *cases, double wanted)
     double nanoseconds = (seconds() - begun) * 1e9 / (double)(ticks() - from);
     printf("rounds\t%ld\n", rounds * 10);
     for (int n = 0; n < CASES; n++) {
-        printf("%s\t%zu\t%s", cases[n].by, cases[n].distance, cases[n].side);
+        double faults[SIDES];
         for (int side = 0; side < SIDES; side++)
-            printf("\t%.0f", (double)(least[n][side] - own) * nanoseconds);
-        printf("\n");
+            faults[side] = (double)(least[n][side] - own) * nanoseconds;
+        print(&cases[n], faults, SIDES, 0);
     }
-}
-
-static void count(const struct one *cases)
-{
-    fill(cases);
-    for (int side = 0; side < SIDES; side++) { /* so that no first call of a library function is counted */
-        memory = start;
-        check(cases, fault(side, 0));
-    }
-    for (int n = 0; n < CASES; n++) {
-        fill(&cases[n]);
-        for (int side = 0; side < SIDES; side++) {
-            memory = start;
-            callgrind(START);
-            uint32_t refusal = fault(side, (uint32_t)cases[n].page);
-            callgrind(STOP);
-            callgrind(DUMP);
-            check(&cases[n], refusal);
-        }
-        printf("%s\t%zu\t%s\n", cases[n].by, cases[n].distance, cases[n].side);
-    }
-}
-
-int main(int words, char **word)
-{
-    static struct one cases[CASES];
-    list(cases);
-    if (words > 1)
-        measure(cases, atof(word[1]));
-    else
-        count(cases);
-    return 0;
 }

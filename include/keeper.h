@@ -2,10 +2,10 @@
  *
  * All tables are lent by the caller, as a pointer and a count of elements each; the keeper keeps no memory of its own, never
  * allocates, never blocks, and every call ends. A table of a wrong length is answered 1. After a refusal everything lent is as it
- * was. What the caller owes: no pointer is null, each is aligned as its elements, no two tables overlap, one call at a time on
- * one set of tables; and for one disk the same sizes at every call, from its format on. The keeper does not store the sizes and
- * cannot tell: a disk formatted with W 16 and R 8 has all its lengths with W 8 and R 16 too, restart answers 0, and then one
- * design shows another's words. Keep the sizes on the device and refuse others, as examples/firmware.c does. */
+ * was. What the caller owes: no pointer is null, each is aligned as its elements, no two tables or lists overlap, one call at a
+ * time on one set of tables; and for one disk the same sizes at every call, from its format on. The keeper does not store the
+ * sizes and cannot tell: a disk formatted with W 16 and R 8 has all its lengths with W 8 and R 16 too, restart answers 0, and
+ * then one design shows another's words. Keep the sizes on the device and refuse others, as examples/firmware.c does. */
 #ifndef KEEPER_H
 #define KEEPER_H
 

@@ -1,7 +1,7 @@
 /* Not proved: the test of include/keeper_easy.h, in the common part of C99 and C++. Every function of it is used here; the events are compared,
  * table by table, with the same requests to keeper.h over tables that the macros of that header declare. tests/easy.sh builds and runs it. */
-#include <stdio.h>
 #include <stdlib.h>
+#include "check.h"
 #include "keeper_easy.h"
 
 enum { W = 4, R = 9, F = 4, S = 3, N = 5, Q = 3 };
@@ -16,19 +16,6 @@ static struct {
     KEEPER_MEMORY_TABLES(W, R, F, S, N, Q)
 } memory;
 #define EVERYTHING KEEPER_LEND(memory.frames), &memory.pool, KEEPER_LEND_DISK(disk), KEEPER_LEND_MEMORY(memory)
-
-static unsigned passed, failed;
-
-#define CHECK(holds) check((holds) != 0, #holds, __LINE__)
-static void check(int holds, const char *what, int line)
-{
-    if (holds) {
-        passed++;
-    } else {
-        failed++;
-        printf("tests/easy.c:%d: %s\n", line, what);
-    }
-}
 
 static KeeperSizes sizes_of(size_t words, size_t records, size_t frames, size_t slots, size_t pages, size_t accounts)
 {
@@ -545,6 +532,5 @@ int main(void)
     test_save_order();
     test_read_while_saved();
     free(keeper.records);
-    printf("%u passed, %u failed\n", passed, failed);
-    return failed != 0;
+    return counted();
 }

@@ -1,20 +1,9 @@
 /* Not proved: the test of examples/filedisk.c's header, journal and refusals, over a file. Kills and cuts are tests/plug.c's. */
 #define _POSIX_C_SOURCE 200809L
-#include <stdio.h>
 #include <stdlib.h>
 #include <unistd.h>
+#include "check.h"
 #include "filedisk.h"
-
-static unsigned passed, failed;
-
-#define CHECK(holds) check((holds) != 0, #holds, __LINE__)
-static void check(int holds, const char *what, int line)
-{
-    passed += holds ? 1 : 0;
-    failed += holds ? 0 : 1;
-    if (!holds)
-        printf("tests/filedisk.c:%d: %s\n", line, what);
-}
 
 static const KeeperSizes sizes = {.words = 16, .records = 8, .frames = 3, .slots = 2, .pages = 4, .accounts = 3};
 static const KeeperSizes alike = {.words = 8, .records = 16, .frames = 3, .slots = 2, .pages = 4, .accounts = 3};
@@ -203,6 +192,5 @@ int main(int count, char **words)
     test_short(blocks, words[1], disk.end);
     filedisk_close(&blocks);
     free(keeper.records);
-    printf("%u passed, %u failed\n", passed, failed);
-    return failed != 0;
+    return counted();
 }

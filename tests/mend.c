@@ -33,13 +33,19 @@ static void put(FileDisk *disk, size_t table, size_t entry, uint32_t value)
         exit(failed("a cell cannot be written"));
 }
 
+/* A file, made or there already, and a keeper. */
+static int opened(const char *path, int made, FileBlocks *blocks, Keeper *keeper)
+{
+    const size_t bytes = keeper_workspace(sizes);
+    return filedisk_file(blocks, path, made) == 0 && keeper_place(keeper, sizes, malloc(bytes), bytes) == KEEPER_PLACED;
+}
+
 static int make(const char *path, const char *kind)
 {
     FileBlocks blocks;
     FileDisk disk;
     Keeper keeper;
-    const size_t bytes = keeper_workspace(sizes);
-    if (filedisk_file(&blocks, path, 1) != 0 || keeper_place(&keeper, sizes, malloc(bytes), bytes) != KEEPER_PLACED)
+    if (!opened(path, 1, &blocks, &keeper))
         return failed("no file or no memory");
     if (filedisk_format(&disk, blocks, &keeper, NULL) != FILEDISK_GOOD || filedisk_limit(&disk, &keeper, 1, 8).refusal)
         return failed("no format");
@@ -69,8 +75,7 @@ static int look(const char *path)
     FileBlocks blocks;
     FileDisk disk;
     Keeper keeper;
-    const size_t bytes = keeper_workspace(sizes);
-    if (filedisk_file(&blocks, path, 0) != 0 || keeper_place(&keeper, sizes, malloc(bytes), bytes) != KEEPER_PLACED)
+    if (!opened(path, 0, &blocks, &keeper))
         return failed("no file or no memory");
     if (filedisk_open(&disk, blocks, &keeper) != FILEDISK_GOOD) {
         printf("%s\n", disk.line);

@@ -10,7 +10,7 @@ import pathlib
 import sys
 
 from crates import listed
-from regions import Bad, parts
+from regions import Bad, parts, renew
 
 ROOT = pathlib.Path(__file__).resolve().parent.parent
 START, END = "<!-- sizes: made by tools/counts.py -->\n", "<!-- end of sizes -->\n"
@@ -55,20 +55,12 @@ def main(words):
     if not words:
         print(table(), end="")
         return 0
-    if len(words) != 2 or words[0] not in ("--write", "--check"):
+    if len(words) != 2:
         print(__doc__, file=sys.stderr)
         return 1
     path = pathlib.Path(words[1])
-    before, inside, after = parts(path.read_text(), START, END, words[1])
-    if words[0] == "--write":
-        path.write_text(before + table() + after)
-        return 0
-    if inside == table():
-        print("1 passed, 0 failed")
-        return 0
-    print(f"the table in {words[1]} is not the current one: tools/counts.py --write {words[1]}")
-    print("0 passed, 1 failed")
-    return 1
+    before, _, after = parts(path.read_text(), START, END, words[1])
+    return renew("counts.py", __doc__, words[:1], [(f"the table in {path}", path, before + table() + after)])
 
 
 if __name__ == "__main__":

@@ -198,15 +198,20 @@ def linked_calls():
 
 
 def linked_lends():
-    """The arguments of those calls: the tables behind the first values."""
-    def argument(table):
-        at = f"$keeper.{table.part}.{table.name}"
-        return "                $pool,\n" if table.is_one() else f"                {at}.$at(),\n                {at}.len(),\n"
+    """The arguments of those calls: the tables behind the first values. The memory part stands around the disk part's one list."""
+    def arguments_of(tables, indent):
+        at = [f"$keeper.{table.part}.{table.name}" for table in tables]
+        values = [["$pool"] if table.is_one() else [f"{place}.$at()", f"{place}.len()"] for table, place in zip(tables, at)]
+        return "".join(f"{' ' * indent}{value},\n" for pair in values for value in pair)
 
-    def lend(pattern, call, last=""):
-        body = "                $keeper.sizes,\n                $($first,)*\n" + "".join(map(argument, in_call(call))) + last
-        return f"    ({pattern}) => {{\n        unsafe {{\n            $name(\n{body}            )\n        }}\n    }};\n"
-
-    everything = lend("$name:ident($keeper:ident; $($first:expr),*; $pool:expr; $at:ident)", "apply")
-    disk = lend("$name:ident($keeper:ident; disk$(, $first:expr)*; $at:ident$(; $last:expr)*)", "format", "                $($last,)*\n")
-    return "macro_rules! lend {\n" + disk + everything + "}\n"
+    structs = [table for table in in_call("apply") if table.is_struct()]
+    numbers = [table for table in of_part("memory") if not table.is_struct()]
+    return (
+        "macro_rules! lend {\n"
+        "    ($name:ident($keeper:ident; disk; $($first:expr,)*; $at:ident; $($last:expr,)*)) => {\n        unsafe {\n            $name(\n"
+        "                $keeper.sizes,\n                $($first,)*\n" + arguments_of(in_call("format"), 16)
+        + "                $($last,)*\n            )\n        }\n    };\n"
+        "    ($name:ident($keeper:ident; $($first:expr,)*; $pool:expr; $at:ident)) => {\n        lend!($name(\n"
+        "            $keeper; disk;\n            $($first,)*\n" + arguments_of(structs, 12)
+        + "            ; $at;\n" + arguments_of(numbers, 12) + "        ))\n    };\n}\n"
+    )

@@ -8,12 +8,11 @@ choose the page that leaves its frame are compared: the keeper's removal list, r
 possible, which knows the future and takes the page whose next use is farthest.
 """
 
-import functools
-import pathlib
 import subprocess
-import sys
 
-ROOT = pathlib.Path(__file__).resolve().parent.parent
+import library
+from library import ROOT
+
 FRAMES = range(1, 65)
 KINDS = (("the keeper", "#1b6ca8"), ("least recently used", "#c05a00"), ("best possible", "#3d8a3d"))
 
@@ -67,20 +66,9 @@ def best(pages):
     return [best_with(pages, following, frames) for frames in FRAMES]
 
 
-@functools.cache
-def program():
-    """Builds tools/misses.c over the static library."""
-    built, library = ROOT / "target" / "misses", ROOT / "target" / "staticlib" / "libkeeper.a"
-    if not library.exists():
-        raise Bad("there is no target/staticlib/libkeeper.a: rt staticlib keeper makes it")
-    words = ["gcc", "-std=c99", "-O2", "-Wall", "-Wextra", "-Werror", "-pedantic", "-Iinclude", "tools/misses.c", library, "-o", built]
-    subprocess.run(words, cwd=ROOT, check=True)
-    return built
-
-
 def keeper(pages):
     """Misses for each number of frames, by the keeper itself."""
-    ran = subprocess.run([program()], input=" ".join(map(str, pages)), capture_output=True, text=True)
+    ran = subprocess.run([library.program("misses")], input=" ".join(map(str, pages)), capture_output=True, text=True)
     if ran.returncode != 0:
         raise Bad(ran.stderr.strip())
     return [int(line.split()[1]) for line in ran.stdout.splitlines()]
@@ -119,26 +107,15 @@ def plot(title, uses, counts):
     return "\n".join(out) + "\n</svg>\n"
 
 
-def main(words):
-    if words in (["--help"], ["-h"]):
-        print(__doc__.strip())
-        return 0
-    if not 1 <= len(words) <= 2:
-        print(__doc__.strip(), file=sys.stderr)
-        return 2
-    path = pathlib.Path(words[0])
-    svg = pathlib.Path(words[1]) if len(words) > 1 else ROOT / "target" / "misses.svg"
+def run(path, svg):
+    """A trace's table, printed, and its plot."""
     pages = read(path)
     counts = [keeper(pages), least_recent(pages), best(pages)]
     print(f"{path}: {len(pages)} uses of {len(set(pages))} pages; misses, and per cent of the uses")
     print(table(len(pages), counts), end="")
     svg.write_text(plot(path.name, len(pages), counts))
     print(f"the plot is in {svg}")
-    return 0
 
 
 if __name__ == "__main__":
-    try:
-        sys.exit(main(sys.argv[1:]))
-    except (Bad, OSError, subprocess.CalledProcessError) as bad:
-        sys.exit(f"misses.py: {bad}")
+    library.main("misses.py", __doc__, "misses.svg", run, Bad)

@@ -15,6 +15,7 @@ import sys
 
 import studios
 from drawing import arrow, box, corner, head, lines, section, tail
+from regions import renew
 
 ROOT = pathlib.Path(__file__).resolve().parent.parent
 DOCS = ROOT / "docs"
@@ -208,28 +209,13 @@ def made():
     return {DOCS / "record-states.svg": states, DOCS / "page-life.svg": pages, DOCS / "accounts.svg": accounts}
 
 
-def stale(path, picture):
-    return not path.exists() or path.read_text() != picture
-
-
-def main(words):
-    pictures = made()
-    if words == ["--write"]:
-        for path, picture in pictures.items():
-            path.write_text(picture)
-        return 0
-    if words != ["--check"]:
-        print(__doc__, file=sys.stderr)
-        return 1
-    old = [path for path, picture in pictures.items() if stale(path, picture)]
-    for path in old:
-        print(f"{path.relative_to(ROOT)} is not what tools/pictures.py --write makes")
-    print(f"{len(pictures) - len(old)} passed, {len(old)} failed")
-    return 1 if old else 0
+def files():
+    for path, picture in made().items():
+        yield path.relative_to(ROOT), path, picture
 
 
 if __name__ == "__main__":
     try:
-        sys.exit(main(sys.argv[1:]))
+        sys.exit(renew("pictures.py", __doc__, sys.argv[1:], files()))
     except (Bad, studios.Bad) as bad:
         sys.exit(f"pictures.py: {bad}")

@@ -14,6 +14,7 @@ import pathlib
 import sys
 
 from drawing import head, section, tail, text
+from regions import renew
 
 PICTURE = pathlib.Path(__file__).resolve().parent.parent / "docs" / "spread.svg"
 RECORDS, DESIGNS, PAGES, STEPS = 256, 6, 32, 400
@@ -90,14 +91,9 @@ def picture():
 
 
 def main(words):
-    if words == ["--write"]:
-        PICTURE.write_text(picture())
-    elif words == ["--check"]:
-        same = PICTURE.exists() and PICTURE.read_text() == picture()
-        print("1 passed, 0 failed" if same else "docs/spread.svg is not what tools/spread.py --write makes\n0 passed, 1 failed")
-        return not same
-    else:
-        print(f"by the hand alone {travel(load(by_hand)):.1f}, near each other {travel(load(near_each_other)):.1f}")
+    if words:
+        return renew("spread.py", __doc__, words, [("docs/spread.svg", PICTURE, picture())])
+    print(f"by the hand alone {travel(load(by_hand)):.1f}, near each other {travel(load(near_each_other)):.1f}")
     return 0
 
 

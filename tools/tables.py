@@ -15,7 +15,7 @@ import ceasy
 import ctext
 import lent
 from lent import PARTS, ROOT, WIDTHS, of_part
-from regions import Bad, parts
+from regions import Bad, parts, renew
 
 
 def shown(length):
@@ -103,27 +103,15 @@ def marks(file, name):
     return f"{left}{name}: made by tools/tables.py from tools/tables.txt{right}\n", f"{left}end of {name}{right}\n"
 
 
-def main(words):
-    if words not in (["--write"], ["--check"]):
-        print(__doc__, file=sys.stderr)
-        return 1
-    old = 0
+def made():
+    """Each part with its file's whole text; a file that has two is read again."""
     for file, name, make in MADE:
-        path = ROOT / file
-        before, inside, after = parts(path.read_text(), *marks(file, name), file)
-        if inside != make():
-            old += 1
-            if words == ["--write"]:
-                path.write_text(before + make() + after)
-            else:
-                print(f"{file}: {name} is not what tools/tables.py --write makes")
-    if words == ["--check"]:
-        print(f"{len(MADE) - old} passed, {old} failed")
-    return 1 if old and words == ["--check"] else 0
+        before, _, after = parts((ROOT / file).read_text(), *marks(file, name), file)
+        yield f"{file}: {name}", ROOT / file, before + make() + after
 
 
 if __name__ == "__main__":
     try:
-        sys.exit(main(sys.argv[1:]))
+        sys.exit(renew("tables.py", __doc__, sys.argv[1:], made()))
     except (Bad, OSError) as bad:
         sys.exit(f"tables.py: {bad}")

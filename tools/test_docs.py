@@ -1,5 +1,5 @@
 #!/usr/bin/env python3
-"""Tests that the files, crates and functions that the documents name are there: python3 tools/test_docs.py"""
+"""Tests that the files, crates and functions that the documents name are there, and the statements that they quote: python3 tools/test_docs.py"""
 
 import pathlib
 import re
@@ -74,6 +74,16 @@ class Named(unittest.TestCase):
         table = text[text.index("| crate | what it is |") :].split("\n\n")[0]
         rows = [row.split("|")[1] for row in table.splitlines()[2:]]
         self.assertEqual(sorted(word for row in rows for word in re.findall(r"`(\w+)`", row)), NAMES)
+
+    def test_statements(self):
+        """What docs/PROOF.md quotes of a statement is its text in the crates, but for where lines end."""
+        text = (ROOT / "docs" / "PROOF.md").read_text()
+        quotes = re.findall(r"\n\n((?:    .+\n)+)", text)
+        crates = "\n".join(" ".join(path.read_text().split()) for path in CRATES.glob("*/*/*.antt"))
+        self.assertGreaterEqual(len(quotes), 3)
+        for quote in quotes:
+            with self.subTest(quote.split()[0]):
+                self.assertIn(" ".join(quote.split()), crates)
 
     def test_must_fail(self):
         """The edits of each crate are those of the table in docs/PROOF.md."""

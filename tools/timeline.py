@@ -8,16 +8,14 @@ the library (tools/timeline.c runs it). The file needs nothing else: no script o
 '#cut=ROW&lands=0,2' opens that cut.
 """
 
-import functools
 import html
 import json
-import pathlib
 import subprocess
-import sys
 
 import events
+import library
+from library import ROOT
 
-ROOT = pathlib.Path(__file__).resolve().parent.parent
 PAGES, WORDS = 3, 2
 COLOURS = ("#9cc5e3", "#f3bf8a")
 STATES = ("free", "filed", "nulled", "live", "released", "leaving")
@@ -25,17 +23,6 @@ WAYS = ("", "reading", "writing")
 
 
 # ── the library ──
-@functools.cache
-def program():
-    """Builds tools/timeline.c over the static library."""
-    built, library = ROOT / "target" / "timeline", ROOT / "target" / "staticlib" / "libkeeper.a"
-    if not library.exists():
-        raise events.Bad("there is no target/staticlib/libkeeper.a: rt staticlib keeper makes it")
-    words = ["gcc", "-std=c99", "-O2", "-Wall", "-Wextra", "-Werror", "-pedantic", "-Iinclude", "tools/timeline.c", library, "-o", built]
-    subprocess.run(words, cwd=ROOT, check=True)
-    return built
-
-
 def requests(text):
     """The list as the program reads it; it may have the library's own kinds too."""
     lines = ([events.ALL[name][0], *values, *[0] * (4 - len(values))] for name, values in events.parse(text, events.ALL))
@@ -44,7 +31,7 @@ def requests(text):
 
 def ran(text, *words):
     """What the library says of a list."""
-    return subprocess.run([program(), *words], input=requests(text), capture_output=True, text=True, check=True).stdout
+    return subprocess.run([library.program("timeline"), *words], input=requests(text), capture_output=True, text=True, check=True).stdout
 
 
 # ── the pictures ──
@@ -240,25 +227,14 @@ def page(title, text, states):
     )
 
 
-def main(words):
-    if words in (["--help"], ["-h"]):
-        print(__doc__.strip())
-        return 0
-    if not 1 <= len(words) <= 2:
-        print(__doc__.strip(), file=sys.stderr)
-        return 2
-    path = pathlib.Path(words[0])
-    out = pathlib.Path(words[1]) if len(words) > 1 else ROOT / "target" / "timeline.html"
+def run(path, out):
+    """A list's page."""
     text = path.read_text()
     events.named(path, lambda: events.parse(text, events.ALL))
     states = json.loads(ran(text))
     out.write_text(page(path.name, text, states))
     print(f"{len(states) - 1} events, {sum(len(state['cuts']) for state in states)} cuts: {out}")
-    return 0
 
 
 if __name__ == "__main__":
-    try:
-        sys.exit(main(sys.argv[1:]))
-    except (events.Bad, OSError, subprocess.CalledProcessError) as bad:
-        sys.exit(f"timeline.py: {bad}")
+    library.main("timeline.py", __doc__, "timeline.html", run, events.Bad)

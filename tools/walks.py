@@ -14,7 +14,7 @@ import sys
 
 import lent
 from lent import ROOT
-from regions import Bad
+from regions import Bad, renew
 
 TEMPLATES = ROOT / "tools" / "walks"
 PROOFS = ROOT / "crates" / "keeper" / "proofs"
@@ -374,23 +374,14 @@ def made(name):
     return filled((TEMPLATES / f"{name}.txt").read_text(), WALKS[name]().marks())
 
 
-def main(words):
-    if words not in (["--write"], ["--check"]):
-        print(__doc__, file=sys.stderr)
-        return 1
-    old = [name for name in WALKS if (PROOFS / name / "Proof.antt").read_text() != made(name)]
-    for name in old:
-        if words == ["--write"]:
-            (PROOFS / name / "Proof.antt").write_text(made(name))
-        else:
-            print(f"crates/keeper/proofs/{name}/Proof.antt is not what tools/walks.py --write makes")
-    if words == ["--check"]:
-        print(f"{len(WALKS) - len(old)} passed, {len(old)} failed")
-    return 1 if old and words == ["--check"] else 0
+def walks():
+    """Each walk with its file."""
+    for name in WALKS:
+        yield f"crates/keeper/proofs/{name}/Proof.antt", PROOFS / name / "Proof.antt", made(name)
 
 
 if __name__ == "__main__":
     try:
-        sys.exit(main(sys.argv[1:]))
+        sys.exit(renew("walks.py", __doc__, sys.argv[1:], walks()))
     except (Bad, OSError) as bad:
         sys.exit(f"walks.py: {bad}")

@@ -121,29 +121,38 @@ void simulated_cut(Simulated *device)
     memcpy(device->seen, device->safe, device->bytes);
 }
 
+/* ── over another device: a Killer and a Without begin with it ── */
+static FileBlocks below(void *self)
+{
+    return *(FileBlocks *)self;
+}
+
+static int read_below(void *self, uint64_t at, void *to, size_t bytes)
+{
+    return below(self).read(below(self).self, at, to, bytes);
+}
+
+static int write_below(void *self, uint64_t at, const void *from, size_t bytes)
+{
+    return below(self).write(below(self).self, at, from, bytes);
+}
+
+static int sync_below(void *self)
+{
+    return below(self).sync(below(self).self);
+}
+
 /* ── over a file ── */
-static int killer_read(void *self, uint64_t at, void *to, size_t bytes)
-{
-    Killer *killer = self;
-    return killer->file.read(killer->file.self, at, to, bytes);
-}
-
-static int killer_sync(void *self)
-{
-    Killer *killer = self;
-    return killer->file.sync(killer->file.self);
-}
-
 static int killer_write(void *self, uint64_t at, const void *from, size_t bytes)
 {
     Killer *killer = self;
     const unsigned char *data = from;
     if (--killer->countdown != 0)
-        return killer->file.write(killer->file.self, at, from, bytes);
+        return write_below(self, at, from, bytes);
     for (size_t done = 0; done < bytes; done += killer->grain) {
         const size_t piece = bytes - done < killer->grain ? bytes - done : killer->grain;
         if (plug_random(&killer->random, 2) == 0)
-            killer->file.write(killer->file.self, at + done, data + done, piece);
+            write_below(self, at + done, data + done, piece);
     }
     kill(getpid(), SIGKILL);
     return -1;
@@ -151,32 +160,14 @@ static int killer_write(void *self, uint64_t at, const void *from, size_t bytes)
 
 FileBlocks killer_on(Killer *killer)
 {
-    FileBlocks blocks = {killer, killer_read, killer_write, killer_sync};
+    FileBlocks blocks = {killer, read_below, killer_write, sync_below};
     return blocks;
 }
 
 /* ── without a journal, without a sync ── */
-static int inner_read(void *self, uint64_t at, void *to, size_t bytes)
-{
-    Without *device = self;
-    return device->inner.read(device->inner.self, at, to, bytes);
-}
-
-static int inner_sync(void *self)
-{
-    Without *device = self;
-    return device->inner.sync(device->inner.self);
-}
-
-static int inner_write(void *self, uint64_t at, const void *from, size_t bytes)
-{
-    Without *device = self;
-    return device->inner.write(device->inner.self, at, from, bytes);
-}
-
 static int no_journal(void *self, uint64_t at, const void *from, size_t bytes)
 {
-    return at >= FILEDISK_BLOCK && at < FILEDISK_BLOCK + FILEDISK_JOURNAL ? 0 : inner_write(self, at, from, bytes);
+    return at >= FILEDISK_BLOCK && at < FILEDISK_BLOCK + FILEDISK_JOURNAL ? 0 : write_below(self, at, from, bytes);
 }
 
 static int no_sync(void *self)
@@ -187,7 +178,7 @@ static int no_sync(void *self)
 
 FileBlocks without_on(Without *device, FileBlocks inner, int wrong)
 {
-    FileBlocks blocks = {device, inner_read, wrong == WRONG_NO_JOURNAL ? no_journal : inner_write, wrong == WRONG_NO_SYNC ? no_sync : inner_sync};
+    FileBlocks blocks = {device, read_below, wrong == WRONG_NO_JOURNAL ? no_journal : write_below, wrong == WRONG_NO_SYNC ? no_sync : sync_below};
     device->inner = inner;
     return blocks;
 }

@@ -1,45 +1,12 @@
 //! The edges of paper 01, 1 to 12, and those of a page in transfer.
 
-use reference::event::{Answer, Request};
+mod common;
+
+use common::{ask, does, fresh, refuses, with_design_of};
+use reference::event::Answer;
 use reference::keeper::Keeper;
 use reference::program::SIZES;
 use reference::tables::{Sizes, FREE, LEAVING, LIVE, NULLED, RELEASED};
-
-/// A formatted and restarted keeper of the event program's sizes, but for what is given.
-fn fresh(sizes: Sizes) -> Keeper {
-    let mut keeper = Keeper::lent(sizes);
-    assert_eq!(keeper.format(&vec![0; sizes.accounts]), Answer::done(0));
-    assert_eq!(keeper.restart(), Answer::done(0));
-    keeper
-}
-
-fn ask(keeper: &mut Keeper, kind: u32, values: &[u32]) -> Answer {
-    let value = |at: usize| values.get(at).copied().unwrap_or(0);
-    keeper.apply(Request { kind, first: value(0), second: value(1), third: value(2), fourth: value(3) })
-}
-
-/// An event that is carried out; its result.
-fn does(keeper: &mut Keeper, kind: u32, values: &[u32]) -> u32 {
-    let answer = ask(keeper, kind, values);
-    assert_eq!(answer.refusal, 0, "{kind:02X} {values:?}");
-    answer.result
-}
-
-/// An event that is refused, and changes nothing.
-fn refuses(keeper: &mut Keeper, kind: u32, values: &[u32], number: u32) {
-    let before = keeper.clone();
-    assert_eq!(ask(keeper, kind, values), Answer::refused(number), "{kind:02X} {values:?}");
-    assert!(*keeper == before, "{kind:02X} {values:?} changed a table");
-}
-
-/// Account 0 has a limit, slot 0 an active design with number 7.
-fn with_design_of(sizes: Sizes, limit: u32) -> Keeper {
-    let mut keeper = fresh(sizes);
-    does(&mut keeper, 0x0F, &[0, limit]);
-    does(&mut keeper, 0x01, &[0, 0, 7]);
-    does(&mut keeper, 0x03, &[0]);
-    keeper
-}
 
 fn with_design(limit: u32) -> Keeper {
     with_design_of(SIZES, limit)

@@ -1,39 +1,18 @@
 //! The waiting line of paper 02, case by case: join, turn, the bound, and that the bound needs each of its premises.
 
-use reference::event::{Answer, Request};
+mod common;
+
+use common::{ask, does, refuses, with_design_of};
+use reference::event::Answer;
 use reference::keeper::Keeper;
 use reference::program::SIZES;
 use reference::tables::{Sizes, LINE, READING, WRITING};
 
 const NARROW: Sizes = Sizes { frames: 1, ..SIZES };
 
-fn ask(keeper: &mut Keeper, kind: u32, values: &[u32]) -> Answer {
-    let value = |at: usize| values.get(at).copied().unwrap_or(0);
-    keeper.apply(Request { kind, first: value(0), second: value(1), third: value(2), fourth: value(3) })
-}
-
-/// An event that is carried out; its result.
-fn does(keeper: &mut Keeper, kind: u32, values: &[u32]) -> u32 {
-    let answer = ask(keeper, kind, values);
-    assert_eq!(answer.refusal, 0, "{kind} {values:?}");
-    answer.result
-}
-
-/// An event that is refused, and changes nothing.
-fn refuses(keeper: &mut Keeper, kind: u32, values: &[u32], number: u32) {
-    let before = keeper.clone();
-    assert_eq!(ask(keeper, kind, values), Answer::refused(number), "{kind} {values:?}");
-    assert!(*keeper == before, "{kind} {values:?} changed a table");
-}
-
 /// Slot 0 has an active design with page 0 in frame 0; slot 1 is empty.
 fn opened(sizes: Sizes) -> Keeper {
-    let mut keeper = Keeper::lent(sizes);
-    keeper.format(&vec![0; sizes.accounts]);
-    keeper.restart();
-    does(&mut keeper, 15, &[0, 10]);
-    does(&mut keeper, 1, &[0, 0, 7]);
-    does(&mut keeper, 3, &[0]);
+    let mut keeper = with_design_of(sizes, 10);
     assert_eq!(does(&mut keeper, 5, &[0, 0]), 0);
     keeper
 }

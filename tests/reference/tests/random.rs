@@ -1,7 +1,6 @@
 //! Two copies of the reference side by side over random lists: the same answers, and the paper's promises.
 
 use reference::drive::{list, REFERENCE};
-use reference::rules;
 
 #[test]
 fn lists_keep_the_promises() {
@@ -16,7 +15,5 @@ fn lists_keep_the_promises() {
     assert!(!counts.moves.rarer_than(20), "limits, moves and who pays: {:?}", counts.moves);
     assert!(!counts.turns.rare(), "turns: {:?}", counts.turns);
     assert!(!counts.bound.rare(), "runs to the bound on waiting: {:?}", counts.bound);
-    let rules = rules::disk::DISK.iter().map(|rule| rule.0).chain(rules::MEMORY.iter().map(|rule| rule.0));
-    let idle = rules.filter(|name| !counts.alone.contains_key(name));
-    assert_eq!(idle.collect::<Vec<&str>>(), Vec::<&str>::new(), "rules that never stood alone");
+    assert_eq!(counts.seldom_alone(), [], "rules that seldom stood alone");
 }

@@ -78,7 +78,9 @@ pub fn carry_out(
 ) -> Result<(), String> {
     let undo = !matches!(batch.before, Before::Nothing);
     let sound = undo.then(|| keepers.clone());
-    keepers.iter_mut().for_each(|keeper| prepare(keeper, batch.before));
+    for keeper in keepers.iter_mut() {
+        prepare(keeper, batch.before);
+    }
     let lists = Lists::of(batch, random);
     let (told, last, after) =
         one_by_one(&keepers[0], &lists, if undo { None } else { Some(shadow) }, counts)?;

@@ -9,6 +9,7 @@ use super::turns::Turns;
 use crate::event::Request;
 use crate::events::pages::{free_records, neighbour};
 use crate::keeper::Keeper;
+use crate::rules;
 use crate::tables::WRITING;
 use std::collections::BTreeMap;
 use std::fmt;
@@ -199,6 +200,17 @@ impl Counts {
         all.filter(|kind| !self.carried_out.contains_key(kind)).collect()
     }
 
+    /// How often each rule must have stood alone: 50 times in a run of 200,000 calls.
+    fn floor(&self) -> u64 {
+        (self.calls / 4_000).max(1)
+    }
+
+    /// Rules that stood alone less often, and how often.
+    pub fn seldom_alone(&self) -> Vec<(&'static str, u64)> {
+        let all = rules::names().map(|rule| (rule, self.alone.get(rule).copied().unwrap_or(0)));
+        all.filter(|&(_, count)| count < self.floor()).collect()
+    }
+
     /// Refusals of 1 to 22, and 25 to 27, never given.
     pub fn refusals_missing(&self) -> Vec<u32> {
         (1..=22).chain(25..=27).filter(|number| !self.refused.contains_key(number)).collect()
@@ -216,7 +228,7 @@ impl fmt::Display for Counts {
         writeln!(out, "{:?}", self.bound)?;
         writeln!(out, "carried out: {:?}", self.carried_out)?;
         writeln!(out, "refused: {:?}", self.refused)?;
-        writeln!(out, "rules that alone refused a damaged table:")?;
+        writeln!(out, "rules that alone refused a damaged table, each at least {} times:", self.floor())?;
         self.alone.iter().try_for_each(|(rule, count)| writeln!(out, "  {count:>6} {rule}"))
     }
 }

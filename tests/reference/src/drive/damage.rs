@@ -1,15 +1,21 @@
-//! Tables damaged cell by cell, or in step with each other.
+//! Tables damaged cell by cell, in step with each other, or so that one rule alone is broken.
 
+use super::aimed::{aimed, set_state};
 use super::random::Random;
 use crate::keeper::Keeper;
 use crate::queue;
-use crate::tables::{Frame, FREE, RELEASED};
+use crate::tables::{Frame, RELEASED};
 
 pub const TABLES: usize = 20;
 
-/// One damage or two.
-pub fn damage(keeper: &mut Keeper, seed: u64) {
+/// One damage aimed at one rule, which is returned; or one or two at random.
+pub fn damage(keeper: &mut Keeper, seed: u64) -> Option<&'static str> {
     let mut random = Random::new(seed);
+    if random.percent(50) {
+        if let Some(rule) = aimed(keeper, &mut random) {
+            return Some(rule);
+        }
+    }
     for _ in 0..random.up_to(2) {
         match random.below(11) {
             0 => change_state(keeper, &mut random),
@@ -24,24 +30,18 @@ pub fn damage(keeper: &mut Keeper, seed: u64) {
             _ => change_cell(keeper, &mut random),
         }
     }
+    None
 }
 
 /// A record gets another state and slot, the free map and count in step.
 fn change_state(keeper: &mut Keeper, random: &mut Random) {
     let record = random.below(keeper.sizes.records);
-    let memory = &mut keeper.memory;
-    if random.percent(80) {
-        memory.states[record] = random.below(6) as u8;
-    }
+    let any = random.below(6) as u8;
+    let state = if random.percent(80) { any } else { keeper.memory.states[record] };
+    set_state(keeper, record, state);
     if random.percent(50) {
-        memory.owners[record] = random.below(keeper.sizes.slots) as u8;
+        keeper.memory.owners[record] = random.below(keeper.sizes.slots) as u8;
     }
-    let bit = 1 << (record % 32);
-    memory.free_map[record / 32] &= !bit;
-    if memory.states[record] == FREE {
-        memory.free_map[record / 32] |= bit;
-    }
-    memory.pool.free = memory.states.iter().filter(|&&state| state == FREE).count() as u32;
 }
 
 /// To a queue's end, if there is room: an earlier damage may have filled it.

@@ -156,11 +156,9 @@ fn step(
     counts: &mut Counts,
 ) -> Result<(), String> {
     let undo = matches!(act.before, Before::Damage(_) | Before::Misfit(_)).then(|| keepers.clone());
-    for keeper in keepers.iter_mut() {
-        prepare(keeper, act.before);
-    }
+    let [aimed, _] = keepers.each_mut().map(|keeper| prepare(keeper, act.before));
     let before = keepers[0].clone();
-    note(act.before, &before, counts);
+    note(act.before, aimed, &before, counts)?;
     let outcomes = [0, 1].map(|side| act.call.make(&subjects[side], &mut keepers[side]));
     let sides = [0, 1].map(|side| Side { outcome: outcomes[side], after: &keepers[side] });
     counts.count_call(&act.call, &outcomes[0], &before, &keepers[0]);
@@ -173,24 +171,31 @@ fn step(
     Ok(())
 }
 
-pub fn prepare(keeper: &mut Keeper, before: Before) {
+/// The rule that the damage is aimed at, if it is.
+pub fn prepare(keeper: &mut Keeper, before: Before) -> Option<&'static str> {
     match before {
         Before::Nothing => {}
         Before::Cut(seed) => cut::cut(keeper, seed),
-        Before::Damage(seed) => damage::damage(keeper, seed),
+        Before::Damage(seed) => return damage::damage(keeper, seed),
         Before::Misfit(seed) => misfit::misfit(keeper, seed),
     }
+    None
 }
 
-/// Counts cuts, and the rules that alone refuse a damaged table.
-fn note(act: Before, keeper: &Keeper, counts: &mut Counts) {
+/// Counts cuts, and the rules that alone refuse a damaged table; an aimed damage must have hit.
+fn note(act: Before, aimed: Option<&str>, keeper: &Keeper, counts: &mut Counts) -> Result<(), String> {
     match act {
         Before::Cut(_) => counts.cuts += 1,
         Before::Damage(_) => {
-            if let [alone] = rules::broken(keeper)[..] {
+            let broken = rules::broken(keeper);
+            if aimed.is_some_and(|rule| broken != [rule]) {
+                return Err(format!("a damage aimed at {aimed:?} breaks {broken:?}"));
+            }
+            if let [alone] = broken[..] {
                 *counts.alone.entry(alone).or_default() += 1;
             }
         }
         _ => {}
     }
+    Ok(())
 }

@@ -1,6 +1,7 @@
 //! Random lists of events that drive two subjects side by side, and what must hold along them.
 
 pub mod act; // one thing that a list does
+pub mod aimed; // damage that one rule alone refuses
 pub mod aims; // the next event on the way to a design at rest
 pub mod batch; // a stretch of a list in one call
 pub mod bound; // the bound on waiting

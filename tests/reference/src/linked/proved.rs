@@ -224,7 +224,7 @@ extern "C" {
 /// The call with the keeper's tables behind its first values: all of them, or the disk part.
 // lends: made by tools/tables.py from tools/tables.txt
 macro_rules! lend {
-    ($name:ident($keeper:ident; disk$(, $first:expr)*; $at:ident$(; $last:expr)*)) => {
+    ($name:ident($keeper:ident; disk; $($first:expr,)*; $at:ident; $($last:expr,)*)) => {
         unsafe {
             $name(
                 $keeper.sizes,
@@ -245,58 +245,45 @@ macro_rules! lend {
             )
         }
     };
-    ($name:ident($keeper:ident; $($first:expr),*; $pool:expr; $at:ident)) => {
-        unsafe {
-            $name(
-                $keeper.sizes,
-                $($first,)*
-                $keeper.memory.frames.$at(),
-                $keeper.memory.frames.len(),
-                $pool,
-                $keeper.disk.records.$at(),
-                $keeper.disk.records.len(),
-                $keeper.disk.numbers.$at(),
-                $keeper.disk.numbers.len(),
-                $keeper.disk.accounts.$at(),
-                $keeper.disk.accounts.len(),
-                $keeper.disk.maps.$at(),
-                $keeper.disk.maps.len(),
-                $keeper.disk.limits.$at(),
-                $keeper.disk.limits.len(),
-                $keeper.disk.parents.$at(),
-                $keeper.disk.parents.len(),
-                $keeper.memory.frame_words.$at(),
-                $keeper.memory.frame_words.len(),
-                $keeper.memory.free_queue.$at(),
-                $keeper.memory.free_queue.len(),
-                $keeper.memory.removal_list.$at(),
-                $keeper.memory.removal_list.len(),
-                $keeper.memory.addresses.$at(),
-                $keeper.memory.addresses.len(),
-                $keeper.memory.states.$at(),
-                $keeper.memory.states.len(),
-                $keeper.memory.owners.$at(),
-                $keeper.memory.owners.len(),
-                $keeper.memory.free_map.$at(),
-                $keeper.memory.free_map.len(),
-                $keeper.memory.active.$at(),
-                $keeper.memory.active.len(),
-                $keeper.memory.updating.$at(),
-                $keeper.memory.updating.len(),
-                $keeper.memory.images.$at(),
-                $keeper.memory.images.len(),
-                $keeper.memory.line.$at(),
-                $keeper.memory.line.len(),
-                $keeper.memory.used.$at(),
-                $keeper.memory.used.len(),
-            )
-        }
+    ($name:ident($keeper:ident; $($first:expr,)*; $pool:expr; $at:ident)) => {
+        lend!($name(
+            $keeper; disk;
+            $($first,)*
+            $keeper.memory.frames.$at(),
+            $keeper.memory.frames.len(),
+            $pool,
+            ; $at;
+            $keeper.memory.frame_words.$at(),
+            $keeper.memory.frame_words.len(),
+            $keeper.memory.free_queue.$at(),
+            $keeper.memory.free_queue.len(),
+            $keeper.memory.removal_list.$at(),
+            $keeper.memory.removal_list.len(),
+            $keeper.memory.addresses.$at(),
+            $keeper.memory.addresses.len(),
+            $keeper.memory.states.$at(),
+            $keeper.memory.states.len(),
+            $keeper.memory.owners.$at(),
+            $keeper.memory.owners.len(),
+            $keeper.memory.free_map.$at(),
+            $keeper.memory.free_map.len(),
+            $keeper.memory.active.$at(),
+            $keeper.memory.active.len(),
+            $keeper.memory.updating.$at(),
+            $keeper.memory.updating.len(),
+            $keeper.memory.images.$at(),
+            $keeper.memory.images.len(),
+            $keeper.memory.line.$at(),
+            $keeper.memory.line.len(),
+            $keeper.memory.used.$at(),
+            $keeper.memory.used.len(),
+        ))
     };
 }
 // end of lends
 
 pub fn format(keeper: &mut Keeper, wanted: &[u16]) -> Answer {
-    lend!(keeper_format(keeper; disk, wanted.as_ptr(), wanted.len(); as_mut_ptr))
+    lend!(keeper_format(keeper; disk; wanted.as_ptr(), wanted.len(),; as_mut_ptr;))
 }
 
 pub fn restart(keeper: &mut Keeper) -> Answer {
@@ -304,26 +291,26 @@ pub fn restart(keeper: &mut Keeper) -> Answer {
 }
 
 pub fn apply(keeper: &mut Keeper, request: Request) -> Answer {
-    lend!(keeper_apply(keeper; request; &mut keeper.memory.pool; as_mut_ptr))
+    lend!(keeper_apply(keeper; request,; &mut keeper.memory.pool; as_mut_ptr))
 }
 
 /// The list goes as numbers, four a place.
 pub fn mend(keeper: &mut Keeper, list: &mut [Change]) -> Answer {
-    lend!(keeper_mend(keeper; disk; as_mut_ptr; list.as_mut_ptr().cast(); 4 * list.len()))
+    lend!(keeper_mend(keeper; disk; ; as_mut_ptr; list.as_mut_ptr().cast(), 4 * list.len(),))
 }
 
 pub fn apply_all(keeper: &mut Keeper, requests: &[u32], answers: &mut [u32]) -> Answer {
     let (asked, told) = (requests.len(), answers.len());
     lend!(keeper_apply_all(
         keeper;
-        requests.as_ptr(), asked, answers.as_mut_ptr(), told;
+        requests.as_ptr(), asked, answers.as_mut_ptr(), told,;
         &mut keeper.memory.pool;
         as_mut_ptr
     ))
 }
 
 pub fn page_look(keeper: &Keeper, slot: u32, page: u32) -> Part {
-    lend!(keeper_page_look(keeper; slot as usize, page as usize; keeper.memory.pool; as_ptr))
+    lend!(keeper_page_look(keeper; slot as usize, page as usize,; keeper.memory.pool; as_ptr))
 }
 
 pub const PROVED: Subject = Subject { name: "keeper", format, restart, apply, apply_all, page_look };

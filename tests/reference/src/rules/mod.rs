@@ -44,6 +44,12 @@ pub const MEMORY: [Rule; 19] = [
     ("a page that waits exists", line::pages_exist),
 ];
 
+/// All rules by name.
+pub fn names() -> impl Iterator<Item = &'static str> {
+    let disk = disk::DISK.iter().map(|rule| rule.0);
+    disk.chain([values::NAME]).chain(MEMORY.iter().map(|rule| rule.0))
+}
+
 pub fn kept(keeper: &Keeper) -> bool {
     disk::kept(&keeper.sizes, &keeper.disk) && values::in_range(&keeper.sizes, &keeper.memory) && {
         let view = View::of(keeper);
