@@ -10,7 +10,7 @@ import unittest
 ROOT = pathlib.Path(__file__).resolve().parent.parent
 HEADER = ROOT / "include" / "keeper.h"
 MODEL = ROOT / "crates" / "model" / "src"
-CALLS = ROOT / "crates" / "keeper" / "src" / "lib.rt"
+CALLS = ROOT / "crates" / "keeper" / "src"
 WIDTHS = {"u8": 1, "u16": 2, "u32": 4, "usize": 8}
 C_TYPES = {"u8": "uint8_t", "u16": "uint16_t", "u32": "uint32_t", "usize": "size_t"}
 
@@ -47,7 +47,7 @@ def declared(kind):
 
 def calls():
     """The calls of the source that C sees: name, parameters as C declares them, result."""
-    text = CALLS.read_text()
+    text = "\n".join(path.read_text() for path in sorted(CALLS.glob("*.rt")))
     found = re.findall(r'pub extern "C" fn (\w+)\((.*?)\) -> (\w+)', text, re.S)
     out = {}
     for name, parameters, result in found:

@@ -17,7 +17,8 @@ CRATES = lent.ROOT / "crates"
 STATE = (CRATES / "model" / "specs" / "State.antt").read_text()
 LENT = (CRATES / "model" / "specs" / "Lent.antt").read_text()
 STEP = (CRATES / "model" / "specs" / "Step.antt").read_text()
-KEEPER = (CRATES / "keeper" / "src" / "lib.rt").read_text()
+# the public calls: all of keeper but its two files of helpers
+KEEPER = "\n".join(path.read_text() for path in sorted((CRATES / "keeper" / "src").glob("*.rt")) if path.stem not in ("frames", "pool"))
 REFERENCE = (lent.ROOT / "tests" / "reference" / "src" / "tables.rs").read_text()
 # the calls of the source, and the column of the list that says how each lends a table
 CODE_CALLS = {

@@ -1,6 +1,7 @@
 #!/usr/bin/env python3
 """Tests of walks.py: python3 tools/test_walks.py"""
 
+import contextlib
 import re
 import unittest
 from unittest import mock
@@ -20,31 +21,39 @@ def with_one_more():
 
 class Walks(unittest.TestCase):
     def test_as_they_are(self):
-        for name in walks.WALKS:
+        for name in walks.TEXTS:
             with self.subTest(name):
-                self.assertEqual((walks.PROOFS / name / "Proof.antt").read_text(), walks.made(name))
+                self.assertEqual(walks.proof(name).read_text(), walks.made(name))
 
     def test_every_walk_of_a_call(self):
         """Each proof of a public call that is a walk of the code comes from here."""
-        by_hand = [path.parent.name for path in walks.PROOFS.glob("*/Proof.antt") if "a walk of its MIR" in path.read_text()]
+        proofs = [path for file in set(walks.FILES.values()) for path in (walks.PROOFS / file).glob("*/Proof.antt")]
+        by_hand = [path.parent.name for path in proofs if "a walk of its MIR" in path.read_text()]
         self.assertEqual(sorted(by_hand), sorted(walks.WALKS))
 
     def test_one_more_table(self):
         for name, walk in walks.WALKS.items():
             before = walk()
             with with_one_more(), self.subTest(name):
-                after, text = walk(), " ".join(walks.made(name).split())
+                after, text, place = walk(), " ".join(walks.made(name).split()), before.lifetime_count
                 self.assertEqual(after.count, before.count + 1)
                 self.assertEqual(after.locals, before.locals + (1 if "look" in name else 3))
-                self.assertIn(f"(named {before.lifetime_count}) κ{before.lifetime_count} u16", text)
-                self.assertEqual(text.count("("), text.count(")"))
-                self.assertNotIn("⟦", text)
+                self.assertIn(f"{'shr' if 'look' in name else 'mut'} {place} κ{place} u16", text)
+
+    def test_whole_texts(self):
+        """With a table more or not, every mark is filled in and every bracket closed."""
+        for more in (False, True):
+            for name in walks.TEXTS:
+                with with_one_more() if more else contextlib.nullcontext(), self.subTest(name, more=more):
+                    text = walks.made(name)
+                    self.assertEqual(text.count("("), text.count(")"))
+                    self.assertNotIn("⟦", text)
 
     def test_groups(self):
         """The paths to the last lists: those of a group start from its name."""
         after = walks.Change("restart", 1, 1).marks()["AFTER"]
         self.assertIn("let m = ms .1 .1 .1 .1 .1 .1 .1 .1 .1 .1 in\n", after)
-        self.assertIn("(now x5) (m .0)", after)
+        self.assertIn("(now (xt .1 .1 .1 .1 .1 .0)) (m .0)", after)
         with with_one_more():
             self.assertTrue(walks.Change("restart", 1, 1).marks()["AFTER"].endswith("(s .1 .1 .1 .1 .0) (s .1 .1 .1 .1 .1 .0)"))
 
@@ -54,6 +63,8 @@ class Walks(unittest.TestCase):
         self.assertEqual(" ".join(part.strip() for part in parts), line.strip())
         self.assertTrue(all(len(part) <= walks.WIDTH for part in parts) and parts[1].startswith(" " * 8 + "w"))
         self.assertEqual(walks.wrapped("short  line"), "short  line")
+        self.assertEqual(len(walks.wrapped("    " + " ".join("≡" * 99)).split("\n")), 1)
+        self.assertGreater(len(walks.wrapped("    " + " ".join("≡" * 100)).split("\n")), 1)
 
     def test_whole(self):
         """No break within a tuple or a record."""
@@ -65,8 +76,8 @@ class Walks(unittest.TestCase):
             walks.filled("⟦NOTHING⟧", {})
 
     def test_every_mark_is_used(self):
-        texts = {name: (walks.TEMPLATES / f"{name}.txt").read_text() for name in walks.WALKS}
-        used = {mark for text in texts.values() for mark in re.findall(r"⟦(\w+)⟧", text)}
+        texts = [(walks.TEMPLATES / f"{name}.txt").read_text() for name in walks.TEXTS]
+        used = {mark for text in texts for mark in re.findall(r"⟦(\w+)⟧", text)}
         self.assertEqual(used, {mark for name in walks.WALKS for mark in walks.WALKS[name]().marks()})
 
 

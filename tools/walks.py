@@ -1,5 +1,5 @@
 #!/usr/bin/env python3
-"""The walks of the public calls, crates/keeper/proofs/CALL/Proof.antt, from the list of the lent tables.
+"""The walks of the public calls, crates/keeper/proofs/FILE/CALL/Proof.antt, from the list of the lent tables.
 
     walks.py --write    makes them anew
     walks.py --check    fails if one of them is not what --write would make
@@ -18,7 +18,7 @@ from regions import Bad, renew
 
 TEMPLATES = ROOT / "tools" / "walks"
 PROOFS = ROOT / "crates" / "keeper" / "proofs"
-# a line of more characters is wrapped at so many
+# a line of more bytes is wrapped at so many characters
 LONGEST, WIDTH = 400, 200
 # the tables that begin a group: so the paths to the last lists stay short
 GROUPS = {"records": "d", "frame_words": "m", "addresses": "h", "active": "s"}
@@ -39,10 +39,6 @@ def ones(count):
 def nested(items, end="tt"):
     """The tail of a nested tuple: what its items open is closed."""
     return ", (".join(items) + f", {end}" + ")" * (len(items) - 1)
-
-
-def every(word, numbers):
-    return " ".join(word.format(n) for n in numbers)
 
 
 def fits(room):
@@ -67,58 +63,35 @@ def loads(places, result):
     return loaded(places) + "(no-more !)" + ")" * len(places) + f" (λ {result}."
 
 
-def owning(tables_, named, lifetimes):
-    kinds = [f"{'Mut' if mut else 'Shr'}Slice (named {n}) κ{k} {kind}" for (_, kind, mut), n, k in zip(tables_, named, lifetimes)]
-    return " ∷ ".join(kinds) + " ∷ []"
+def room(place):
+    """What is known of the room of the slice that is a parameter in this place."""
+    return f"are{ones(place)} .0 .0 .1"
 
 
 class Walk:
     """What all walks share: the tables by number, their lifetimes, and the locals."""
 
-    def __init__(self, before, own, lifetimes_first, values):
+    def __init__(self, before, own, lifetimes_first):
         self.before, self.own, self.all = before, own, before + own
         self.count = len(self.all)
         self.lifetimes = list(range(len(before))) + [len(before) + lifetimes_first + j for j in range(len(own))]
         self.lifetime_count = self.count + lifetimes_first
-        self.values = values  # how many values and references the call takes before its own tables
 
     def place(self, local):
         return 2 * (self.locals - 1 - local)
 
     def shared(self):
         """The marks of the tables and of the allocation."""
-        numbers, own = range(self.count), range(len(self.before), self.count)
-        kinds = [kind for _, kind, _ in self.all]
-        lifetimes, first = self.lifetimes, len(self.before)
-        tail = lambda word: nested([word(j) for j in own])
-        stays = lambda j: f"{'g' if self.all[j][2] else 'h'} {lifetimes[j]} tt {kinds[j]}"
-        tells = lambda j: f"{'mut' if self.all[j][2] else 'shr'} {lifetimes[j]} κ{lifetimes[j]} {kinds[j]}"
+        tail = lambda word: nested([word(kind, mut, k) for (_, kind, mut), k in zip(self.own, self.lifetimes[len(self.before) :])])
         return {
             "K": str(self.lifetime_count),
-            "N": str(self.count),
-            "KAPPAS": f"({nested([f'κ{k}' for k in lifetimes])})",
-            "SHARES": f"({nested([f'q{k}' for k in lifetimes])})",
-            "TOKENS": "".join(f"(‵ (flft κ{k} q{k}) ⊛ " for k in lifetimes) + "‵ ftrue" + ")" * self.count,
+            "N": str(len(self.own)),
             "KPAT": f"({nested([f'κ{k}' for k in range(self.lifetime_count)], '_')})",
-            "LFTS": every("(κ{0} : Lft) (q{0} : Share)", range(self.lifetime_count)),
-            "XS": " ".join(f"(x{j} : RefT (List ℕ)) (room{j} : Room {kinds[j]} (length (now x{j})))" for j in numbers),
-            "NOWS": every("(now x{})", own),
-            "XTUP": tail("x{}".format),
-            "VTUP": tail("table-val x{} ∷ []".format),
-            "VLIST": " ∷ ".join(f"table-val x{j}" for j in own) + " ∷ []",
-            "OWNC": owning(self.all, self.core_names(), lifetimes),
-            "OWNW": owning(self.own, lifetimes[first:], lifetimes[first:]),
-            "STAYED": tail(stays),
-            "VALS": nested(["slice-vals"] * len(self.own)),
-            "TELLS": tail(tells),
-            "WALKK": " ".join(f"(κs{ones(k)} .0) (qs{ones(k)} .0)" for k in range(self.lifetime_count)),
-            "WALKX": " ".join(f"(a{ones(n)} .0) (are{ones(n)} .0 .0 .1)" for n in range(self.values, self.values + len(self.own))),
-            "ALLOC": every("alloc1 ! (λ l{}.", range(self.locals)),
-            "LAST": f"_{self.locals - 1}",
+            "STAYED": tail(lambda kind, mut, k: f"{'g' if mut else 'h'} {k} tt {kind}"),
+            "VALS": tail(lambda kind, mut, k: "slice-vals"),
+            "TELLS": tail(lambda kind, mut, k: f"{'mut' if mut else 'shr'} {k} κ{k} {kind}"),
+            "ALLOC": " ".join(f"alloc1 ! (λ l{local}." for local in range(self.locals)),
         }
-
-    def core_names(self):
-        return range(self.count)
 
 
 class Change(Walk):
@@ -126,7 +99,7 @@ class Change(Walk):
 
     def __init__(self, call, values, pool_steps):
         before, own = BEFORE.get(call, []), tables(call)
-        super().__init__(before, own, 2, values + len(before) + 2)
+        super().__init__(before, own, 2)
         first = len(before)
         self.call_values, self.pool_steps = values, pool_steps
         self.muts = [j for j, (_, _, mut) in enumerate(self.all) if mut]
@@ -140,19 +113,29 @@ class Change(Walk):
         self.unit = self.borrow + 2 + 2 * len(self.muts)
         self.locals = self.unit + 3 + pool_steps
 
+    def table_at(self, j):
+        """The reference of a table."""
+        first = len(self.before)
+        return f"x{j}" if j < first else f"({'xs' if first else 'xt'}{ones(j - first)} .0)"
+
+    def room(self, j):
+        """What is known of a table's room; of that of the frames, by None: they stand between the tables before them and the others."""
+        first = len(self.before)
+        return room(self.call_values + (first if j is None else j if j < first else j + 2))
+
     def last(self, j):
         return f"ms{ones(self.work_values + j)} .0"
 
     def lasts(self):
         """What the tables have at the end, and what is known of it."""
         units = ["Unit {0}"] * self.work_values + ["List ℕ" if mut else "Unit {0}" for _, _, mut in self.all]
-        fin = [f"fsep (finally {kind} (name x{j}) ({self.last(j)})) (" if mut else "fsep ftrue (" for j, (_, kind, mut) in self.later()]
+        fin = [f"fsep (finally {kind} (name {self.table_at(j)}) ({self.last(j)})) (" if mut else "fsep ftrue (" for j, (_, kind, mut) in self.later()]
         gets = ["fsplit ! $ fsplit ! $ move ! (1 ∷ []) $ feqL ! (λ n%d. move ! (1 ∷ []) $" % j if mut else "fsplit ! $ drop ! $" for j, (_, _, mut) in self.later()]
         puts = ["move ! (1 ∷ 0 ∷ []) $ fjoin ! $" if mut else "nothing ! $ fjoin ! $" for _, (_, _, mut) in reversed(self.later())]
         return {
             "LASTS": " × (".join(units) + " × (Unit {0})" + ")" * (len(units) - 1),
             "FIN": "".join(fin)[:-1] + "ftrue" + ")" * (len(fin) - 1),
-            "LEFT": "".join(f"((length ({self.last(j)}) ≡ length (now x{j})) × " for j in self.muts) + "Unit {0}" + ")" * len(self.muts),
+            "LEFT": "".join(f"((length ({self.last(j)}) ≡ length (now {self.table_at(j)})) × " for j in self.muts) + "Unit {0}" + ")" * len(self.muts),
             "GETS": " ".join(["fsplit ! $ drop ! $"] * (self.work_values + self.lead)) + "\n      " + " ".join(gets),
             "PUTS": " ".join(puts),
             "CHECK": nested([f"n{j}" for j in self.muts]) + "))" + " $ done !" + ")" * (len(self.muts) + 2),
@@ -185,7 +168,7 @@ class Change(Walk):
             shift = base[1] if base[0] != name else 0
             for j in range(start, end):
                 path = f"({base[0]}{ones(shift + j - start)} .0)"
-                words.append(path if self.own[j][2] else f"(now x{j + len(self.before)})")
+                words.append(path if self.own[j][2] else f"(now {self.table_at(j + len(self.before))})")
             base = (base[0], base[1] + end - start)
         return {"AFTER": "".join(lets) + "      allOf zs pool " + " ".join(words)}
 
@@ -198,26 +181,26 @@ class Change(Walk):
         end = 8 if self.pool_steps == 1 else 9
         back = range(self.locals - 1, -1, -1)
         marks = {
-            "PASSZ": passed(at(1), "(typed-sizes 𝓤 H A W z is-z)"),
-            "PASSQ": passed(at(2), "(typed-request 𝓤 H A W request is-req)"),
-            "PASSP": " ".join(passed(at(self.table[j]), fits(f"room{j}")) for j in range(first)),
-            "PASSF": passed(at(self.frames), fits("roomf")) + " " + passed(at(self.pool), "(tt, tt)"),
-            "PASST": " ".join(passed(at(self.table[j]), fits(f"room{j}")) for j in range(first, self.count)) + " pass0 ! $",
+            "PASSZ": passed(at(1), "(typed-sizes 𝓤 H A W z (are .0))"),
+            "PASSQ": passed(at(2), "(typed-request 𝓤 H A W request (are .1 .0))"),
+            "PASSP": " ".join(passed(at(self.table[j]), fits(self.room(j))) for j in range(first)),
+            "PASSF": passed(at(self.frames), fits(self.room(None))) + " " + passed(at(self.pool), "(tt, tt)"),
+            "PASST": " ".join(passed(at(self.table[j]), fits(self.room(j))) for j in range(first, self.count)) + " pass0 ! $",
             "PLACES": f"-- [_{self.locals - 1} at 0; …; _i at 2 · ({self.locals - 1} − i); …; what frames owns; …]",
-            "LENT": f"(look-in ! {at(self.frames)} (sub ! 1 refl (whole !))))) (from ! (stop !)) (init ! {at(self.lent)} refl (tt, record {{ fits = roomf .0 }})) $",
-            "REB1": reborrowed(at(self.frames), at(self.borrow), at(self.borrow + 1), "roomf"),
+            "LENT": f"(look-in ! {at(self.frames)} (sub ! 1 refl (whole !))))) (from ! (stop !)) (init ! {at(self.lent)} refl (tt, record {{ fits = {self.room(None)} .0 }})) $",
+            "REB1": reborrowed(at(self.frames), at(self.borrow), at(self.borrow + 1), self.room(None)),
             "NU": f"lft-new ! tt (λ ν. move ! ({2 * self.locals + 1} ∷ {2 * self.locals + 2} ∷ []) $",
             "LOADS": loads([at(self.borrow + 1) + 2], "v"),
             "VALUES": f"land ! (from ! (stop !)) (init ! {at(self.lent + 1) + 2} refl (typed64",
             "COPY1": f"move ! ({2 * self.locals + 3} ∷ {2 * self.locals + 4} ∷ []) $ fsplit3 ! $",
             "COPY2": f"(hop ! (look ! {at(self.pool) + 8} refl) (stop !))) (look-raw ! 0 refl))) (from ! (stop !)) (init ! {at(self.lent + 2) + 8} refl (typed-pool",
             "REBS": "\n        ".join(
-                reborrowed(at(self.table[j]) + 6, at(self.borrow + 2 + 2 * k) + 6, at(self.borrow + 3 + 2 * k) + 6, f"room{j}") for k, j in enumerate(muts)
+                reborrowed(at(self.table[j]) + 6, at(self.borrow + 2 + 2 * k) + 6, at(self.borrow + 3 + 2 * k) + 6, self.room(j)) for k, j in enumerate(muts)
             ),
             "WORK": f"move ! ({2 * self.locals + 7} ∷ {2 * self.locals + 6} ∷ []) $ use2 W (raw (Core",
             "LOOKS": loads(given, "w"),
             "OUT": f"(init ! {out} refl (typed-out 𝓤 H A W out w is-o)) $ rewrite ! {out} (λ (u : Val). ‵ (fat fullShare TO′.mir l{self.lent + 3} 0 u))",
-            "REB2": reborrowed(at(self.frames) + 8, at(self.unit + 1) + 8, at(self.unit + 2) + 8, "roomf"),
+            "REB2": reborrowed(at(self.frames) + 8, at(self.unit + 1) + 8, at(self.unit + 2) + 8, self.room(None)),
             "SAVE1": loaded([at(self.unit + 2) + 7]) + self.field(0, 0, out - 1),
             "SAVE2": f"land ! (from ! (stop !)) (init ! {at(self.unit) + 8} refl (nothing-lawful 𝓤 H A W .typed r₂",
             "RETURNS": f"returns ! (look ! {at(0) + end} refl) $",
@@ -262,15 +245,7 @@ class Change(Walk):
         }
 
     def marks(self):
-        every_lifetime = range(self.lifetime_count)
-        return {
-            **self.shared(),
-            **self.lasts(),
-            **self.steps(),
-            "KAPPASA": f"({nested([f'κ{k}' for k in every_lifetime])})",
-            "SHARESA": f"({nested([f'q{k}' for k in every_lifetime])})",
-            "TOKENSA": "".join(f"(‵ (flft κ{k} q{k}) ⊛ " for k in every_lifetime) + "‵ ftrue" + ")" * self.lifetime_count,
-        }
+        return {**self.shared(), **self.lasts(), **self.steps(), "OWN": str(self.work_values), "COUNT": str(self.count), "LAST": f"_{self.locals - 1}"}
 
 
 class Look(Walk):
@@ -279,26 +254,23 @@ class Look(Walk):
     def __init__(self, by_reference):
         self.by_reference = by_reference
         self.first = 2 if by_reference else 1  # lifetimes before the tables: of the frames and the refusal
-        super().__init__([], tables("look"), self.first, 6 if by_reference else 5)
+        super().__init__([], tables("look"), self.first)
+        self.values = 6 if by_reference else 5  # the values and references before the tables
         self.table = [self.values + 1 + j for j in range(self.count)]
         self.lent = self.values + 1 + self.count
         self.locals = self.lent + 2 + by_reference
         self.words = [name for name, _, _ in self.own].index("frame_words")
 
-    def core_names(self):
-        return range(self.first - 1, self.first - 1 + self.count)
-
     def marks(self):
         at, count, shift = self.place, self.count, 3 + self.by_reference
         given = [1, 2, 3, self.lent, self.lent + 1, 5] + [self.lent + 2] * self.by_reference + self.table
-        start = [passed(at(1), "(typed-sizes 𝓤 H A W z is-z)"), passed(at(2), "(tt, record { fits = slot-fits })"), passed(at(3), "(tt, record { fits = page-fits })")]
-        start += [passed(at(4), fits("roomf")), passed(at(5), "(typed-pool 𝓤 H A W p p-val is-p)")] + [passed(at(6), "(tt, tt)")] * self.by_reference
+        start = [passed(at(1), "(typed-sizes 𝓤 H A W z (are .0))"), passed(at(2), "(tt, record { fits = are .1 .0 .1 })"), passed(at(3), "(tt, record { fits = are .1 .1 .0 .1 })")]
+        start += [passed(at(4), fits(room(3))), passed(at(5), "(typed-pool 𝓤 H A W p (pool-val p) (are .1 .1 .1 .1 .0))")] + [passed(at(6), "(tt, tt)")] * self.by_reference
         units = ["Unit {0}"] * 6 + ["ℕ"] + ["Unit {0}"] * count
-        words = f"(named {self.words + self.first}) κ{self.words + self.first} u32"
         return {
             **self.shared(),
-            "PASS": " ".join(start + [passed(at(self.table[j]), fits(f"room{j}")) for j in range(count)]),
-            "LENT": f"(look-in ! {at(4)} (sub ! 1 refl (whole !))))) (from ! (stop !)) (init ! {at(self.lent)} refl (tt, record {{ fits = roomf .0 }})) $",
+            "PASS": " ".join(start + [passed(at(self.table[j]), fits(room(self.values + j))) for j in range(count)]),
+            "LENT": f"(look-in ! {at(4)} (sub ! 1 refl (whole !))))) (from ! (stop !)) (init ! {at(self.lent)} refl (tt, record {{ fits = {room(3)} .0 }})) $",
             "LOAD": f"move ! ({2 * self.locals + 1} ∷ {2 * self.locals} ∷ []) $ use2 W (raw (Load",
             "LOADS": f"(to-load 𝓤 H A at-mem run κ0 q0 xf) (and-then ! (load ! (from ! (stop !)) (look ! {at(4) + 1} refl))",
             "VALUES": f"land ! (from ! (stop !)) (init ! {at(self.lent + 1) + 1} refl (typed64",
@@ -313,11 +285,15 @@ class Look(Walk):
             "ENDA": nested(["tt"] * count),
             "ENDB": nested(["tt"] * (self.values + count)),
             "WS": " × (".join(units) + " × (Unit {0})" + ")" * (len(units) - 1),
-            "WORDS": str(self.words),
-            "RET": words,
+            "WORDS": f"(xt{ones(self.words)} .0)",
+            "RET": f"(named {self.words + self.first}) (κt{ones(self.words)} .0) u32",
         }
 
 
+# the file of the code that each call stands in
+FILES = {"keeper_apply": "apply", "keeper_restart": "restart", "keeper_apply_all": "apply_all", "page_look": "looks", "keeper_page_look": "looks"}
+# the files of what the three longer walks end in
+ENDS = {"keeper_apply_ends": "ApplyEnds", "keeper_restart_ends": "RestartEnds", "keeper_apply_all_ends": "ListEnds"}
 WALKS = {
     "keeper_apply": lambda: Change("apply", 2, 2),
     "keeper_restart": lambda: Change("restart", 1, 1),
@@ -325,6 +301,9 @@ WALKS = {
     "page_look": lambda: Look(True),
     "keeper_page_look": lambda: Look(False),
 }
+
+
+TEXTS = [*WALKS, *ENDS]
 
 
 def whole(line):
@@ -342,8 +321,8 @@ def whole(line):
 
 
 def wrapped(line):
-    """A line of more than LONGEST characters as several; in the body of a proof, and of a list of parameters, they all stand where it stands."""
-    if len(line) <= LONGEST:
+    """A line of more than LONGEST bytes as several; in the body of a proof, and of a list of parameters, they all stand where it stands."""
+    if len(line.encode()) <= LONGEST:
         return line
     indent = len(line) - len(line.lstrip(" "))
     more = " " * (indent if indent >= 6 or line[indent] == "(" else indent + 4)
@@ -370,14 +349,19 @@ def filled(text, marks):
     return "\n".join(map(wrapped, re.sub(r"⟦(\w+)⟧", mark, text).split("\n")))
 
 
+def proof(name):
+    """Where a text goes: a walk to its function, its ends beside the shared laws."""
+    return PROOFS / f"{ENDS[name]}.antt" if name in ENDS else PROOFS / FILES[name] / name / "Proof.antt"
+
+
 def made(name):
-    return filled((TEMPLATES / f"{name}.txt").read_text(), WALKS[name]().marks())
+    return filled((TEMPLATES / f"{name}.txt").read_text(), WALKS[name.removesuffix("_ends")]().marks())
 
 
 def walks():
-    """Each walk with its file."""
-    for name in WALKS:
-        yield f"crates/keeper/proofs/{name}/Proof.antt", PROOFS / name / "Proof.antt", made(name)
+    """Each walk, and what the longer ones end in, with its file."""
+    for name in TEXTS:
+        yield str(proof(name).relative_to(ROOT)), proof(name), made(name)
 
 
 if __name__ == "__main__":

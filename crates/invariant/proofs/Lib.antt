@@ -36,6 +36,7 @@ pub mod Kept
 pub mod AfterKept
 pub mod Never
 pub mod Tidy
+pub mod Nearer
 pub mod Served
 pub mod LimitsSum
 pub mod EdgesAll

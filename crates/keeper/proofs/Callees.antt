@@ -81,10 +81,6 @@ pool-val p = LL.val TP.the-type TP′.the-laws p
 pub typed-pool : {M : Type 1} (𝓤 : URA M) (H : Heap 𝓤) (A : Atoms 𝓤) (W : Given 𝓤 H A) (r : Pool) (v : Val) → Is P r (v ∷ []) → Holds (hasTy TP′.mir v) × WT v
 typed-pool 𝓤 H A W r v is = LL.lawful TP.the-type TP′.the-laws 𝓤 H A W .typed r (v ∷ []) is .0
 
--- .. and of a lent table of numbers
-abbrev pub table-val : RefT (List ℕ) → Val
-table-val x = sliceVal (ptr x) (length (now x))
-
 module _ {M : Type 1} (𝓤 : URA M) (H : Heap 𝓤) (A : Atoms 𝓤) (at-mem : Memory → SProp 𝓤) (run : Routine → Fun 𝓤) where
   abbrev pub Load : Contract 𝓤
   Load = tripleOf 𝓤 H A load′.signature (load′.spec 𝓤 H A at-mem run)

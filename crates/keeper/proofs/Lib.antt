@@ -14,3 +14,6 @@ pub mod Handed
 pub mod HandedAnew
 pub mod ByValue
 pub mod Pooling
+pub mod ApplyEnds
+pub mod ListEnds
+pub mod RestartEnds

@@ -1,30 +1,26 @@
--- "The mended pack passes restart, mending again lists no change, and a sound pack is unchanged."
+-- "The mended pack passes restart": it keeps the disk rules, if its parents are lower.
 use mathlib.Core.Path.{_≡_, refl, ap, sym, _∙_}
 use mathlib.Core.Logic.{_⊎_, inl, inr}
-use mathlib.Core.Bool.{Bool}
-use mathlib.Core.List.{List, [], _++_}
-use Prim.Native.Nat.{ℕ, zero, suc, _+_, _*_, _/_, _%_, _<_, _≤_}
+use Prim.Native.Nat.{ℕ, suc, _/_, _%_, _<_, _≤_}
 use native.Mathlib.Nat.{mod-lt, div-lt-iff-lt-mul, div-add-mod'}
 use native.Mathlib.Omega.{arith}
 use native.Mathlib.Decide.{ℕ-discrete, decLt}
-use lib.Arith.{digits-div}
-use lib.Dec.{T}
-use lib.ListN.{length, replicate}
+use lib.ListN.{replicate}
 use Rattle.tables.specs.Base.{at}
-use Rattle.tables.specs.Laws.{¬T→false, at-zeros}
-use Rattle.tables.specs.Rule.{Rule, Holds, test, sound}
+use Rattle.tables.specs.Laws.{at-zeros}
+use Rattle.tables.specs.Rule.{Rule, Holds}
 use Rattle.model.specs.declared.sizes.Sizes.{Sizes}
-use Rattle.model.specs.State.{Disk, Memory, State, files, allPages, pageOf, slotOf}
+use Rattle.model.specs.State.{Disk, Memory, State, allPages, pageOf, slotOf}
 use Rattle.model.specs.Rules.{lower, diskRules}
-use Rattle.model.specs.Ruled.{OnDisk, disk-ruled, rules-disk}
+use Rattle.model.specs.Ruled.{disk-ruled, rules-disk}
 use Rattle.model.specs.Restart.{restarted}
 use Rattle.model.specs.Own.{refusal, first-yes, first-no}
-use Rattle.model.specs.Step.{Outcome, outcome, diskLengths, memoryLengths, allFit, restart}
+use Rattle.model.specs.Step.{outcome, diskLengths, memoryLengths, allFit, restart}
 use Rattle.model.specs.Sizes.{sizesFit}
-use Rattle.model.specs.Fit.{DiskFit, disk-fit, fit-disk}
+use Rattle.model.specs.Fit.{disk-fit, fit-disk}
 use Rattle.tables.specs.Questions.{none, ask, firstNo}
-use Rattle.mending.specs.Mend.{Pack, Place, number, account, entry, slotAt, placeAt, allPlaces, held, doubled, wants, changes, cleared, listed, gather, after, listedBy, mended, allChanges, packOf, withPack}
-use Rattle.mending.specs.Places.{PackFit, In, page-inside, place-in, cleared-none, after-fit, after-held, down, stays-zero}
+use Rattle.mending.specs.Mend.{Pack, Place, number, account, entry, slotAt, held, wants, after, mended, packOf, withPack}
+use Rattle.mending.specs.Places.{PackFit, In, after-fit, after-held, down, stays-zero}
 
 -- an entry by the number of its page in the table
 module _ (z : Sizes) (pos : 0 < z .pages) (i : ℕ) (h : i < allPages z) where
@@ -76,7 +72,7 @@ module _ (z : Sizes) (d : Pack) (f : PackFit z d) (q : 0 < z .accounts) where
     ]
   ]
 
-  number-once : (s : ℕ) → s < z .slots → (t : ℕ) → t < z .slots → (r : ℕ) → num 5 s ≡ suc r → num 5 t ≡ suc r → s ≡ t
+  pub number-once : (s : ℕ) → s < z .slots → (t : ℕ) → t < z .slots → (r : ℕ) → num 5 s ≡ suc r → num 5 t ≡ suc r → s ≡ t
   number-once s h t k r a b =
       let a′ : num 1 s ≡ suc r = sym (number-5 s h) ∙ a in
       let b′ : num 1 t ≡ suc r = sym (number-5 t k) ∙ b in
@@ -93,10 +89,10 @@ module _ (z : Sizes) (d : Pack) (f : PackFit z d) (q : 0 < z .accounts) where
     | inr a ↦ elim (ℕ-discrete (held z (after z d 1) x) 0) [ yes w ↦ a .1 ∙ w | no w ↦ absurd (a .0 (w, e)) ]
   ]
 
-  empty-account : (s : ℕ) → s < z .slots → num 5 s ≡ 0 → acc 5 s ≡ 0
+  pub empty-account : (s : ℕ) → s < z .slots → num 5 s ≡ 0 → acc 5 s ≡ 0
   empty-account s h e = stays-zero z d f (account s) h 2 3 (empty-2 (account s) h (sym (number-5 s h) ∙ e))
 
-  empty-map : (i : ℕ) → i < allPages z → num 5 (slotOf z i) ≡ 0 → map 5 i ≡ 0
+  pub empty-map : (i : ℕ) → i < allPages z → num 5 (slotOf z i) ≡ 0 → map 5 i ≡ 0
   empty-map i h e =
       let n = its-in z (f .pages) i h in
       rw (its-page z (f .pages) i h) at (stays-zero z d f (its z (f .pages) i h) n 2 3 (empty-2 (its z (f .pages) i h) n (sym (number-5 (slotOf z i) (n .0)) ∙ e)))
@@ -108,7 +104,7 @@ module _ (z : Sizes) (d : Pack) (f : PackFit z d) (q : 0 < z .accounts) where
     | inr a ↦ elim (decLt (acc 2 s) (z .accounts)) [ yes w ↦ rw (a .1) w | no w ↦ absurd (a .0 (λ e. w (rw e q), w)) ]
   ]
 
-  account-fit : (s : ℕ) → s < z .slots → acc 5 s < z .accounts
+  pub account-fit : (s : ℕ) → s < z .slots → acc 5 s < z .accounts
   account-fit s h = elim (down z d f (account s) h 3 2) [ inl a ↦ rw a q | inr a ↦ rw a (account-3 s h) ]
 
   pub entry-4 : (x : Place) → In z x → (s p : ℕ) → x ≡ entry s p → held z (after z d 4) x ≤ z .records
@@ -133,7 +129,7 @@ module _ (z : Sizes) (d : Pack) (f : PackFit z d) (q : 0 < z .accounts) where
   stood : (i : ℕ) → i < allPages z → (map 5 i ≡ 0) ⊎ (map 5 i ≡ map 4 i)
   stood i h = rw (its-page z (f .pages) i h) at (down z d f (its z (f .pages) i h) (its-in z (f .pages) i h) 4 1)
 
-  map-fit : (i : ℕ) → i < allPages z → (r : ℕ) → map 5 i ≡ suc r → r < z .records
+  pub map-fit : (i : ℕ) → i < allPages z → (r : ℕ) → map 5 i ≡ suc r → r < z .records
   map-fit i h r e = elim (stood i h) [ inl a ↦ absurd (omega (arith, a, e)) | inr a ↦ omega (arith, a, e, map-fit-4 i h) ]
 
   -- two entries that name one record: step 5 wants the first of them
@@ -148,7 +144,7 @@ module _ (z : Sizes) (d : Pack) (f : PackFit z d) (q : 0 < z .accounts) where
       ] in
       rw (its-page z (f .pages) i h) at w
 
-  map-once : (i : ℕ) → i < allPages z → (j : ℕ) → j < allPages z → (r : ℕ) → map 5 i ≡ suc r → map 5 j ≡ suc r → i ≡ j
+  pub map-once : (i : ℕ) → i < allPages z → (j : ℕ) → j < allPages z → (r : ℕ) → map 5 i ≡ suc r → map 5 j ≡ suc r → i ≡ j
   map-once i h j k r a b = elim (ℕ-discrete i j) [
     | yes e ↦ e
     | no e ↦ elim (stood i h) [
@@ -205,99 +201,3 @@ module _ (z : Sizes) (d : Disk) (fits : Holds (sizesFit z)) (long : Holds (diskL
 -- "older packs have 0 there": these are lower
 pub older-lower : (n : ℕ) → Holds (lower n (at (replicate n 0)))
 older-lower n a h pos = omega (arith, pos, at-zeros n a)
-
--- ── a pack that keeps the rules ──
-module _ (z : Sizes) (d : Pack) (f : PackFit z d) where
-  -- the rules, of the pack's look-ups
-  pub record Sound : Type 0 where
-    pub empty-account : (s : ℕ) → s < z .slots → at (d .numbers) s ≡ 0 → at (d .accounts) s ≡ 0
-    pub empty-map : (i : ℕ) → i < allPages z → at (d .numbers) (slotOf z i) ≡ 0 → at (d .maps) i ≡ 0
-    pub map-fit : (i : ℕ) → i < allPages z → (r : ℕ) → at (d .maps) i ≡ suc r → r < z .records
-    pub map-once : (i : ℕ) → i < allPages z → (j : ℕ) → j < allPages z → (r : ℕ) → at (d .maps) i ≡ suc r → at (d .maps) j ≡ suc r → i ≡ j
-    pub number-once : (s : ℕ) → s < z .slots → (t : ℕ) → t < z .slots → (r : ℕ) → at (d .numbers) s ≡ suc r → at (d .numbers) t ≡ suc r → s ≡ t
-    pub account-fit : (s : ℕ) → s < z .slots → at (d .accounts) s < z .accounts
-
-  module _ (o : Sound) where
-    slot-in : (x : Place) → In z x → slotAt x < z .slots
-    slot-in (number s) h = h
-    slot-in (account s) h = h
-    slot-in (entry s p) h = h .0
-
-    not-doubled : (s : ℕ) → s < z .slots → ¬ (Holds (doubled z d s))
-    not-doubled s h (nz, (t, l, e)) = go (at (d .numbers) s) refl
-      where
-        go : (n : ℕ) → at (d .numbers) s ≡ n → ⊥
-        go zero w = nz w
-        go (suc r) w = omega (arith, l, o .number-once s h t (omega (arith, l, h)) r w (e ∙ w))
-
-    -- a place of a slot whose number is 0 is 0
-    empty : (x : Place) → In z x → at (d .numbers) (slotAt x) ≡ 0 → held z d x ≡ 0
-    empty (number s) h e = e
-    empty (account s) h e = o .empty-account s h e
-    empty (entry s p) h e = o .empty-map (pageOf z s p) (page-inside z s p (h .0) (h .1)) (rw (digits-div s (h .1)) e)
-
-    -- no step wants a place that is not 0
-    pub none-changes : (k : ℕ) (x : Place) → In z x → ¬ (Holds (changes z d k x))
-    unfolding wants
-    none-changes zero x h c = not-doubled (slotAt x) (slot-in x h) (c .1)
-    none-changes (suc zero) x h c = c .0 (empty x h (c .1))
-    none-changes (suc (suc zero)) (number s) h c = c .1
-    none-changes (suc (suc zero)) (account s) h c = c .1 (o .account-fit s h)
-    none-changes (suc (suc zero)) (entry s p) h c = c .1
-    none-changes (suc (suc (suc zero))) (number s) h c = c .1
-    none-changes (suc (suc (suc zero))) (account s) h c = c .1
-    none-changes (suc (suc (suc zero))) (entry s p) h c = go (at (d .maps) (pageOf z s p)) refl
-      where
-        go : (n : ℕ) → at (d .maps) (pageOf z s p) ≡ n → ⊥
-        go zero w = c .0 w
-        go (suc r) w = omega (arith, w, c .1, o .map-fit (pageOf z s p) (page-inside z s p (h .0) (h .1)) r w)
-    none-changes (suc (suc (suc (suc k)))) (number s) h c = c .1
-    none-changes (suc (suc (suc (suc k)))) (account s) h c = c .1
-    none-changes (suc (suc (suc (suc k)))) (entry s p) h (nz, (r, e, (i, a, (j, b, (n, (u, v)))))) = n (o .map-once i a j b r u v)
-
-    gather-none : {A : Type 0} (n : ℕ) (p : ℕ → Bool) (g : ℕ → A) → ((i : ℕ) → i < n → ¬ (T (p i))) → gather n p g ≡ []
-    unfolding gather
-    gather-none zero p g h = refl
-    gather-none (suc n) p g h = rw (gather-none n p g (λ i l. h i (omega arith)), ¬T→false (p n) (h n (omega arith)))
-
-    pub listed-none : (k n : ℕ) → listed z d n (changes z d k) ≡ []
-    unfolding listed
-    listed-none k n = gather-none (allPlaces z) (λ i. test (changes z d k (placeAt z i))) _ (λ i h t. none-changes k (placeAt z i) (place-in z i h) (sound (changes z d k (placeAt z i)) t))
-
-    pub after-same : (k : ℕ) → after z d k ≡ d
-    unfolding after
-    after-same zero = refl
-    after-same (suc k) = rw (after-same k) (cleared-none z d (changes z d k) f (none-changes k))
-
-    pub listed-same : (k : ℕ) → listedBy z d k ≡ []
-    unfolding listedBy
-    listed-same zero = refl
-    listed-same (suc k) = rw (listed-same k, after-same k) (listed-none k (suc k))
-
-pub sound-pack : (z : Sizes) (st : State) (f : PackFit z (packOf (st .disk))) → Holds (diskRules z st) → Sound z (packOf (st .disk)) f
-sound-pack z st f h = let o = disk-ruled z st h in record {
-  empty-account = o .empty-account;
-  empty-map = o .empty-map;
-  map-fit = o .map-fit;
-  map-once = o .map-once;
-  number-once = o .number-once;
-  account-fit = o .account-fit;
-}
-
--- "and a sound pack is unchanged", with no change listed
-pub sound-same : (z : Sizes) (st : State) → Holds (sizesFit z) → Holds (diskLengths z (st .disk)) → Holds (diskRules z st) → (mended z (packOf (st .disk)) ≡ packOf (st .disk)) × (allChanges z (packOf (st .disk)) ≡ [])
-sound-same z st fits long h = let f = pack-fit z (st .disk) fits long in let o = sound-pack z st f h in
-    (after-same z (packOf (st .disk)) f o 5, listed-same z (packOf (st .disk)) f o 5)
-
--- "mending again lists no change", and changes none, whatever the parents
-pub mended-again : (z : Sizes) (d : Disk) → Holds (sizesFit z) → Holds (diskLengths z d) → (let e = mended z (packOf d) in (mended z e ≡ e) × (allChanges z e ≡ []))
-mended-again z d fits long = let f = pack-fit z d fits long in let g = after-fit z (packOf d) 5 f in let q = fits .1 .1 .1 .1 .1 .0 in
-    let o : Sound z (mended z (packOf d)) g = record {
-      empty-account = empty-account z (packOf d) f q;
-      empty-map = empty-map z (packOf d) f q;
-      map-fit = map-fit z (packOf d) f q;
-      map-once = map-once z (packOf d) f q;
-      number-once = number-once z (packOf d) f q;
-      account-fit = account-fit z (packOf d) f q;
-    } in
-    (after-same z (mended z (packOf d)) g o 5, listed-same z (mended z (packOf d)) g o 5)

@@ -5,7 +5,7 @@ use native.Mathlib.Omega.{arith}
 use lib.ListN.{length-replicate}
 use Rattle.mending.specs.Passes.{ofShared}
 use Rattle.mending.specs.Names.{zeros}
-use Rattle.mending.specs.Steps.{MapsRun, maps-none, maps-next, maps-all, row-given, still-5, agrees-5}
+use Rattle.mending.specs.EntrySteps.{MapsRun, maps-none, maps-next, maps-all, row-given, still-5, agrees-5}
 use Rattle.mending.proofs.steps.drop_shared.Statement.{statement}
 use Rattle.mending.proofs.steps.drop_shared.Tie as tie
 

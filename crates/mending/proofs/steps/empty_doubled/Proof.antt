@@ -10,7 +10,7 @@ use Rattle.tables.specs.Rule.{Holds}
 use Rattle.tables.specs.Turn.{said-yes, said-no}
 use Rattle.mending.specs.Passes.{packed, filled, lost-kept, lost-long, lost-list-long, lost-room}
 use Rattle.mending.specs.Names.{doubledIn}
-use Rattle.mending.specs.Steps.{PackRun, pack-begun, pack-passes, pack-ended, pack-rest, pack-by, pack-room, row-given-pack, whole-1, none-1, number-1, doubled-now}
+use Rattle.mending.specs.SlotSteps.{PackRun, pack-begun, pack-passes, pack-ended, pack-rest, pack-by, pack-room, row-given-pack, whole-1, none-1, number-1, doubled-now}
 use Rattle.mending.proofs.steps.empty_doubled.Statement.{statement}
 use Rattle.mending.proofs.steps.empty_doubled.Tie as tie
 

@@ -5,7 +5,7 @@ use mathlib.Core.Path.{refl}
 use Prim.Native.Nat.{_+_, _-_}
 use native.Mathlib.Omega.{arith}
 use Rattle.mending.specs.Passes.{packed, filled, lost-room}
-use Rattle.mending.specs.Steps.{PackRun, pack-begun, pack-passes, pack-ended, pack-rest, pack-by, pack-room, row-given-pack, whole-2, none-2, number-2}
+use Rattle.mending.specs.SlotSteps.{PackRun, pack-begun, pack-passes, pack-ended, pack-rest, pack-by, pack-room, row-given-pack, whole-2, none-2, number-2}
 use Rattle.mending.proofs.steps.empty_unfilled.Statement.{statement}
 use Rattle.mending.proofs.steps.empty_unfilled.Tie as tie
 

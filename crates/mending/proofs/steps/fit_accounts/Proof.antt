@@ -2,7 +2,7 @@
 use borrow.Author.Needs.{needs}
 use Prim.Native.Nat.{_-_}
 use native.Mathlib.Omega.{arith}
-use Rattle.mending.specs.Steps.{AccountsRun, accounts-none, accounts-next, accounts-all}
+use Rattle.mending.specs.AccountStep.{AccountsRun, accounts-none, accounts-next, accounts-all}
 use Rattle.mending.proofs.steps.fit_accounts.Statement.{statement}
 use Rattle.mending.proofs.steps.fit_accounts.Tie as tie
 

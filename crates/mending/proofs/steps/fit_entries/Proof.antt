@@ -3,7 +3,7 @@ use borrow.Author.Needs.{needs}
 use Prim.Native.Nat.{_-_}
 use native.Mathlib.Omega.{arith}
 use Rattle.mending.specs.Passes.{above}
-use Rattle.mending.specs.Steps.{MapsRun, maps-none, maps-next, maps-all, row-given, still-4, agrees-4}
+use Rattle.mending.specs.EntrySteps.{MapsRun, maps-none, maps-next, maps-all, row-given, still-4, agrees-4}
 use Rattle.mending.proofs.steps.fit_entries.Statement.{statement}
 use Rattle.mending.proofs.steps.fit_entries.Tie as tie
 

@@ -19,7 +19,8 @@ disk-requires c κs =
 returns : tie.Need-returns
 returns c =
     let s₀ : tie.Start = search in let pre = s₀ .pre in let args = s₀ .args in
-    λ m. c .before .disk .ensures .0 ∙ disk-told (args .z) (record { disk = diskOf (args .records .now) (args .numbers .now) (args .accounts .now) (args .maps .now) (args .limits .now) (args .parents .now); memory = m }) (record { within = within (args .z) (pre .0); numbers-long = pre .1 .1 .0; accounts-long = pre .1 .1 .1 .0; maps-long = pre .1 .1 .1 .1 .0; parents-long = pre .1 .1 .1 .1 .1 .1 })
+    let disk = diskOf (args .records .now) (args .numbers .now) (args .accounts .now) (args .maps .now) (args .limits .now) (args .parents .now) in
+    λ m. c .before .disk .ensures .0 ∙ disk-told (args .z) (record { disk = disk; memory = m }) (record { within = within (args .z) (pre .0); numbers-long = pre .1 .1 .0; accounts-long = pre .1 .1 .1 .0; maps-long = pre .1 .1 .1 .1 .0; parents-long = pre .1 .1 .1 .1 .1 .1 })
 
 pub disk-rules-spec : {M : Type 1} → statement M
 disk-rules-spec = tie.close (tie.spec (λ c. search needs) disk-requires returns)

@@ -1,0 +1,82 @@
+// An event asked for by a request, for firmware to link.
+ghost use mathlib.Core.Path.{_≡_};
+ghost use Rattle.model.specs.Lent.{allEntered, allLeft};
+ghost use Rattle.model.specs.Own.{leaves};
+ghost use Rattle.model.specs.Calls.{apply};
+use crate::frames::load;
+use crate::frames::save;
+use crate::pool::deposit;
+use crate::pool::take;
+use model::event::Answer;
+use model::frame::Frame;
+use model::frame::Pool;
+use model::request::Request;
+use model::sizes::Sizes;
+
+// Every event, asked for by a request: its answer, and everything lent, are the definition's.
+// Shut out: a call that takes no record out of the pool; one that leaves the frames as they were.
+#[no_mangle]
+pub extern "C" fn keeper_apply(
+    sizes: Sizes,
+    request: Request,
+    frames: &mut [Frame],
+    pool: &mut Pool,
+    records: &mut [u32],
+    numbers: &mut [u32],
+    accounts: &mut [u16],
+    maps: &mut [u16],
+    limits: &mut [u16],
+    parents: &[u16],
+    frame_words: &mut [u32],
+    free_queue: &mut [u16],
+    removal_list: &mut [u16],
+    addresses: &mut [u16],
+    states: &mut [u8],
+    owners: &mut [u8],
+    free_map: &mut [u32],
+    active: &mut [u8],
+    updating: &mut [u8],
+    images: &mut [u16],
+    line: &mut [u16],
+    used: &mut [u16],
+) -> Answer
+    ensures { λ r. ⌜ leaves r
+        (allLeft (now (frames .exit)) (now (pool .exit)) records numbers accounts maps limits parents
+        «frame_words» «free_queue» «removal_list» addresses states owners «free_map» active updating images line used)
+        ≡ apply sizes
+        (allEntered (now (frames .entry)) (now (pool .entry)) records numbers accounts maps limits parents
+        «frame_words» «free_queue» «removal_list» addresses states owners «free_map» active updating images line used) request ⌝ }
+{
+    let lent = frames.len();
+    let values = load(frames);
+    let copy = *pool;
+    let out = calls::apply_core(
+        sizes,
+        request,
+        lent,
+        values,
+        copy,
+        records,
+        numbers,
+        accounts,
+        maps,
+        limits,
+        parents,
+        frame_words,
+        free_queue,
+        removal_list,
+        addresses,
+        states,
+        owners,
+        free_map,
+        active,
+        updating,
+        images,
+        line,
+        used,
+    );
+    save(frames, out.frames);
+    take(pool, sizes, out.taken);
+    deposit(pool, out.deposited);
+    out.answer
+}
