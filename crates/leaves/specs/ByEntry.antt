@@ -3,7 +3,7 @@ use mathlib.Core.Path.{_≡_, refl, sym, _∙_}
 use mathlib.Core.List.{List}
 use Prim.Native.Nat.{ℕ, _+_, _<_, _≤_}
 use native.Mathlib.Omega.{arith}
-use native.Mathlib.Decide.{ℕ-discrete}
+use native.Mathlib.Decide.{ℕ-discrete, decLt}
 use lib.ListN.{length, set, replicate, length-set, length-replicate}
 use lib.Seq.{ext-getD, getD-set-same, getD-set-other}
 use Rattle.tables.specs.Base.{at, tab}
@@ -68,3 +68,25 @@ module _ {n : ℕ} {f : ℕ → ℕ} {k : ℕ} {l : List ℕ} (d : Begun n f k l
 -- a table of zeros that a loop starts from
 pub filled-start : {l : List ℕ} {n : ℕ} (m : ℕ) (f : ℕ → ℕ) → l ≡ replicate n 0 → m ≡ n → ((i : ℕ) → 0 ≡ f i) → Filled m f l
 filled-start {l} {n} m f e q z = rw (q, e) (filled-zeros n f (λ i h. z i))
+
+-- ── a table of zeros filled from its first entry up: the others are zeros still ──
+pub record Rising (n : ℕ) (f : ℕ → ℕ) (k : ℕ) (l : List ℕ) : Type 0 where
+  pub begun : Begun n f k l
+  pub still : (i : ℕ) → k ≤ i → i < n → at l i ≡ 0
+
+pub rising-none : (f : ℕ → ℕ) (l : List ℕ) → ((i : ℕ) → i < length l → at l i ≡ 0) → Rising (length l) f 0 l
+rising-none f l z = record { begun = begun-none f l; still = λ i a h. z i h }
+
+module _ {n : ℕ} {f : ℕ → ℕ} {k : ℕ} {l : List ℕ} (d : Rising n f k l) where
+  pub rising-on : k < n → (x : ℕ) → x ≡ f k → Rising n f (k + 1) (set l k x)
+  rising-on lt x e = record {
+    begun = begun-on (d .begun) lt x e;
+    still = λ i a h. getD-set-other l k i x 0 (λ c. omega (arith, a, c)) ∙ d .still i (omega (arith, a)) h;
+  }
+
+  -- where zeros are right for the others, all are
+  pub rising-all : ((i : ℕ) → k ≤ i → 0 ≡ f i) → Filled n f l
+  rising-all z = record {
+    long = d .begun .long;
+    entries = λ i h. elim (decLt i k) [ yes g ↦ d .begun .so-far i g | no g ↦ d .still i (omega (arith, g)) h ∙ z i (omega (arith, g)) ];
+  }

@@ -1,7 +1,8 @@
 -- A table of who pays for each slot, made once a call.
-use mathlib.Core.Path.{_≡_, ap, sym, _∙_, subst}
+use mathlib.Core.Path.{_≡_, refl, ap, sym, _∙_, subst}
+use mathlib.Core.Logic.{inl}
 use mathlib.Core.List.{List}
-use Prim.Native.Nat.{ℕ, _<_}
+use Prim.Native.Nat.{ℕ, _<_, _≤_}
 use native.Mathlib.Omega.{arith}
 use native.Mathlib.Decide.{decLt}
 use lib.ListN.{length, List·getD-eq-default}
@@ -15,6 +16,10 @@ use Rattle.model.specs.State.{State, files, payer}
 -- who pays for a slot, from the tables
 abbrev pub whoPays : (accounts limits parents : List ℕ) → ℕ → ℕ
 whoPays accounts limits parents s = Payer.payer (at parents) (at limits) (at accounts s)
+
+-- past the list's end that is account 0, which pays itself
+pub past-list : (accounts limits parents : List ℕ) (s : ℕ) → length accounts ≤ s → 0 ≡ whoPays accounts limits parents s
+past-list accounts limits parents s h = sym (ap (Payer.payer (at parents) (at limits)) (List·getD-eq-default accounts 0 {n = s} h) ∙ Payer.payer-self (at parents) (at limits) 0 (inl refl))
 
 -- for as many slots as there can be; past the last one account 0's payer
 pub record Paying (st : State) (payers : List ℕ) : Type 0 where

@@ -1,7 +1,9 @@
 // Who pays for an account's pages: found by recursion, the account number falling at each call.
 ghost use mathlib.Core.Path.{_≡_};
+ghost use Prim.Native.Nat.{_≤_};
 ghost use lib.ListN.{length};
 ghost use Rattle.tables.specs.Base.{at, tab};
+ghost use Rattle.tables.specs.Rule.{same, each, Holds};
 ghost use Rattle.model.specs.Payer.{payer};
 use crate::cells::at16;
 
@@ -36,12 +38,13 @@ pub fn slot_payer(parents: &[u16], limits: &[u16], accounts: &[u16], slot: usize
     payer_of(parents, limits, wide(at16(accounts, slot)))
 }
 
-// The payer of each account of a list, as a table: of account 0 past the list's end.
+// The payer of each account of a list, in a table of zeros: past the list's end these are account 0's payer already.
 pub fn fill_payers(parents: &[u16], limits: &[u16], accounts: &[u16], table: &mut [u16])
+    requires { ⌜ (length (now accounts) ≤ length (now table)) × Holds (each (length (now table)) (λ s. same (at (now table) s) 0)) ⌝ }
     ensures { λ _. ⌜ now (table .exit) ≡ tab (length (now (table .entry))) (λ s. payer (at (now (parents .entry))) (at (now (limits .entry))) (at (now (accounts .entry)) s)) 0 ⌝ }
 {
     let mut s = 0;
-    while s < table.len() {
+    while s < accounts.len() {
         table[s] = slot_payer(parents, limits, accounts, s) as u16;
         s += 1;
     }

@@ -2,8 +2,10 @@
 use mathlib.Core.Path.{_≡_, refl, sym, _∙_}
 use mathlib.Core.Bool.{Bool, true, false, _&&_, and-assoc}
 use mathlib.Core.List.{List}
-use Prim.Native.Nat.{ℕ, suc, _*_, _<_}
+use Prim.Native.Nat.{ℕ, suc, _-_, _*_, _<_}
 use native.Mathlib.Omega.{arith}
+use native.Mathlib.Decide.{ℕ-discrete}
+use borrow.Author.Tests.{eq-eqb, ne-eqb}
 use lib.Dec.{eqb}
 use lib.ListN.{length}
 use Rattle.tables.specs.Base.{at}
@@ -14,9 +16,9 @@ use Rattle.tables.specs.Turn.{both, four}
 use Rattle.model.specs.declared.frame.Frame.{Frame}
 use Rattle.model.specs.declared.sizes.Sizes.{Sizes}
 use Rattle.model.specs.State.{frameAt}
-use Rattle.model.specs.Rules.{fit}
+use Rattle.model.specs.Rules.{fit, once}
 use Rattle.model.specs.Bounds.{pages-most}
-use Rattle.rules.specs.Passes.{distinct, marked, counted, frameRows, recordRow, recordRows, HeldFit, ImagedFit, FramesFit}
+use Rattle.rules.specs.Passes.{distinct, marked, counted, addressOf, frameRows, recordRow, recordRows, HeldFit, ImagedFit, FramesFit}
 use Rattle.questions.specs.Groups.{recordHeld, recordsHeld, framePasses, FilesLong, FramesLong}
 use Rattle.questions.proofs.Shapes.{each-same}
 
@@ -75,6 +77,17 @@ module _ (z : Sizes) (numbers account maps addresses states owners active updati
   pub imaged-fit : ImagedFit (z .records) addresses images states owners
   imaged-fit = record { images-long = long .images-long ∙ sym (long .addresses-long); states-long = long .states-long; owners-long = long .owners-long }
 
+-- ── the address of the page that an entry names ──
+module _ (address : ℕ → ℕ) (page : ℕ) where
+  address-named : (i : ℕ) → page ≡ suc i → addressOf address page ≡ address i
+  address-named i e = let d : ¬ (page ≡ 0) = λ z. omega (arith, e, z) in let b : page - 1 ≡ i = omega (arith, e) in rw (ne-eqb page 0 d, b)
+
+  named-address : (r : ℕ) → addressOf address page ≡ suc r → (page ≡ suc (page - 1)) × (address (page - 1) ≡ suc r)
+  named-address r e = elim (ℕ-discrete page 0) [
+    | yes z ↦ absurd (let n : 0 ≡ suc r = rw (eq-eqb page 0 z) at e in omega (arith, n))
+    | no d ↦ (omega (arith, d), rw (ne-eqb page 0 d) at e)
+  ]
+
 -- ── what the pass over frames needs, and frames by the tables of their places ──
 module _ (z : Sizes) (account records words free removal addresses states active : List ℕ) (long : FramesLong z account records words free removal addresses states active) where
   pub frames-fit : Holds (fit (length addresses) (z .records) (at addresses)) → Holds (each (length account) λ s. below (at account s) (z .accounts)) → FramesFit z account active addresses states words records
@@ -89,15 +102,45 @@ module _ (z : Sizes) (account records words free removal addresses states active
     records-long = rw (long .states-long) (omega (arith, long .records-long));
   }
 
-  -- where both queues are queues, the pass over the frames decides
-  pub frames-decide : (frames : List Frame) (queued removing : List ℕ) → Holds (counted 64 free queued) → Holds (counted 64 removal removing) → Holds (queue (z .frames) free) → Holds (queue (z .frames) removal)
-      → test (distinct (z .frames) (length addresses) (λ f. frameAt frames f .page) and frameRows (z .frames) (z .words) (z .pages) frames words records active addresses states queued removing)
-      ≡ test (framePasses (z .frames) (z .words) (z .pages) (z .slots * z .pages) (frameAt frames) records words free removal addresses states active)
-  frames-decide frames queued removing a b q p = alike
-      (distinct (z .frames) (length addresses) (λ f. frameAt frames f .page) and frameRows (z .frames) (z .words) (z .pages) frames words records active addresses states queued removing)
-      (framePasses (z .frames) (z .words) (z .pages) (z .slots * z .pages) (frameAt frames) records words free removal addresses states active)
-      (λ h. ((rw (long .addresses-long) at (h .0), (q, p)), λ f l. rw (a f (omega (arith, l, long .within .frames-most)), b f (omega (arith, l, long .within .frames-most))) at (h .1 f l)))
-      (λ h. (rw (long .addresses-long) (h .0 .0), λ f l. rw (a f (omega (arith, l, long .within .frames-most)), b f (omega (arith, l, long .within .frames-most))) (h .1 f l)))
+  -- where both queues are queues, and no record is held twice, the pass over the frames decides
+  module _ (frames : List Frame) (queued removing : List ℕ) (o : Holds (distinct (length addresses) (z .records) (at addresses))) where
+    abbrev page : ℕ → ℕ
+    page f = frameAt frames f .page
+
+    abbrev paged : Rule
+    paged = fit (z .frames) (length addresses) page
+
+    abbrev records-apart : Rule
+    records-apart = distinct (z .frames) (length states) (λ f. addressOf (at addresses) (page f))
+
+    abbrev rows : Rule
+    rows = frameRows (z .frames) (z .words) (z .pages) frames words records active addresses states queued removing
+
+    -- a page in two frames would have one record in both
+    pages-once : Holds records-apart → Holds rows → Holds (once (z .frames) page)
+    pages-once d h f l g m i e q =
+        let some = h f l .0 .1 .1 .1 .1 .1 .1 i e .0 in
+        let r : at addresses i ≡ suc (at addresses i - 1) = omega (arith, some) in
+        d .1 f l g m (at addresses i - 1) (address-named (at addresses) (page f) i e ∙ r) (address-named (at addresses) (page g) i q ∙ r)
+
+    -- a record of two frames' pages would be that of one page
+    records-once : Holds (distinct (z .frames) (length addresses) page) → Holds records-apart
+    records-once p = (
+      λ f l r e. let n = named-address (at addresses) (page f) r e in rw (long .states-long) (o .0 (page f - 1) (p .0 f l (page f - 1) (n .0)) r (n .1)),
+      λ f l g m r e q.
+          let n = named-address (at addresses) (page f) r e in
+          let k = named-address (at addresses) (page g) r q in
+          let same-page : page f - 1 ≡ page g - 1 = o .1 (page f - 1) (p .0 f l (page f - 1) (n .0)) (page g - 1) (p .0 g m (page g - 1) (k .0)) r (n .1) (k .1) in
+          p .1 f l g m (page f - 1) (n .0) (rw same-page (k .0)),
+    )
+
+    pub frames-decide : Holds (counted 64 free queued) → Holds (counted 64 removal removing) → Holds (queue (z .frames) free) → Holds (queue (z .frames) removal)
+        → test (paged and records-apart and rows) ≡ test (framePasses (z .frames) (z .words) (z .pages) (z .slots * z .pages) (frameAt frames) records words free removal addresses states active)
+    frames-decide a b q p = alike
+        (paged and records-apart and rows)
+        (framePasses (z .frames) (z .words) (z .pages) (z .slots * z .pages) (frameAt frames) records words free removal addresses states active)
+        (λ h. (((rw (long .addresses-long) at (h .0), pages-once (h .1 .0) (h .1 .1)), (q, p)), λ f l. rw (a f (omega (arith, l, long .within .frames-most)), b f (omega (arith, l, long .within .frames-most))) at (h .1 .1 f l)))
+        (λ h. let d : Holds (distinct (z .frames) (length addresses) page) = rw (long .addresses-long) (h .0 .0) in (d .0, (records-once d, λ f l. rw (a f (omega (arith, l, long .within .frames-most)), b f (omega (arith, l, long .within .frames-most))) (h .1 f l))))
 
 -- twelve tests, joined from the left or from the right
 pub twelve : (a b c d e f g h i j k l : Bool) → ((((((((((a && b) && c) && d) && e) && f) && g) && h) && i) && j) && k) && l ≡ a && (b && (c && (d && (e && (f && (g && (h && (i && (j && (k && l))))))))))

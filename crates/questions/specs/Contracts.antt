@@ -13,7 +13,7 @@ use Rattle.model.specs.State.{Disk, Memory, frameAt}
 use Rattle.model.specs.Lent.{Ref, Table, diskOf, memoryOf}
 use Rattle.model.specs.Rules.{fit}
 use Rattle.model.specs.Woven.{wovenPage}
-use Rattle.rules.specs.Passes.{marked, usedTable, framedTable, countRoom}
+use Rattle.rules.specs.Passes.{distinct, marked, usedTable, framedTable, countRoom}
 use Rattle.questions.specs.Groups.{filePasses, framePasses, FilesLong, FramesLong}
 
 -- ── a part of what is lent, as it was passed ──
@@ -46,7 +46,7 @@ filesCounted z totals accounts active maps addresses states =
 abbrev pub FramesGiven : Sizes → (totals accounts records words free-queue removal-list addresses states active : Ref) → Type 0
 FramesGiven z totals accounts records words free-queue removal-list addresses states active =
     FramesLong z (accounts .now) (records .now) (words .now) (free-queue .now) (removal-list .now) (addresses .now) (states .now) (active .now)
-    × Holds (fit (length (addresses .now)) (z .records) (at (addresses .now)))
+    × Holds (distinct (length (addresses .now)) (z .records) (at (addresses .now)))
     × Holds (each (length (accounts .now)) λ s. below (at (accounts .now) s) (z .accounts))
     × (length (totals .now) ≡ mostAccounts) × Holds (each mostAccounts λ q. below (at (totals .now) q) countRoom)
 

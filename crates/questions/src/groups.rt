@@ -12,11 +12,8 @@ use model::frame::Frame;
 use model::frame::Pool;
 use model::sizes::Sizes;
 
-// The words of a table with a mark for each record,
+// The words of a table with a mark for each record.
 pub const RECORD_MARKS: usize = Sizes::MOST_RECORDS / 32;
-
-// and of one with a mark for each page.
-const PAGE_MARKS: usize = Sizes::MOST_SLOTS * Sizes::MOST_PAGES / 32;
 
 // The disk rules; the listed records are marked, from marks that are off.
 pub fn disk(
@@ -104,7 +101,7 @@ pub fn frames(
     }
     let queued = rules::queues::places(free_queue, [0; Sizes::MOST_FRAMES]);
     let removing = rules::queues::places(removal_list, [0; Sizes::MOST_FRAMES]);
-    let mut in_frames: [u32; PAGE_MARKS] = [0; PAGE_MARKS];
+    let mut in_frames: [u32; RECORD_MARKS] = [0; RECORD_MARKS];
     rules::frames::frames_ok(
         z,
         frames,

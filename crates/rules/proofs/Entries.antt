@@ -6,7 +6,7 @@ use native.Mathlib.Nat.{mul-le-mul-right, suc-mul}
 use native.Mathlib.Omega.{arith}
 use native.Mathlib.Decide.{ℕ-discrete}
 use lib.Dec.{eqb}
-use Rattle.tables.specs.Rule.{Rule, same, non, _and_, _or_, _then_, named, Holds, test, alike}
+use Rattle.tables.specs.Rule.{Rule, same, below, non, _and_, _or_, _then_, named, Holds, test, alike}
 use Rattle.tables.specs.Turn.{learn, unlearn, named-one, when, unless, otherwise, both}
 use Rattle.model.specs.Rules.{fit}
 use Rattle.rules.specs.Passes.{filedRecord, mappedRecord, heldRecord, imagedRecord, heldEntries, imagedEntries}
@@ -90,6 +90,9 @@ module _ (state a b mark : ℕ) where
 -- an entry that fits is at most the number of what it names
 pub fit-le : (n m : ℕ) (entry : ℕ → ℕ) → Holds (fit n m entry) → (i : ℕ) → i < n → entry i ≤ m
 fit-le n m entry h i l = elim (ℕ-discrete (entry i) 0) [ yes e ↦ omega arith | no e ↦ omega (arith, h i l (entry i - 1) (omega arith)) ]
+
+pub named-le : (m e : ℕ) {b : Bool} → b ≡ true → b ≡ test (named e λ r. below r m) → e ≤ m
+named-le m e taken told = fit-le 1 m (λ i. e) (λ i h. learn (named e λ r. below r m) (sym taken ∙ told)) 0 (omega arith)
 
 -- part r of a table of m parts of w entries
 pub part : (r m w len : ℕ) → r < m → m * w ≤ len → r * w + w ≤ len

@@ -51,7 +51,7 @@ module _ (address state : ℕ → ℕ) (transfer page : ℕ) (d : ¬ (page ≡ 0
     held-page = told ∙ alike live-read (rule (page - 1)) up down ∙ named-one page rule d
 
 -- ── a queue's entry ──
-named-told : (n e : ℕ) → leb e n ≡ test (named e λ f. below f n)
+pub named-told : (n e : ℕ) → leb e n ≡ test (named e λ f. below f n)
 unfolding test
 named-told n zero = leb·zero n
 named-told n (suc f) = refl

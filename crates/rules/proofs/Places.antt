@@ -1,18 +1,19 @@
 -- How often each number is in a queue: what stands in the table of counts after the first k entries.
-use mathlib.Core.Path.{_≡_, ap, _∙_}
-use mathlib.Core.Bool.{Bool}
+use mathlib.Core.Path.{_≡_, ap, sym, _∙_}
+use mathlib.Core.Bool.{Bool, _&&_}
 use mathlib.Core.List.{List, _∷_}
-use Prim.Native.Nat.{ℕ, _+_, _-_, _<_, _≤_}
+use Prim.Native.Nat.{ℕ, suc, _+_, _-_, _<_, _≤_}
 use native.Mathlib.Numerals.{add-one}
 use native.Mathlib.Omega.{arith}
 use native.Mathlib.Decide.{ℕ-discrete}
 use lib.ListN.{length, drop, set, length-set, length-drop}
 use lib.Seq.{getD-set-same, getD-set-other, drop-cons}
 use Rattle.tables.specs.Base.{at}
-use Rattle.tables.specs.Queue.{members, times, size, queue}
+use Rattle.tables.specs.Queue.{members, times, size, queue, queueOf}
 use Rattle.tables.specs.QueueLaws.{at-members, size-members, size-le}
 use Rattle.tables.specs.QueueEntries.{size-more, size-found}
 use Rattle.tables.specs.Rule.{same, each, Holds, test}
+use Rattle.tables.specs.Turn.{each-next}
 use Rattle.tables.specs.TimesLaws.{times-here, times-other, times-le}
 use Rattle.rules.specs.Passes.{counted, queueEntry}
 
@@ -77,3 +78,11 @@ module _ (q t : List ℕ) where
 -- an entry by the entry after it
 pub next-entry : (n e x y : ℕ) (b : Bool) → x ≡ y → b ≡ test (queueEntry n e x) → b ≡ test (queueEntry n e y)
 next-entry n e x y b q h = h ∙ ap (λ (z : ℕ). test (queueEntry n e z)) q
+
+-- the last of some entries, y being the next one
+pub last-entry : (n count : ℕ) (q : List ℕ) (b x : Bool) (y : ℕ) → ¬ (count ≡ 0) → b ≡ test (each (count - 1) λ k. queueEntry n (at q k) (at q (suc k))) → x ≡ test (queueEntry n (at q (count - 1)) y) → y ≡ at q count
+    → b && x ≡ test (queueOf count n q)
+last-entry n count q b x y some p h e =
+    let back : suc (count - 1) ≡ count = omega arith in
+    let on : count - 1 + 1 ≡ count = omega arith in
+    each-next (count - 1) (λ k. queueEntry n (at q k) (at q (suc k))) b x p (next-entry n (at q (count - 1)) y (at q (suc (count - 1))) x (e ∙ ap (at q) (sym back)) h) ∙ ap (λ (m : ℕ). test (queueOf m n q)) on

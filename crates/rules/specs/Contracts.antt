@@ -10,8 +10,9 @@ use Rattle.model.specs.declared.frame.Frame.{Frame}
 use Rattle.model.specs.Sizes.{mostAccounts}
 use Rattle.model.specs.State.{frameAt}
 use Rattle.model.specs.Lent.{Ref, Table}
+use Rattle.model.specs.Rules.{fit}
 use Rattle.model.specs.Woven.{wovenPage}
-use Rattle.rules.specs.Passes.{Prefix, distinct, marked, heldRow, imagedRow, allEntries, frameRows, usedTable, framedTable, HeldFit, ImagedFit, FramesFit, countRoom}
+use Rattle.rules.specs.Passes.{Prefix, distinct, marked, heldRow, imagedRow, allEntries, addressOf, frameRows, usedTable, framedTable, HeldFit, ImagedFit, FramesFit, countRoom}
 
 -- ── the row of one slot ──
 -- the first i of n entries are marked, as given and as left
@@ -57,20 +58,21 @@ PagesLeft slots pages records marks image-marks totals accounts active maps addr
     × Holds (marked records (slots * pages) (at (images .entry .now)) (image-marks .exit .now))
     × Holds (usedTable slots pages (accounts .entry .now) (active .entry .now) (maps .entry .now) (addresses .entry .now) (states .entry .now) (totals .exit .now))
 
--- ── every frame: marks of pages that are off, and counts that have room for the frames ──
+-- ── every frame: marks of records that are off, and counts that have room for the frames ──
 abbrev pub FramesGiven : Sizes → (marks totals accounts active addresses states words records : Ref) → Type 0
 FramesGiven z marks totals accounts active addresses states words records =
     FramesFit z (accounts .now) (active .now) (addresses .now) (states .now) (words .now) (records .now)
-    × (length (addresses .now) ≤ 32 * length (marks .now)) × Holds (each (length (marks .now)) λ k. same (at (marks .now) k) 0)
+    × (length (states .now) ≤ 32 * length (marks .now)) × Holds (each (length (marks .now)) λ k. same (at (marks .now) k) 0)
     × (length (totals .now) ≡ mostAccounts) × Holds (each mostAccounts λ q. below (at (totals .now) q) countRoom)
 
--- no page is in two frames, and each frame keeps its rules and its words
+-- a frame's page is one of the pages, no record is that of two frames' pages, and each frame keeps its rules and its words
 abbrev pub framesEntered : Sizes → (frames : List Frame) (queued removing : List ℕ) (active addresses states words records : Table) → Rule
 framesEntered z frames queued removing active addresses states words records =
-    distinct (z .frames) (length (addresses .entry .now)) (λ f. frameAt frames f .page)
+    fit (z .frames) (length (addresses .entry .now)) (λ f. frameAt frames f .page)
+    and distinct (z .frames) (length (states .entry .now)) (λ f. addressOf (at (addresses .entry .now)) (frameAt frames f .page))
     and frameRows (z .frames) (z .words) (z .pages) frames (words .entry .now) (records .entry .now) (active .entry .now) (addresses .entry .now) (states .entry .now) queued removing
 
 abbrev pub FramesLeft : Sizes → (frames : List Frame) (marks totals accounts addresses states : Table) → Type 0
 FramesLeft z frames marks totals accounts addresses states =
-    Holds (marked (length (addresses .entry .now)) (z .frames) (λ f. frameAt frames f .page) (marks .exit .now))
+    Holds (marked (length (states .entry .now)) (z .frames) (λ f. addressOf (at (addresses .entry .now)) (frameAt frames f .page)) (marks .exit .now))
     × Holds (framedTable (z .frames) (z .pages) (λ f. wovenPage (frameAt frames f)) (accounts .entry .now) (addresses .entry .now) (states .entry .now) (totals .entry .now) (totals .exit .now))

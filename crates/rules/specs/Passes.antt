@@ -157,6 +157,10 @@ activePage pages active page = named page λ i. same (active (i / pages)) 1
 abbrev pub heldPage : (address state : ℕ → ℕ) (transfer page : ℕ) → Rule
 heldPage address state transfer page = named page λ i. non (same (address i) 0) and (same transfer READING then livePage (address i) state)
 
+-- the address of the page that an entry names, or 0 where it names none
+abbrev pub addressOf : (address : ℕ → ℕ) (page : ℕ) → ℕ
+addressOf address page = if (eqb page 0) 0 (address (page - 1))
+
 abbrev pub frameRow : (pages : ℕ) (active addresses states : List ℕ) (queued removing : ℕ) → Frame → Rule
 frameRow pages active addresses states queued removing x = switches x and onePlace queued removing x and (same (x .transfer) WRITING then same (x .modified) 1)
     and (non (same queued 0) then bare x) and (same queued 0 then non (same (x .page) 0)) and activePage pages (at active) (x .page) and heldPage (at addresses) (at states) (x .transfer) (x .page)

@@ -4,13 +4,13 @@ ghost use mathlib.Core.Bool.{true};
 ghost use Prim.Native.Nat.{_+_, _*_, _≤_, _<_};
 ghost use lib.ListN.{length};
 ghost use Rattle.tables.specs.Base.{at, if};
-ghost use Rattle.tables.specs.Rule.{same, below, non, _and_, _then_, each, test, Holds};
+ghost use Rattle.tables.specs.Rule.{same, below, non, _and_, _then_, each, named, test, Holds};
 ghost use lib.Dec.{eqb};
 ghost use Rattle.model.specs.Sizes.{mostAccounts};
 ghost use Rattle.model.specs.State.{NONE, WRITING};
 ghost use Rattle.model.specs.Rules.{fit};
 ghost use Rattle.model.specs.Woven.{wovenPage};
-ghost use Rattle.rules.specs.Passes.{switches, onePlace, bare, activePage, heldPage, frameRow, framedPage};
+ghost use Rattle.rules.specs.Passes.{switches, onePlace, bare, activePage, heldPage, frameRow, addressOf, framedPage};
 ghost use Rattle.rules.specs.Contracts.{FramesGiven, framesEntered, FramesLeft};
 use crate::clean::clean;
 use crate::counts::live_one;
@@ -152,8 +152,26 @@ pub fn charge(
     }
 }
 
-// Every frame. The pages in frames are marked, from marks that are off, so that none is in two; those that count as used by
-// their frames are counted.
+// A frame's page is one of the pages.
+fn page_fit(pages: usize, page: u16) -> bool
+    ensures { λ r. ⌜ r ≡ test (named page (λ i. below i pages)) ⌝ }
+{
+    page as usize <= pages
+}
+
+// The address of a page, or 0 for none.
+fn address_of(page: u16, addresses: &[u16]) -> u16
+    requires { ⌜ page ≤ length (now addresses) ⌝ }
+    ensures { λ r. ⌜ r ≡ addressOf (at (now (addresses .entry))) page ⌝ }
+{
+    if page == 0 {
+        return 0;
+    }
+    addresses[page as usize - 1]
+}
+
+// Every frame. The records of the pages in frames are marked, from marks that are off, so that none is in two; pages that count
+// as used by their frames are counted.
 pub fn frames_ok(
     z: Sizes,
     frames: [Frame; Sizes::MOST_FRAMES],
@@ -172,10 +190,14 @@ pub fn frames_ok(
     ensures { λ r. ⌜ (r ≡ test (framesEntered z frames queued removing active addresses states words records)) × (r ≡ true → FramesLeft z frames marks totals accounts addresses states) ⌝ }
 {
     let n = addresses.len();
+    let most = states.len();
     let mut f = 0;
     while f < z.frames {
         let x = frames[f];
-        if mark_entry(x.page, n, marks) {} else {
+        if page_fit(n, x.page) {} else {
+            return false;
+        }
+        if mark_entry(address_of(x.page, addresses), most, marks) {} else {
             return false;
         }
         if frame_ok(

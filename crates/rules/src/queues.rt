@@ -10,25 +10,30 @@ ghost use Rattle.rules.specs.Passes.{queueEntry, counted};
 use leaves::cells::at16;
 use model::sizes::Sizes;
 
-fn entry_ok(bound: usize, entry: u16, next: u16) -> bool
+fn entry_ok(bound: u16, entry: u16, next: u16) -> bool
     ensures { λ r. ⌜ r ≡ test (queueEntry bound entry next) ⌝ }
 {
-    (entry as usize <= bound) & (!(entry == 0) | (next == 0))
+    (entry <= bound) & (!(entry == 0) | (next == 0))
 }
 
-// The first `count` entries name numbers below the bound, and after a 0 there are only zeros.
+// The first `count` entries name numbers below the bound, and after a 0 there are only zeros: all are looked at, so that many are
+// compared at once.
 pub fn queue(count: usize, bound: usize, entries: &[u16]) -> bool
-    requires { ⌜ count ≤ length (now entries) ⌝ }
+    requires { ⌜ (count ≤ length (now entries)) × (bound < 65536) ⌝ }
     ensures { λ r. ⌜ r ≡ test (queueOf count bound (now (entries .entry))) ⌝ }
 {
+    if count == 0 {
+        return true;
+    }
+    let most = bound as u16;
+    let last = count - 1;
+    let mut ok = true;
     let mut k = 0;
-    while k < count {
-        if entry_ok(bound, entries[k], at16(entries, k + 1)) {} else {
-            return false;
-        }
+    while k < last {
+        ok = ok & entry_ok(most, entries[k], entries[k + 1]);
         k += 1;
     }
-    true
+    ok & entry_ok(most, entries[last], at16(entries, count))
 }
 
 // How often each frame is in the queue, from a table of zeros.

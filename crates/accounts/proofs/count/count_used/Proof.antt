@@ -5,6 +5,7 @@ use mathlib.Core.List.{List}
 use Prim.Native.Nat.{ℕ}
 use native.Mathlib.Omega.{arith}
 use lib.ListN.{length-replicate}
+use Rattle.tables.specs.Laws.{at-zeros}
 use Rattle.model.specs.Bounds.{pages-most}
 use Rattle.accounts.proofs.Counted.{payers-enough, payers-few, pages-inside, sums-few, counts}
 use Rattle.accounts.proofs.count.count_used.Statement.{statement}
@@ -15,6 +16,12 @@ begun p = search
 
 abbrev payers : tie.After-fill-payers → List ℕ
 payers p = p .fill-payers .last .1 .1 .1 .0
+
+fill-payers-requires : tie.Need-fill-payers-requires
+fill-payers-requires c κs =
+    let s : tie.Start = search in
+    let k = s .pre .0 in
+    (omega (arith, length-replicate {A = ℕ} 64 0, k .accounts-long, k .within .slots-most), λ i h. at-zeros 64 i)
 
 count-slots-requires : tie.Need-count-slots-requires
 count-slots-requires c κs =
@@ -58,4 +65,4 @@ returns c =
     (u .count-slots .last .1 .1 .0) (v .count-frames .last .1 .1 .0) (u .count-slots .ensures) (v .count-frames .ensures)
 
 pub count-used-spec : {M : Type 1} → statement M
-count-used-spec = tie.close (tie.spec (λ c. search needs) (λ c κs. search needs) (λ c. search needs) count-slots-requires (λ c. search needs) count-frames-requires (λ c. search needs) returns)
+count-used-spec = tie.close (tie.spec (λ c. search needs) fill-payers-requires (λ c. search needs) count-slots-requires (λ c. search needs) count-frames-requires (λ c. search needs) returns)

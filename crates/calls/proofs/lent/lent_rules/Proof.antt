@@ -27,7 +27,7 @@ all-rules-requires : tie.Need-all-rules-requires
 all-rules-requires c κs = let s : tie.Start = search in fit-quiet (s .args .sizes) (lent s) (s .args .line .now) (s .pre)
 
 queue-requires : tie.Need-queue-requires
-queue-requires c κs = let s : tie.Start = search in omega (arith, fits s .memory .line)
+queue-requires c κs = let s : tie.Start = search in (omega (arith, fits s .memory .line), omega (arith, pages-most (s .args .sizes) (fits s .sizes)))
 
 returns : tie.Need-returns
 returns c =

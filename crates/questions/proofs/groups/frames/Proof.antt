@@ -8,7 +8,6 @@ use Rattle.tables.specs.Queue as lists
 use Rattle.tables.specs.Rule.{_and_, Holds}
 use Rattle.tables.specs.Turn.{learn, unlearn, not-so, both}
 use Rattle.tables.specs.Laws.{at-zeros}
-use Rattle.model.specs.Bounds.{pages-most}
 use Rattle.rules.proofs.Marked.{not-true}
 use Rattle.questions.proofs.Shapes.{all-zero}
 use Rattle.questions.proofs.GroupLaws.{both-true, frames-fit, frames-decide}
@@ -25,6 +24,13 @@ module _ (c : tie.Then1) where
 
   list-queued : Holds (lists.queue (begun .args .z .frames) (begun .args .removal-list .now))
   list-queued = learn (lists.queue _ (begun .args .removal-list .now)) (sym (both-true (c .before .before .queue .result) (c .before .queue2 .result) (c .if1 .taken) .1) ∙ c .before .queue2 .ensures)
+
+-- a queue has one entry for each frame
+queue-requires : tie.Need-queue-requires
+queue-requires c κs = let s : tie.Start = search in let pre = s .pre in (omega (arith, pre .0 .free-long), omega (arith, pre .0 .within .frames-most))
+
+queue-requires-2 : tie.Need-queue-requires-2
+queue-requires-2 c κs = let s : tie.Start = search in let pre = s .pre in (omega (arith, pre .0 .removal-long), omega (arith, pre .0 .within .frames-most))
 
 returns : tie.Need-returns
 returns c =
@@ -45,9 +51,9 @@ frames-ok-requires : tie.Need-frames-ok-requires
 frames-ok-requires c κs =
     let s : tie.Start = search in
     let a = s .args in (
-      frames-fit (a .z) (a .accounts .now) (a .records .now) (a .words .now) (a .free-queue .now) (a .removal-list .now) (a .addresses .now) (a .states .now) (a .active .now) (s .pre .0) (s .pre .1) (s .pre .2),
-      omega (arith, length-replicate {A = ℕ} 512 0, pages-most (a .z) (s .pre .0 .within), s .pre .0 .addresses-long),
-      λ k h. at-zeros 512 k,
+      frames-fit (a .z) (a .accounts .now) (a .records .now) (a .words .now) (a .free-queue .now) (a .removal-list .now) (a .addresses .now) (a .states .now) (a .active .now) (s .pre .0) (s .pre .1 .0) (s .pre .2),
+      omega (arith, length-replicate {A = ℕ} 128 0, s .pre .0 .within .records-most, s .pre .0 .states-long),
+      λ k h. at-zeros 128 k,
       s .pre .3,
       s .pre .4,
     )
@@ -61,9 +67,9 @@ returns-2 c =
     let s = begun t in
     let a = s .args in (
       frames-ok .ensures .0 ∙ frames-decide (a .z) (a .accounts .now) (a .records .now) (a .words .now) (a .free-queue .now) (a .removal-list .now) (a .addresses .now) (a .states .now) (a .active .now)
-          (s .pre .0) (a .frames) (places .result) (places2 .result) (places .ensures) (places2 .ensures) (free-queued t) (list-queued t),
+          (s .pre .0) (a .frames) (places .result) (places2 .result) (s .pre .1) (places .ensures) (places2 .ensures) (free-queued t) (list-queued t),
       λ e. frames-ok .ensures .1 e .1,
     )
 
 pub frames-spec : {M : Type 1} → statement M
-frames-spec = tie.close (tie.spec (λ c κs. search needs) (λ c κs. search needs) returns places-requires places-requires-2 (λ c. search needs) frames-ok-requires (λ c. search needs) returns-2)
+frames-spec = tie.close (tie.spec queue-requires queue-requires-2 returns places-requires places-requires-2 (λ c. search needs) frames-ok-requires (λ c. search needs) returns-2)

@@ -73,6 +73,11 @@ returns c =
     let s : tie.Start = search in
     no-disk (s .args .z) (lent s) (fits s) (sym (c .if1 .left) ∙ c .before .before .disk .ensures .0)
 
+fill-payers-requires : tie.Need-fill-payers-requires
+fill-payers-requires c κs =
+    let s : tie.Start = search in
+    (omega (arith, length-replicate {A = ℕ} 64 0, fits s .disk .accounts, fits s .sizes .slots-most), λ k h. at-zeros 64 k)
+
 files-requires : tie.Need-files-requires
 files-requires c κs =
     let p : tie.After-fill-payers = search in let disk = at-disk p .disk in let s = first p in let t = on p in
@@ -91,7 +96,7 @@ frames-requires c κs =
     let after-files : tie.After-files = search in let files = after-files .files in
     let st = lent s in (
       frames-long (s .args .z) st (fits s) (payers p) (enough p),
-      rw (fits s .memory .addresses) ((learn _ (sym (u .if2 .taken) ∙ files .ensures .0)) .0 .1 .0 .0),
+      rw (fits s .memory .addresses) ((learn _ (sym (u .if2 .taken) ∙ files .ensures .0)) .0 .1 .0),
       few p,
       files .kept .1 .0 ∙ length-replicate {A = ℕ} 16 0,
       sums-small (s .args .z .slots) (s .args .z .pages) (payers p) (st .memory .slots .active) (st .disk .maps) (st .memory .held .addresses) (st .memory .held .states) (files .last .1 .0) (omega (arith, pages-most (s .args .z) (fits s .sizes))) (files .ensures .1 (u .if2 .taken)),
@@ -120,5 +125,5 @@ returns-4 c =
 pub all-rules-spec : {M : Type 1} → statement M
 all-rules-spec =
     tie.close
-    (tie.spec (λ c. search needs) disk-requires returns (λ c. search needs) (λ c κs. search needs) (λ c. search needs) (λ c. search needs) (λ c. search needs) files-requires returns-2
+    (tie.spec (λ c. search needs) disk-requires returns (λ c. search needs) fill-payers-requires (λ c. search needs) (λ c. search needs) (λ c. search needs) files-requires returns-2
     (λ c. search needs) (λ c. search needs) frames-requires returns-3 (λ c. search needs) counts-requires returns-4)

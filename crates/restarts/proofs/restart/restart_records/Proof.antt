@@ -3,7 +3,9 @@ use borrow.Author.Needs.{needs}
 use mathlib.Core.Path.{_≡_, ap, sym, _∙_}
 use mathlib.Core.List.{List}
 use Prim.Native.Nat.{ℕ}
+use native.Mathlib.Omega.{arith}
 use lib.ListN.{length-replicate}
+use Rattle.tables.specs.Laws.{at-zeros}
 use Rattle.tables.specs.Base.{at}
 use Rattle.model.specs.State.{freeCount}
 use Rattle.model.specs.Restart.{restarted}
@@ -18,6 +20,11 @@ file-records-requires : tie.Need-file-records-requires
 file-records-requires c κs =
     let s : tie.Start = search in
     let a = s .args in to-file (a .sizes) (a .accounts .now) (a .maps .now) (a .limits .now) (a .parents .now) (a .states .now) (a .owners .now) (a .free-map .now) (a .used .now) (s .pre)
+
+fill-payers-requires : tie.Need-fill-payers-requires
+fill-payers-requires c κs =
+    let s : tie.Start = search in
+    (omega (arith, length-replicate {A = ℕ} 64 0, s .pre .accounts-long, s .pre .within .slots-most), λ k h. at-zeros 64 k)
 
 count-used-requires : tie.Need-count-used-requires
 count-used-requires c κs =
@@ -53,4 +60,4 @@ returns c =
 
 pub restart-records-spec : {M : Type 1} → statement M
 restart-records-spec =
-    tie.close (tie.spec file-records-requires (λ c. search needs) (λ c κs. search needs) (λ c. search needs) count-used-requires (λ c κs. search needs) (λ c. search needs) (λ c. search needs) (λ c. search needs) (λ c. search needs) returns)
+    tie.close (tie.spec file-records-requires (λ c. search needs) fill-payers-requires (λ c. search needs) count-used-requires (λ c κs. search needs) (λ c. search needs) (λ c. search needs) (λ c. search needs) (λ c. search needs) returns)

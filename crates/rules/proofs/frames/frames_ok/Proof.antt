@@ -1,31 +1,32 @@
--- The invariant: each frame before f keeps its rules and is clean, their pages are marked, each once, and those that count as used by their frames are counted.
+-- The invariant: each frame before f keeps its rules and is clean, their pages are there, their records are marked, each once, and the pages that count as used by their frames are counted.
 use borrow.Author.Needs.{needs}
 use mathlib.Core.Path.{_≡_, refl, sym, _∙_}
-use Prim.Native.Nat.{_-_, _<_, _≤_}
+use mathlib.Core.Bool.{true}
+use Prim.Native.Nat.{ℕ, _-_, _<_, _≤_}
 use native.Mathlib.Nat.{le-trans, mul-le-mul-right}
 use native.Mathlib.Omega.{arith}
 use lib.ListN.{length}
 use Rattle.tables.specs.Base.{at}
-use Rattle.tables.specs.Rule.{_and_}
+use Rattle.tables.specs.Rule.{_and_, below, named, test}
 use Rattle.tables.specs.Turn.{Passed, none, again, done, learn, unlearn, yes-so, not-so, both}
 use Rattle.model.specs.State.{frameAt}
 use Rattle.model.specs.Woven.{wovenPage, woven-least}
-use Rattle.rules.specs.Passes.{Prefix, frameRow, cleanFrame}
-use Rattle.rules.proofs.Entries.{part}
+use Rattle.rules.specs.Passes.{Prefix, unmarked, noted, addressOf, frameRow, cleanFrame}
+use Rattle.rules.proofs.Entries.{part, named-le}
 use Rattle.rules.proofs.Marked.{start, step, stuck, ended, not-true}
-use Rattle.rules.proofs.ByRow.{passed-le}
 use Rattle.rules.proofs.Charges.{Tallied, tallied-none, tallied-next, tallied-few, tallied-all}
 use Rattle.rules.proofs.frames.frames_ok.Statement.{statement}
 use Rattle.rules.proofs.frames.frames_ok.Tie as tie
 
 abbrev Inv-loop : tie.InvT-loop
-Inv-loop z marks₀ totals₀ accounts active addresses states words records frames queued removing n f₀ marks totals f =
+Inv-loop z marks₀ totals₀ accounts active addresses states words records frames queued removing n most f₀ marks totals f =
     Passed f (λ k. frameRow (z .pages) active addresses states (at queued k) (at removing k) (frameAt frames k) and cleanFrame (z .words) (frameAt frames k) k words records addresses states)
-    × Prefix (length addresses) (z .frames) (λ k. frameAt frames k .page) (length marks₀) marks f
+    × Prefix (length states) (z .frames) (λ k. addressOf (at addresses) (frameAt frames k .page)) (length marks₀) marks f
     × Tallied (z .pages) (λ k. wovenPage (frameAt frames k)) accounts addresses states totals₀ f totals
+    × Passed f (λ k. named (frameAt frames k .page) λ i. below i (length addresses))
 
 abbrev μ-loop : tie.MeasureT-loop
-μ-loop z marks₀ totals₀ accounts active addresses states words records frames queued removing n f₀ marks totals f = z .frames - f
+μ-loop z marks₀ totals₀ accounts active addresses states words records frames queued removing n most f₀ marks totals f = z .frames - f
 
 -- from the loop back to the start
 abbrev begun : tie.At-loop Inv-loop μ-loop → tie.Start Inv-loop μ-loop
@@ -34,7 +35,7 @@ begun at-loop = search
 loop-holds : tie.Need-loop-holds Inv-loop μ-loop
 loop-holds c =
     let s₀ : tie.Start Inv-loop μ-loop = search in let pre = s₀ .pre in
-    (none _, start _ _ _ _ _ refl (pre .1) (pre .2), tallied-none _ _ _ _ _ _ (pre .3))
+    (none _, start _ _ _ _ _ refl (pre .1) (pre .2), tallied-none _ _ _ _ _ _ (pre .3), none _)
 
 -- the frame that a turn looks at is one of the 64
 module _ (c : tie.Then1 Inv-loop μ-loop) where
@@ -43,39 +44,58 @@ module _ (c : tie.Then1 Inv-loop μ-loop) where
       let s₀ = begun (c .before .before) in
       omega (arith, c .if1 .taken, s₀ .pre .0 .few)
 
-mark-entry-requires : tie.Need-mark-entry-requires Inv-loop μ-loop
-mark-entry-requires c κs =
-    let at-loop : tie.At-loop Inv-loop μ-loop = search in let loop = at-loop .loop in
-    omega (arith, loop .inv .1 .enough, loop .inv .1 .sized)
-
-returns : tie.Need-returns Inv-loop μ-loop
-returns c =
-    let after-mark-entry : tie.After-mark-entry Inv-loop μ-loop = search in let mark-entry = after-mark-entry .mark-entry in
-    let then1 : tie.Then1 Inv-loop μ-loop = search in
-    let at-loop : tie.At-loop Inv-loop μ-loop = search in let loop = at-loop .loop in
-    (not-so _ (λ h. stuck _ _ _ _ _ _ (loop .inv .1) (then1 .if1 .taken) (unlearn _ (sym (c .if2 .left) ∙ mark-entry .ensures .0)) (h .0)), not-true)
-
 -- the frame's page is one of the pages
 module _ (c : tie.Then2 Inv-loop μ-loop) where
   abbrev turn : tie.At-loop Inv-loop μ-loop
   turn = search
 
-  abbrev marking : tie.After-mark-entry Inv-loop μ-loop
-  marking = search
-
   page-fits : frameAt (begun turn .args .t2) (turn .loop .f) .page ≤ length (begun turn .args .addresses .now)
-  page-fits =
-      let args = begun turn .args in let loop = turn .loop in
-      passed-le (length (args .addresses .now)) (loop .marks) (frameAt (args .t2) (loop .f) .page) (c .if2 .taken) (marking .mark-entry .ensures .0)
+  page-fits = named-le (length (begun turn .args .addresses .now)) (frameAt (begun turn .args .t2) (turn .loop .f) .page) (c .if2 .taken) (c .before .page-fit .ensures)
 
   woven-fits : wovenPage (frameAt (begun turn .args .t2) (turn .loop .f)) ≤ length (begun turn .args .addresses .now)
   woven-fits = woven-least (frameAt (begun turn .args .t2) (turn .loop .f)) page-fits
 
+mark-entry-requires : tie.Need-mark-entry-requires Inv-loop μ-loop
+mark-entry-requires c κs =
+    let at-loop : tie.At-loop Inv-loop μ-loop = search in let loop = at-loop .loop in
+    omega (arith, loop .inv .1 .enough, loop .inv .1 .sized)
+
+-- what is marked is the page's record
+module _ (c : tie.After-mark-entry Inv-loop μ-loop) where
+  abbrev looked : tie.After-address-of Inv-loop μ-loop
+  looked = search
+
+  abbrev round : tie.At-loop Inv-loop μ-loop
+  round = search
+
+  abbrev address : ℕ
+  address = addressOf (at (begun round .args .addresses .now)) (frameAt (begun round .args .t2) (round .loop .f) .page)
+
+  told-of : c .mark-entry .result ≡ test (unmarked (length (begun round .args .states .now)) (round .loop .marks) address)
+  told-of = rw (looked .address-of .ensures) at (c .mark-entry .ensures .0)
+
+  noted-of : c .mark-entry .result ≡ true → c .mark-entry .last .1 .1 .0 ≡ noted (round .loop .marks) address
+  noted-of e = rw (looked .address-of .ensures) at (c .mark-entry .ensures .1 e)
+
+returns : tie.Need-returns Inv-loop μ-loop
+returns c =
+    let then1 : tie.Then1 Inv-loop μ-loop = search in
+    let at-loop : tie.At-loop Inv-loop μ-loop = search in let loop = at-loop .loop in
+    (not-so _ (λ h. unlearn _ (sym (c .if2 .left) ∙ c .before .page-fit .ensures) (h .0 (loop .f) (then1 .if1 .taken))), not-true)
+
+returns-2 : tie.Need-returns-2 Inv-loop μ-loop
+returns-2 c =
+    let marking : tie.After-mark-entry Inv-loop μ-loop = search in
+    let then1 : tie.Then1 Inv-loop μ-loop = search in
+    let at-loop : tie.At-loop Inv-loop μ-loop = search in let loop = at-loop .loop in
+    (not-so _ (λ h. stuck _ _ _ _ _ _ (loop .inv .1) (then1 .if1 .taken) (unlearn _ (sym (c .if3 .left) ∙ told-of marking)) (h .1 .0)), not-true)
+
 frame-ok-requires : tie.Need-frame-ok-requires Inv-loop μ-loop
 frame-ok-requires c κs =
+    let t : tie.Then2 Inv-loop μ-loop = search in
     let at-loop : tie.At-loop Inv-loop μ-loop = search in
     let s₀ = begun at-loop in let pre = s₀ .pre in
-    (pre .0 .pages, omega (arith, page-fits c, pre .0 .addresses-long), page-fits c, pre .0 .addresses-fit)
+    (pre .0 .pages, omega (arith, page-fits t, pre .0 .addresses-long), page-fits t, pre .0 .addresses-fit)
 
 clean-requires : tie.Need-clean-requires Inv-loop μ-loop
 clean-requires c κs =
@@ -85,11 +105,11 @@ clean-requires c κs =
     let s₀ = begun at-loop in let args = s₀ .args in let pre = s₀ .pre in
     (part (at-loop .loop .f) (args .z .frames) (args .z .words) (length (args .words .now)) (then1 .if1 .taken) (pre .0 .words-long), pre .0 .records-long, page-fits t, pre .0 .addresses-fit)
 
-returns-2 : tie.Need-returns-2 Inv-loop μ-loop
-returns-2 c =
+returns-3 : tie.Need-returns-3 Inv-loop μ-loop
+returns-3 c =
     let then1 : tie.Then1 Inv-loop μ-loop = search in
     let at-loop : tie.At-loop Inv-loop μ-loop = search in let loop = at-loop .loop in
-    (not-so _ (λ h. unlearn _ (sym (c .if3 .left) ∙ both _ _ _ _ (c .before .before .frame-ok .ensures) (c .before .clean .ensures)) (h .1 (loop .f) (then1 .if1 .taken))), not-true)
+    (not-so _ (λ h. unlearn _ (sym (c .if4 .left) ∙ both _ _ _ _ (c .before .before .frame-ok .ensures) (c .before .clean .ensures)) (h .1 .1 (loop .f) (then1 .if1 .taken))), not-true)
 
 charge-requires : tie.Need-charge-requires Inv-loop μ-loop
 charge-requires c κs =
@@ -105,23 +125,24 @@ loop-again : tie.Need-loop-again Inv-loop μ-loop
 loop-again c =
     let k : tie.After-charge Inv-loop μ-loop = search in
     let w : tie.After-woven-page Inv-loop μ-loop = search in
-    let e : tie.Then3 Inv-loop μ-loop = search in
+    let e : tie.Then4 Inv-loop μ-loop = search in
     let after-frame-ok : tie.After-frame-ok Inv-loop μ-loop = search in
+    let m : tie.Then3 Inv-loop μ-loop = search in
+    let marking : tie.After-mark-entry Inv-loop μ-loop = search in
     let t : tie.Then2 Inv-loop μ-loop = search in
-    let after-mark-entry : tie.After-mark-entry Inv-loop μ-loop = search in
     let then1 : tie.Then1 Inv-loop μ-loop = search in
-    let at-loop : tie.At-loop Inv-loop μ-loop = search in let loop = at-loop .loop in
-    let mark-entry = after-mark-entry .mark-entry in (
-      again _ _ (loop .inv .0) (sym (e .if3 .taken) ∙ both _ _ _ _ (after-frame-ok .frame-ok .ensures) (e .before .clean .ensures)),
-      rw (mark-entry .ensures .1 (t .if2 .taken)) (step _ _ _ _ _ _ (loop .inv .1) (then1 .if1 .taken) (learn _ (sym (t .if2 .taken) ∙ mark-entry .ensures .0))),
+    let at-loop : tie.At-loop Inv-loop μ-loop = search in let loop = at-loop .loop in (
+      again _ _ (loop .inv .0) (sym (e .if4 .taken) ∙ both _ _ _ _ (after-frame-ok .frame-ok .ensures) (e .before .clean .ensures)),
+      rw (noted-of marking (m .if3 .taken)) (step _ _ _ _ _ _ (loop .inv .1) (then1 .if1 .taken) (learn _ (sym (m .if3 .taken) ∙ told-of marking))),
       tallied-next _ _ _ _ _ _ _ _ (loop .inv .2) _ (k .charge .kept .1 .1 .0) (rw (w .woven-page .ensures) at (k .charge .ensures)),
+      again _ _ (loop .inv .3) (sym (t .if2 .taken) ∙ t .before .page-fit .ensures),
     )
 
-returns-3 : tie.Need-returns-3 Inv-loop μ-loop
-returns-3 c =
+returns-4 : tie.Need-returns-4 Inv-loop μ-loop
+returns-4 c =
     let loop = c .before .before .loop in
     let w = ended _ _ _ _ _ _ (loop .inv .1) (c .if1 .left) in
-    (yes-so _ (w .0, learn _ (done _ _ _ (loop .inv .0) (c .if1 .left))), λ e. (w .1, tallied-all _ _ _ _ _ _ _ _ (loop .inv .2) _ (loop .inv .1 .room) (c .if1 .left)))
+    (yes-so _ (learn _ (done _ _ _ (loop .inv .3) (c .if1 .left)), (w .0, learn _ (done _ _ _ (loop .inv .0) (c .if1 .left)))), λ e. (w .1, tallied-all _ _ _ _ _ _ _ _ (loop .inv .2) _ (loop .inv .1 .room) (c .if1 .left)))
 
 -- no table changes its length
 module _ (turn : tie.At-loop Inv-loop μ-loop) where
@@ -145,5 +166,6 @@ loop-less c =
 pub frames-ok-spec : {M : Type 1} → statement M
 frames-ok-spec =
     tie.close
-    (tie.spec Inv-loop μ-loop loop-holds (λ c. omega (arith, within c)) within mark-entry-requires (λ c. marked-long search) (λ c. totals-long search) returns (λ c. within search) (λ c. within search)
-    frame-ok-requires clean-requires (λ c. marked-long search) (λ c. totals-long search) returns-2 (λ c κs. search needs) charge-requires add-f loop-less loop-again (λ c. marks-long search) (λ c. totals-long search) returns-3)
+    (tie.spec Inv-loop μ-loop loop-holds (λ c. omega (arith, within c)) within (λ c κs. search needs) (λ c. marks-long search) (λ c. totals-long search) returns (λ c κs. page-fits c) mark-entry-requires
+    (λ c. marked-long search) (λ c. totals-long search) returns-2 (λ c. within search) (λ c. within search) frame-ok-requires clean-requires (λ c. marked-long search) (λ c. totals-long search) returns-3
+    (λ c κs. search needs) charge-requires add-f loop-less loop-again (λ c. marks-long search) (λ c. totals-long search) returns-4)
