@@ -24,8 +24,8 @@ SlotsGiven slots pages totals payers active maps addresses states =
     × Holds (each slots λ s. below (at (payers .now) s) mostAccounts)
     × (length (totals .now) ≡ mostAccounts) × Holds (each mostAccounts λ q. same (at (totals .now) q) 0)
 
-abbrev pub slotsLeft : (slots pages : ℕ) (totals payers active maps addresses states : Table) → Type 0
-slotsLeft slots pages totals payers active maps addresses states =
+abbrev pub SlotsLeft : (slots pages : ℕ) (totals payers active maps addresses states : Table) → Type 0
+SlotsLeft slots pages totals payers active maps addresses states =
     Holds (usedTable slots pages (payers .entry .now) (active .entry .now) (maps .entry .now) (addresses .entry .now) (states .entry .now) (totals .exit .now))
 
 -- ── every frame ──
@@ -36,8 +36,8 @@ FramesGiven z frames totals payers addresses states =
     × Holds (each (length (payers .now)) λ s. below (at (payers .now) s) mostAccounts)
     × (length (totals .now) ≡ mostAccounts) × Holds (each mostAccounts λ q. below (at (totals .now) q) countRoom)
 
-abbrev pub framesLeft : Sizes → List Frame → (totals payers addresses states : Table) → Type 0
-framesLeft z frames totals payers addresses states =
+abbrev pub FramesLeft : Sizes → List Frame → (totals payers addresses states : Table) → Type 0
+FramesLeft z frames totals payers addresses states =
     Holds (framedTable (z .frames) (z .pages) (λ f. wovenPage (frameAt frames f)) (payers .entry .now) (addresses .entry .now) (states .entry .now) (totals .entry .now) (totals .exit .now))
 
 -- ── all that count ──
@@ -54,8 +54,8 @@ pub record Countable (z : Sizes) (fs : List Frame) (accounts maps addresses stat
   pub address-fit : Holds (fit (allPages z) (z .records) (at addresses))
   pub seated : Seated z (at active) (frames (seen fs accounts maps [] [] addresses states active []))
 
-abbrev pub Given : Sizes → List Frame → (totals accounts maps addresses states active : Ref) → Type 0
-Given z frames totals accounts maps addresses states active =
+abbrev pub CountsGiven : Sizes → List Frame → (totals accounts maps addresses states active : Ref) → Type 0
+CountsGiven z frames totals accounts maps addresses states active =
     Countable z (take (z .frames) frames) (accounts .now) (maps .now) (addresses .now) (states .now) (active .now)
     × (length (totals .now) ≡ mostAccounts) × Holds (each mostAccounts λ q. same (at (totals .now) q) 0)
 

@@ -6,7 +6,7 @@ ghost use Rattle.tables.specs.Base.{at, if, count};
 ghost use Rattle.tables.specs.Rule.{Holds};
 ghost use Rattle.model.specs.Rules.{fit};
 ghost use Rattle.rules.specs.Passes.{mostEntries, usedPage, usedTable, framedTable};
-ghost use Rattle.accounts.specs.Contracts.{SlotsGiven, slotsLeft, FramesGiven, framesLeft, Given, CountsLeft};
+ghost use Rattle.accounts.specs.Contracts.{SlotsGiven, SlotsLeft, FramesGiven, FramesLeft, CountsGiven, CountsLeft};
 use leaves::payer::fill_payers;
 use model::frame::Frame;
 use model::sizes::Sizes;
@@ -61,7 +61,7 @@ fn count_slots(
     states: &[u8],
 )
     requires { ⌜ SlotsGiven slots pages totals payers active maps addresses states ⌝ }
-    ensures { λ _. ⌜ slotsLeft slots pages totals payers active maps addresses states ⌝ }
+    ensures { λ _. ⌜ SlotsLeft slots pages totals payers active maps addresses states ⌝ }
 {
     let mut s = 0;
     while s < slots {
@@ -82,7 +82,7 @@ fn count_frames(
     states: &[u8],
 )
     requires { ⌜ FramesGiven z frames totals payers addresses states ⌝ }
-    ensures { λ _. ⌜ framesLeft z frames totals payers addresses states ⌝ }
+    ensures { λ _. ⌜ FramesLeft z frames totals payers addresses states ⌝ }
 {
     let mut f = 0;
     while f < z.frames {
@@ -111,7 +111,7 @@ pub fn count_used(
     states: &[u8],
     active: &[u8],
 )
-    requires { ⌜ Given z frames totals accounts maps addresses states active ⌝ }
+    requires { ⌜ CountsGiven z frames totals accounts maps addresses states active ⌝ }
     ensures { λ _. ⌜ CountsLeft z frames totals accounts maps limits parents addresses states active ⌝ }
 {
     let mut payers: [u16; Sizes::MOST_SLOTS] = [0; Sizes::MOST_SLOTS];

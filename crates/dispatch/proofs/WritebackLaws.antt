@@ -4,14 +4,13 @@ use mathlib.Core.Bool.{Bool, true, false}
 use mathlib.Core.List.{List, []}
 use Prim.Native.Nat.{ℕ}
 use lib.Dec.{eqb}
-use lib.ListN.{take}
 use Rattle.tables.specs.Base.{if}
 use Rattle.tables.specs.Questions.{firstNo, yes-all}
 use Rattle.model.specs.declared.sizes.Sizes.{Sizes}
 use Rattle.model.specs.declared.frame.Frame.{Frame}
 use Rattle.model.specs.declared.frame.Pool.{Pool}
 use Rattle.model.specs.declared.event.Answer.{Answer}
-use Rattle.model.specs.State.{Core, Held, Slots, State, frames, READING, payer, charged}
+use Rattle.model.specs.State.{Core, Held, Slots, State, files, frames, freeCount, READING, payer, charged}
 use Rattle.model.specs.Setters.{counted}
 use Rattle.model.specs.Questions.{questions, wouldStore}
 use Rattle.model.specs.Parts.{frameOf}
@@ -19,13 +18,16 @@ use Rattle.model.specs.Writeback
 use Rattle.model.specs.Lent.{stateIn, stateOf, same-state, noPool}
 use Rattle.model.specs.Step.{Outcome, outcome, carried, result}
 use Rattle.model.specs.Own.{own, leaves}
-use Rattle.model.specs.OwnLaws.{outcome-no}
-use Rattle.writeback.specs.Claim.{claim, usedThen, ClaimLeft}
-use Rattle.writeback.specs.Done.{pageDone, DoneLeft}
-use Rattle.writeback.specs.MapDone.{mapDone, MapLeft}
+use Rattle.model.specs.OwnLaws.{own-yes, own-no, outcome-no}
+use Rattle.model.specs.Pool.{deposited}
+use Rattle.writeback.specs.Claim.{usedThen}
+use Rattle.writeback.specs.Seen.{claim, truncate, update, pageDone, mapDone}
 use Rattle.writeback.specs.Truncate as T
-use Rattle.writeback.specs.Truncate.{truncate, TruncateLeft}
-use Rattle.writeback.specs.Update.{update, UpdateLeft}
+use Rattle.writeback.proofs.ClaimWork as ClaimWork
+use Rattle.writeback.proofs.DoneWork as DoneWork
+use Rattle.writeback.proofs.MapWork as MapWork
+use Rattle.writeback.proofs.TruncateWork as TruncateWork
+use Rattle.writeback.proofs.UpdateWork as UpdateWork
 use Rattle.writeback.proofs.ClaimLaws.{claim-left}
 use Rattle.writeback.proofs.DoneLaws.{page-done-left}
 use Rattle.writeback.proofs.Laws.{map-done-left, update-left}
@@ -60,71 +62,72 @@ module _ (z : Sizes) (st : State) (k : Kept z st) where
         → P (Writeback.writeGood z done-sees f) ≡ P (Writeback.writeGood z st f) → P (Writeback.writeFailed z done-sees f) ≡ P (Writeback.writeFailed z st f) → P (four done-sees) ≡ P (four st)
     done-same P a b c d = by-two P (eqb (frames st .frame f .transfer) READING) (by-two P (eqb good 1) a b) (by-two P (eqb good 1) c d)
 
-    pub page-done-own : {fs : List Frame} {a : Answer} {rs ws fq rl ss : List ℕ} → DoneLeft (own z done-sees (pageDone f good)) (z .frames) fs a rs ws fq rl ss
-        → leaves a (stateIn (st .memory .line) (take (z .frames) fs) (held .pool) rs (st .disk .numbers) (st .disk .accounts) (st .disk .maps) (st .disk .limits) (st .disk .parents) ws fq rl (held .addresses) ss (held .owners) (held .free-map) (slots .active) (slots .updating) (slots .images) (st .memory .used))
+    pub page-done-own : {fs : List Frame} {a : Answer} {rs ws fq rl ss : List ℕ} → DoneWork.Said (own z done-sees (pageDone f good)) fs a rs ws fq rl ss
+        → leaves a (stateIn (st .memory .line) fs (held .pool) rs (st .disk .numbers) (st .disk .accounts) (st .disk .maps) (st .disk .limits) (st .disk .parents) ws fq rl (held .addresses) ss (held .owners) (held .free-map) (slots .active) (slots .updating) (slots .images) (st .memory .used))
         ≡ own z st (pageDone f good)
     unfolding carried result counted Writeback.pageDone Writeback.readGood Writeback.readFailed Writeback.writeGood Writeback.writeFailed Writeback.storeFrame Writeback.freeFrame
-    page-done-own d = own-by z st done-sees (pageDone f good) refl refl (d .answer)
+    page-done-own = λ (e-answer, (e-frames, (e-records, (e-words, (e-free-queue, (e-removal-list, e-states)))))). own-by z st done-sees (pageDone f good) refl refl e-answer
         (λ o ok. same-state
-        (d .frames ∙ (λ y. o y .left .memory .core .frames) ∙ done-same (λ t. t .memory .core .frames) refl refl refl refl)
+        (e-frames ∙ (λ y. o y .left .memory .core .frames) ∙ done-same (λ t. t .memory .core .frames) refl refl refl refl)
         refl
-        (d .records ∙ (λ y. o y .left .disk .records) ∙ done-same (λ t. t .disk .records) refl refl refl refl)
+        (e-records ∙ (λ y. o y .left .disk .records) ∙ done-same (λ t. t .disk .records) refl refl refl refl)
         refl refl refl refl refl
-        (d .words ∙ (λ y. o y .left .memory .core .words) ∙ done-same (λ t. t .memory .core .words) refl refl refl refl)
-        (d .free-queue ∙ (λ y. o y .left .memory .core .free-queue) ∙ done-same (λ t. t .memory .core .free-queue) refl refl refl refl)
-        (d .removal-list ∙ (λ y. o y .left .memory .core .removal-list) ∙ done-same (λ t. t .memory .core .removal-list) refl refl refl refl)
+        (e-words ∙ (λ y. o y .left .memory .core .words) ∙ done-same (λ t. t .memory .core .words) refl refl refl refl)
+        (e-free-queue ∙ (λ y. o y .left .memory .core .free-queue) ∙ done-same (λ t. t .memory .core .free-queue) refl refl refl refl)
+        (e-removal-list ∙ (λ y. o y .left .memory .core .removal-list) ∙ done-same (λ t. t .memory .core .removal-list) refl refl refl refl)
         refl
-        (d .states ∙ (λ y. o y .left .memory .held .states) ∙ done-same (λ t. t .memory .held .states) refl refl refl refl)
+        (e-states ∙ (λ y. o y .left .memory .held .states) ∙ done-same (λ t. t .memory .held .states) refl refl refl refl)
         refl refl refl refl refl refl
         ∙ sym (page-done-left z st (k .fits) (k .rules) f good ok))
         (λ h o. same-state
-        (d .frames ∙ (λ y. o y .left .memory .core .frames))
+        (e-frames ∙ (λ y. o y .left .memory .core .frames))
         refl
-        (d .records ∙ (λ y. o y .left .disk .records))
+        (e-records ∙ (λ y. o y .left .disk .records))
         refl refl refl refl refl
-        (d .words ∙ (λ y. o y .left .memory .core .words))
-        (d .free-queue ∙ (λ y. o y .left .memory .core .free-queue))
-        (d .removal-list ∙ (λ y. o y .left .memory .core .removal-list))
+        (e-words ∙ (λ y. o y .left .memory .core .words))
+        (e-free-queue ∙ (λ y. o y .left .memory .core .free-queue))
+        (e-removal-list ∙ (λ y. o y .left .memory .core .removal-list))
         refl
-        (d .states ∙ (λ y. o y .left .memory .held .states))
+        (e-states ∙ (λ y. o y .left .memory .held .states))
         refl refl refl refl refl refl)
 
   -- ── map done ──
   module _ (s good : ℕ) where
-    abbrev map-sees : State
-    map-sees = stateOf [] (held .pool) [] (st .disk .numbers) [] (st .disk .maps) [] [] [] [] [] [] (held .states) (held .owners) (held .free-map) (slots .active) (slots .updating) (slots .images) []
+    abbrev map-sees : Pool → State
+    map-sees pool = stateOf [] pool [] (st .disk .numbers) [] (st .disk .maps) [] [] [] [] [] [] (held .states) (held .owners) (held .free-map) (slots .active) (slots .updating) (slots .images) []
 
-    pub map-done-own : {p : Pool} {a : Answer} {ms ss os fm us is : List ℕ} → MapLeft (own z map-sees (mapDone s good)) p a ms ss os fm us is
-        → leaves a (stateIn (st .memory .line) (core .frames) p (st .disk .records) (st .disk .numbers) (st .disk .accounts) ms (st .disk .limits) (st .disk .parents) (core .words) (core .free-queue) (core .removal-list) (held .addresses) ss os fm (slots .active) us is (st .memory .used))
+    pub map-done-own : (n : ℕ) {a : Answer} {ms ss os fm us is : List ℕ} → MapWork.Said (λ p. own z (map-sees p) (mapDone s good)) (freeCount z (files st .state)) n a ms ss os fm us is
+        → leaves a (stateIn (st .memory .line) (core .frames) (deposited n (held .pool)) (st .disk .records) (st .disk .numbers) (st .disk .accounts) ms (st .disk .limits) (st .disk .parents) (core .words) (core .free-queue) (core .removal-list) (held .addresses) ss os fm (slots .active) us is (st .memory .used))
         ≡ own z st (mapDone s good)
     unfolding carried result counted Writeback.mapDone Writeback.storeImage Writeback.updateOver
-    map-done-own d = own-by z st map-sees (mapDone s good) refl refl (d .answer)
+    map-done-own n = λ (e-answer, (e-pool, (e-maps, (e-states, (e-owners, (e-free-map, (e-updating, e-images))))))). own-by z st (map-sees noPool) (mapDone s good) refl refl e-answer
         (λ o ok. same-state
         refl
-        (d .pool ∙ (λ y. o y .left .memory .held .pool) ∙ by-two (λ t. counted z t .memory .held .pool) (eqb good 1) refl refl)
+        (e-pool (held .pool) (k .rules .counts .free) ∙ sym (λ y. own-yes z (map-sees (held .pool)) (mapDone s good) (firstNo (questions z st (mapDone s good))) refl (yes-all (questions z st (mapDone s good)) ok) y .left .memory .held .pool)
+        ∙ by-two (λ t. counted z t .memory .held .pool) (eqb good 1) refl refl)
         refl refl refl
-        (d .maps ∙ (λ y. o y .left .disk .maps) ∙ by-two (λ t. t .disk .maps) (eqb good 1) refl refl)
+        (e-maps ∙ (λ y. o y .left .disk .maps) ∙ by-two (λ t. t .disk .maps) (eqb good 1) refl refl)
         refl refl refl refl refl refl
-        (d .states ∙ (λ y. o y .left .memory .held .states) ∙ by-two (λ t. t .memory .held .states) (eqb good 1) refl refl)
-        (d .owners ∙ (λ y. o y .left .memory .held .owners) ∙ by-two (λ t. t .memory .held .owners) (eqb good 1) refl refl)
-        (d .free-map ∙ (λ y. o y .left .memory .held .free-map) ∙ by-two (λ t. counted z t .memory .held .free-map) (eqb good 1) refl refl)
+        (e-states ∙ (λ y. o y .left .memory .held .states) ∙ by-two (λ t. t .memory .held .states) (eqb good 1) refl refl)
+        (e-owners ∙ (λ y. o y .left .memory .held .owners) ∙ by-two (λ t. t .memory .held .owners) (eqb good 1) refl refl)
+        (e-free-map ∙ (λ y. o y .left .memory .held .free-map) ∙ by-two (λ t. counted z t .memory .held .free-map) (eqb good 1) refl refl)
         refl
-        (d .updating ∙ (λ y. o y .left .memory .slots .updating) ∙ by-two (λ t. t .memory .slots .updating) (eqb good 1) refl refl)
-        (d .images ∙ (λ y. o y .left .memory .slots .images) ∙ by-two (λ t. t .memory .slots .images) (eqb good 1) refl refl)
+        (e-updating ∙ (λ y. o y .left .memory .slots .updating) ∙ by-two (λ t. t .memory .slots .updating) (eqb good 1) refl refl)
+        (e-images ∙ (λ y. o y .left .memory .slots .images) ∙ by-two (λ t. t .memory .slots .images) (eqb good 1) refl refl)
         refl
         ∙ sym (map-done-left z st (k .fits) (k .rules) s good ok))
         (λ h o. same-state
         refl
-        (d .pool ∙ (λ y. o y .left .memory .held .pool))
+        (e-pool (held .pool) (k .rules .counts .free) ∙ sym (λ y. own-no z (map-sees (held .pool)) (mapDone s good) (firstNo (questions z st (mapDone s good))) refl h y .left .memory .held .pool))
         refl refl refl
-        (d .maps ∙ (λ y. o y .left .disk .maps))
+        (e-maps ∙ (λ y. o y .left .disk .maps))
         refl refl refl refl refl refl
-        (d .states ∙ (λ y. o y .left .memory .held .states))
-        (d .owners ∙ (λ y. o y .left .memory .held .owners))
-        (d .free-map ∙ (λ y. o y .left .memory .held .free-map))
+        (e-states ∙ (λ y. o y .left .memory .held .states))
+        (e-owners ∙ (λ y. o y .left .memory .held .owners))
+        (e-free-map ∙ (λ y. o y .left .memory .held .free-map))
         refl
-        (d .updating ∙ (λ y. o y .left .memory .slots .updating))
-        (d .images ∙ (λ y. o y .left .memory .slots .images))
+        (e-updating ∙ (λ y. o y .left .memory .slots .updating))
+        (e-images ∙ (λ y. o y .left .memory .slots .images))
         refl)
 
   -- ── update ──
@@ -132,82 +135,82 @@ module _ (z : Sizes) (st : State) (k : Kept z st) where
     abbrev update-sees : State
     update-sees = stateOf (core .frames) noPool [] (st .disk .numbers) [] [] [] [] [] [] [] (held .addresses) (held .states) (held .owners) [] (slots .active) (slots .updating) (slots .images) []
 
-    pub update-own : {a : Answer} {ads ss us is : List ℕ} → UpdateLeft (own z update-sees (update s)) a ads ss us is
+    pub update-own : {a : Answer} {ads ss us is : List ℕ} → UpdateWork.Said (own z update-sees (update s)) a ads ss us is
         → leaves a (stateIn (st .memory .line) (core .frames) (held .pool) (st .disk .records) (st .disk .numbers) (st .disk .accounts) (st .disk .maps) (st .disk .limits) (st .disk .parents) (core .words) (core .free-queue) (core .removal-list) ads ss (held .owners) (held .free-map) (slots .active) us is (st .memory .used))
         ≡ own z st (update s)
     unfolding carried result counted Writeback.update wouldStore
-    update-own d = own-by z st update-sees (update s) refl refl (d .answer)
+    update-own = λ (e-answer, (e-addresses, (e-states, (e-updating, e-images)))). own-by z st update-sees (update s) refl refl e-answer
         (λ o ok. same-state refl refl refl refl refl refl refl refl refl refl refl
-        (d .addresses ∙ (λ y. o y .left .memory .held .addresses))
-        (d .states ∙ (λ y. o y .left .memory .held .states))
+        (e-addresses ∙ (λ y. o y .left .memory .held .addresses))
+        (e-states ∙ (λ y. o y .left .memory .held .states))
         refl refl refl
-        (d .updating ∙ (λ y. o y .left .memory .slots .updating))
-        (d .images ∙ (λ y. o y .left .memory .slots .images))
+        (e-updating ∙ (λ y. o y .left .memory .slots .updating))
+        (e-images ∙ (λ y. o y .left .memory .slots .images))
         refl
         ∙ sym (update-left z st (k .fits) (k .rules) s))
         (λ h o. same-state refl refl refl refl refl refl refl refl refl refl refl
-        (d .addresses ∙ (λ y. o y .left .memory .held .addresses))
-        (d .states ∙ (λ y. o y .left .memory .held .states))
+        (e-addresses ∙ (λ y. o y .left .memory .held .addresses))
+        (e-states ∙ (λ y. o y .left .memory .held .states))
         refl refl refl
-        (d .updating ∙ (λ y. o y .left .memory .slots .updating))
-        (d .images ∙ (λ y. o y .left .memory .slots .images))
+        (e-updating ∙ (λ y. o y .left .memory .slots .updating))
+        (e-images ∙ (λ y. o y .left .memory .slots .images))
         refl)
 
   -- ── claim ──
   abbrev claim-sees : State
   claim-sees = stateOf (core .frames) noPool [] [] (st .disk .accounts) [] (st .disk .limits) (st .disk .parents) (core .words) (core .free-queue) (core .removal-list) (held .addresses) (held .states) [] [] [] [] [] (st .memory .used)
 
-  pub claim-own : {fs : List Frame} {a : Answer} {fq rl ss us : List ℕ} → ClaimLeft z claim-sees fs a fq rl ss us
-      → leaves a (stateIn (st .memory .line) (take (z .frames) fs) (held .pool) (st .disk .records) (st .disk .numbers) (st .disk .accounts) (st .disk .maps) (st .disk .limits) (st .disk .parents) (core .words) fq rl (held .addresses) ss (held .owners) (held .free-map) (slots .active) (slots .updating) (slots .images) us)
+  pub claim-own : {fs : List Frame} {a : Answer} {fq rl ss us : List ℕ} → ClaimWork.Said z claim-sees fs a fq rl ss us
+      → leaves a (stateIn (st .memory .line) fs (held .pool) (st .disk .records) (st .disk .numbers) (st .disk .accounts) (st .disk .maps) (st .disk .limits) (st .disk .parents) (core .words) fq rl (held .addresses) ss (held .owners) (held .free-map) (slots .active) (slots .updating) (slots .images) us)
       ≡ own z st claim
   unfolding carried result counted Writeback.claim Writeback.looking Writeback.beginsWrite Writeback.zeros Writeback.freeFrame usedThen payer
-  claim-own d = own-by z st claim-sees claim refl refl (d .answer)
+  claim-own = λ (e-answer, (e-frames, (e-free-queue, (e-removal-list, (e-states, e-used))))). own-by z st claim-sees claim refl refl e-answer
       (λ o ok. same-state
-      (d .frames ∙ (λ y. o y .left .memory .core .frames) ∙ by-two (λ t. t .memory .core .frames) (Writeback.beginsWrite z st) refl (by-two (λ t. t .memory .core .frames) (eqb (frames st .frame (Writeback.looking z st .taken) .modified) 1) refl refl))
+      (e-frames ∙ (λ y. o y .left .memory .core .frames) ∙ by-two (λ t. t .memory .core .frames) (Writeback.beginsWrite z st) refl (by-two (λ t. t .memory .core .frames) (eqb (frames st .frame (Writeback.looking z st .taken) .modified) 1) refl refl))
       refl refl refl refl refl refl refl refl
-      (d .free-queue ∙ (λ y. o y .left .memory .core .free-queue) ∙ by-two (λ t. t .memory .core .free-queue) (Writeback.beginsWrite z st) refl (by-two (λ t. t .memory .core .free-queue) (eqb (frames st .frame (Writeback.looking z st .taken) .modified) 1) refl refl))
-      (d .removal-list ∙ (λ y. o y .left .memory .core .removal-list) ∙ by-two (λ t. t .memory .core .removal-list) (Writeback.beginsWrite z st) refl (by-two (λ t. t .memory .core .removal-list) (eqb (frames st .frame (Writeback.looking z st .taken) .modified) 1) refl refl))
+      (e-free-queue ∙ (λ y. o y .left .memory .core .free-queue) ∙ by-two (λ t. t .memory .core .free-queue) (Writeback.beginsWrite z st) refl (by-two (λ t. t .memory .core .free-queue) (eqb (frames st .frame (Writeback.looking z st .taken) .modified) 1) refl refl))
+      (e-removal-list ∙ (λ y. o y .left .memory .core .removal-list) ∙ by-two (λ t. t .memory .core .removal-list) (Writeback.beginsWrite z st) refl (by-two (λ t. t .memory .core .removal-list) (eqb (frames st .frame (Writeback.looking z st .taken) .modified) 1) refl refl))
       refl
-      (d .states ∙ (λ y. o y .left .memory .held .states) ∙ by-two (λ t. t .memory .held .states) (Writeback.beginsWrite z st) refl (by-two (λ t. t .memory .held .states) (eqb (frames st .frame (Writeback.looking z st .taken) .modified) 1) refl refl))
+      (e-states ∙ (λ y. o y .left .memory .held .states) ∙ by-two (λ t. t .memory .held .states) (Writeback.beginsWrite z st) refl (by-two (λ t. t .memory .held .states) (eqb (frames st .frame (Writeback.looking z st .taken) .modified) 1) refl refl))
       refl refl refl refl refl
-      (d .used ∙ ap (λ (n : ℕ). outcome n 0 (st .memory .used) (usedThen z st) .left) (yes-all (questions z st claim) ok))
+      (e-used ∙ ap (λ (n : ℕ). outcome n 0 (st .memory .used) (usedThen z st) .left) (yes-all (questions z st claim) ok))
       ∙ sym (claim-left z st (k .fits) (k .rules) (ok .0)))
       (λ h o. same-state
-      (d .frames ∙ (λ y. o y .left .memory .core .frames))
+      (e-frames ∙ (λ y. o y .left .memory .core .frames))
       refl refl refl refl refl refl refl refl
-      (d .free-queue ∙ (λ y. o y .left .memory .core .free-queue))
-      (d .removal-list ∙ (λ y. o y .left .memory .core .removal-list))
+      (e-free-queue ∙ (λ y. o y .left .memory .core .free-queue))
+      (e-removal-list ∙ (λ y. o y .left .memory .core .removal-list))
       refl
-      (d .states ∙ (λ y. o y .left .memory .held .states))
+      (e-states ∙ (λ y. o y .left .memory .held .states))
       refl refl refl refl refl
-      (d .used ∙ ap (λ (x : Outcome (List ℕ)). x .left) (outcome-no (firstNo (questions z st claim)) 0 (st .memory .used) (usedThen z st) h)))
+      (e-used ∙ ap (λ (x : Outcome (List ℕ)). x .left) (outcome-no (firstNo (questions z st claim)) 0 (st .memory .used) (usedThen z st) h)))
 
   -- ── truncate ──
   module _ (s n : ℕ) where
     abbrev truncate-sees : State
     truncate-sees = stateOf (core .frames) noPool [] (st .disk .numbers) (st .disk .accounts) [] (st .disk .limits) (st .disk .parents) [] (core .free-queue) (core .removal-list) (held .addresses) (held .states) [] [] (slots .active) [] [] (st .memory .used)
 
-    pub truncate-own : {fs : List Frame} {a : Answer} {fq rl ds ss us : List ℕ} → TruncateLeft z truncate-sees s n fs a fq rl ds ss us
-        → leaves a (stateIn (st .memory .line) (take (z .frames) fs) (held .pool) (st .disk .records) (st .disk .numbers) (st .disk .accounts) (st .disk .maps) (st .disk .limits) (st .disk .parents) (core .words) fq rl ds ss (held .owners) (held .free-map) (slots .active) (slots .updating) (slots .images) us)
+    pub truncate-own : {fs : List Frame} {a : Answer} {fq rl ds ss us : List ℕ} → TruncateWork.Said z truncate-sees s n fs a fq rl ds ss us
+        → leaves a (stateIn (st .memory .line) fs (held .pool) (st .disk .records) (st .disk .numbers) (st .disk .accounts) (st .disk .maps) (st .disk .limits) (st .disk .parents) (core .words) fq rl ds ss (held .owners) (held .free-map) (slots .active) (slots .updating) (slots .images) us)
         ≡ own z st (truncate s n)
     unfolding carried result counted Writeback.truncate Writeback.cutFrames frameOf T.usedThen payer charged
-    truncate-own d = own-by z st truncate-sees (truncate s n) refl refl (d .answer)
+    truncate-own = λ (e-answer, (e-frames, (e-free-queue, (e-removal-list, (e-addresses, (e-states, e-used)))))). own-by z st truncate-sees (truncate s n) refl refl e-answer
         (λ o ok. same-state
-        (d .frames ∙ (λ y. o y .left .memory .core .frames))
+        (e-frames ∙ (λ y. o y .left .memory .core .frames))
         refl refl refl refl refl refl refl refl
-        (d .free-queue ∙ (λ y. o y .left .memory .core .free-queue))
-        (d .removal-list ∙ (λ y. o y .left .memory .core .removal-list))
-        (d .addresses ∙ (λ y. o y .left .memory .held .addresses))
-        (d .states ∙ (λ y. o y .left .memory .held .states))
+        (e-free-queue ∙ (λ y. o y .left .memory .core .free-queue))
+        (e-removal-list ∙ (λ y. o y .left .memory .core .removal-list))
+        (e-addresses ∙ (λ y. o y .left .memory .held .addresses))
+        (e-states ∙ (λ y. o y .left .memory .held .states))
         refl refl refl refl refl
-        (d .used ∙ ap (λ (m : ℕ). outcome m 0 (st .memory .used) (T.usedThen z st s n) .left) (yes-all (questions z st (truncate s n)) ok))
+        (e-used ∙ ap (λ (m : ℕ). outcome m 0 (st .memory .used) (T.usedThen z st s n) .left) (yes-all (questions z st (truncate s n)) ok))
         ∙ sym (truncate-left z st (k .fits) (k .rules) s n ok))
         (λ h o. same-state
-        (d .frames ∙ (λ y. o y .left .memory .core .frames))
+        (e-frames ∙ (λ y. o y .left .memory .core .frames))
         refl refl refl refl refl refl refl refl
-        (d .free-queue ∙ (λ y. o y .left .memory .core .free-queue))
-        (d .removal-list ∙ (λ y. o y .left .memory .core .removal-list))
-        (d .addresses ∙ (λ y. o y .left .memory .held .addresses))
-        (d .states ∙ (λ y. o y .left .memory .held .states))
+        (e-free-queue ∙ (λ y. o y .left .memory .core .free-queue))
+        (e-removal-list ∙ (λ y. o y .left .memory .core .removal-list))
+        (e-addresses ∙ (λ y. o y .left .memory .held .addresses))
+        (e-states ∙ (λ y. o y .left .memory .held .states))
         refl refl refl refl refl
-        (d .used ∙ ap (λ (x : Outcome (List ℕ)). x .left) (outcome-no (firstNo (questions z st (truncate s n))) 0 (st .memory .used) (T.usedThen z st s n) h)))
+        (e-used ∙ ap (λ (x : Outcome (List ℕ)). x .left) (outcome-no (firstNo (questions z st (truncate s n))) 0 (st .memory .used) (T.usedThen z st s n) h)))

@@ -3,7 +3,6 @@ use mathlib.Core.Path.{_≡_, refl, ap, sym, _∙_, subst}
 use mathlib.Core.List.{List, []}
 use Prim.Native.Nat.{ℕ, _%_}
 use lib.Dec.{eqb}
-use lib.ListN.{take}
 use Rattle.tables.specs.Base.{if}
 use Rattle.tables.specs.Queue.{pop}
 use Rattle.model.specs.declared.sizes.Sizes.{Sizes}
@@ -21,7 +20,9 @@ use Rattle.model.specs.Lent.{stateIn, stateOf, noPool}
 use Rattle.model.specs.Own.{own, leaves}
 use Rattle.pages.specs.Seen.{seenFault}
 use Rattle.pages.specs.Faults.{FaultLeft}
-use Rattle.writeback.specs.Claim.{claim, ClaimReady, ClaimLeft}
+use Rattle.writeback.specs.Needs.{Queues, Claimable}
+use Rattle.writeback.specs.Seen.{claim}
+use Rattle.writeback.proofs.ClaimWork.{Said}
 use Rattle.writeback.proofs.ClaimLaws.{claim-ready}
 use Rattle.dispatch.specs.Kept.{Kept}
 use Rattle.dispatch.proofs.FaultLaws.{fault-own}
@@ -71,9 +72,9 @@ module _ (z : Sizes) (st : State) (k : Kept z st) (w : Waiting z st) (away : ¬ 
       kept-again : Kept z again
       kept-again = subst (Kept z) (sym same) k
 
-      pub claim-asked : ClaimReady z (core .frames) (disk .accounts) (disk .limits) (disk .parents) ws fq rl ads ss (st .memory .used)
+      pub claim-asked : Queues (z .frames) fq rl × Claimable z (core .frames) (disk .accounts) (disk .limits) (disk .parents) ws fq rl ads ss (st .memory .used)
       claim-asked = claim-ready z again (kept-again .fits) (kept-again .rules)
 
-      pub brought-by-claim : {gs : List Frame} {b : Answer} {fq′ rl′ ss′ us′ : List ℕ} → ClaimLeft z (stateOf (core .frames) noPool [] [] (disk .accounts) [] (disk .limits) (disk .parents) ws fq rl ads ss [] [] [] [] [] (st .memory .used)) gs b fq′ rl′ ss′ us′
-          → leaves (record { refusal = b .refusal; result = 0 }) (after (st .memory .line) (take (z .frames) gs) (held .pool) ws fq′ rl′ ads ss′ os fm us′) ≡ own z st (Event.Waiting Turn)
+      pub brought-by-claim : {gs : List Frame} {b : Answer} {fq′ rl′ ss′ us′ : List ℕ} → Said z (stateOf (core .frames) noPool [] [] (disk .accounts) [] (disk .limits) (disk .parents) ws fq rl ads ss [] [] [] [] [] (st .memory .used)) gs b fq′ rl′ ss′ us′
+          → leaves (record { refusal = b .refusal; result = 0 }) (after (st .memory .line) gs (held .pool) ws fq′ rl′ ads ss′ os fm us′) ≡ own z st (Event.Waiting Turn)
       brought-by-claim d = claimed-own z st w away faulted h _ (claim-own z again kept-again d ∙ ap (λ (x : State). own z x claim) same)

@@ -31,10 +31,12 @@ use Rattle.model.specs.Ruled.{Ruled}
 use Rattle.model.specs.Lent.{stateIn, same-state}
 use Rattle.leaves.specs.Counts.{counts, countsFor, usedCounts, counts-less}
 use Rattle.leaves.specs.Payers as Payers
-use Rattle.writeback.specs.Claim.{claim, payerOf, usedThen, Claimable, ClaimReady}
+use Rattle.writeback.specs.Claim.{payerOf, usedThen}
+use Rattle.writeback.specs.Needs.{Queues, Listed, Claimable}
+use Rattle.writeback.specs.Seen.{claim}
 use Rattle.writeback.proofs.Kept.{counts-alike, charged-alike, used-is, used-kept, map-kept, pool-kept}
 use Rattle.writeback.proofs.Looks.{Like, look-like, look-long, taken-in}
-use Rattle.writeback.proofs.Ready.{Paged, paged, queue-room}
+use Rattle.writeback.proofs.Ready.{Paged, paged, queues, queue-room}
 
 module _ (z : Sizes) (st : State) (fit : Fit z st) (ruled : Ruled z st) where
   abbrev v : Files
@@ -68,7 +70,7 @@ module _ (z : Sizes) (st : State) (fit : Fit z st) (ruled : Ruled z st) where
     payer-pays m = let q = payer v (slotOf z (p .index)) in rw (ruled .counts .used q payer-below)
         (count-pos (allPages z) (countsFor z v c q) (p .index) (p .page-inside) (and-intro (eqb q q) (counts z v c (p .index)) (eq→T {a = q} refl) (counted-page m)))
 
-  listed : (f : ℕ) → f < z .frames → 0 < times (members (st .memory .core .removal-list)) f → Claimable z (c .frame f .page) (c .frame f .modified) (st .disk .accounts) (st .disk .limits) (st .disk .parents) (st .memory .core .free-queue) (st .memory .held .addresses) (st .memory .held .states) (st .memory .used)
+  listed : (f : ℕ) → f < z .frames → 0 < times (members (st .memory .core .removal-list)) f → Listed z (c .frame f .page) (c .frame f .modified) (st .disk .accounts) (st .disk .limits) (st .disk .parents) (st .memory .core .free-queue) (st .memory .held .addresses) (st .memory .held .states) (st .memory .used)
   unfolding payer
   listed f h t =
       let q = unqueued f h t in
@@ -83,17 +85,9 @@ module _ (z : Sizes) (st : State) (fit : Fit z st) (ruled : Ruled z st) where
         pays = λ m. rw e (payer-pays f h p m);
       }
 
-  pub claim-ready : ClaimReady z (st .memory .core .frames) (st .disk .accounts) (st .disk .limits) (st .disk .parents) (st .memory .core .words) (st .memory .core .free-queue) (st .memory .core .removal-list) (st .memory .held .addresses) (st .memory .held .states) (st .memory .used)
-  claim-ready = record {
-    most = fit .sizes .frames-most;
-    pages-some = fit .sizes .pages;
-    words-long = fit .memory .words;
-    queue-long = fit .memory .free-queue;
-    list-long = fit .memory .removal-list;
-    queued = ruled .queues .free-queue;
-    listed = ruled .queues .removal-list;
-    held = listed;
-  }
+  pub claim-ready : Queues (z .frames) (st .memory .core .free-queue) (st .memory .core .removal-list)
+      × Claimable z (st .memory .core .frames) (st .disk .accounts) (st .disk .limits) (st .disk .parents) (st .memory .core .words) (st .memory .core .free-queue) (st .memory .core .removal-list) (st .memory .held .addresses) (st .memory .held .states) (st .memory .used)
+  claim-ready = (queues z st fit ruled, record { frames-most = fit .sizes .frames-most; pages-some = fit .sizes .pages; words-long = fit .memory .words; listed = listed })
 
   -- ── the frame taken ──
   module _ (some : 0 < size (st .memory .core .removal-list)) where

@@ -18,6 +18,7 @@ use Rattle.tables.specs.Rule.{Holds}
 use Rattle.model.specs.declared.sizes.Sizes.{Sizes}
 use Rattle.model.specs.declared.frame.Frame.{Frame}
 use Rattle.model.specs.declared.applied.Framed.{Framed}
+use Rattle.model.specs.declared.event.Answer.{Answer}
 use Rattle.model.specs.Lines.{NULLED, LIVE}
 use Rattle.model.specs.State.{State, WRITING, frameAt, noFrame, payer}
 use Rattle.model.specs.Setters.{onCore, onHeld, setStates, setTransfer, counted}
@@ -30,10 +31,19 @@ use Rattle.model.specs.Own.{own, refusal, completed, first-no}
 use Rattle.leaves.specs.FrameLaws.{frame-take, take-frame}
 use Rattle.model.specs.OwnLaws.{own-yes, own-no}
 use Rattle.leaves.specs.Payers.{whoPays}
-use Rattle.writeback.specs.Claim.{claim, seen, payerOf, usedThen, LooksLeft, Claimable, ClaimReady, ClaimLeft}
+use Rattle.writeback.specs.Claim.{payerOf, usedThen, usedLeft, LooksEnded}
+use Rattle.writeback.specs.Needs.{Queues, Listed, Claimable}
+use Rattle.writeback.specs.Seen.{claim, seenClaim}
 use Rattle.writeback.proofs.DoneWork.{answered}
 use Rattle.writeback.proofs.Looks.{cut, look-take, taken-in}
 use Rattle.tables.specs.StoreLoops.{part-fits}
+
+-- what the contract says of the answer, the frames, both queues, the states and the used counts
+abbrev pub Said : Sizes → State → List Frame → Answer → List ℕ → List ℕ → List ℕ → List ℕ → Type 0
+Said z st fs a fq rl ss us =
+    let o = own z st claim in
+    (a ≡ o .answer) × ((fs ≡ o .left .memory .core .frames) × ((fq ≡ o .left .memory .core .free-queue)
+    × ((rl ≡ o .left .memory .core .removal-list) × ((ss ≡ o .left .memory .held .states) × (us ≡ usedLeft z st)))))
 
 -- the frame that the looks end at, as the calls after them ask it
 pub record Taken (z : Sizes) (fs : List Frame) (ac ls ps ws fq ads ss us : List ℕ) (f : ℕ) : Type 0 where
@@ -44,20 +54,28 @@ pub record Taken (z : Sizes) (fs : List Frame) (ac ls ps ws fq ads ss us : List 
 
 module _ (z : Sizes) (fs : List Frame) (ac ls ps ws fq rl ads ss us : List ℕ) where
   abbrev st : State
-  st = seen z fs ac ls ps ws fq rl ads ss us
+  st = seenClaim (take (z .frames) fs) ac ls ps ws fq rl ads ss us
 
   abbrev Left : Framed → List ℕ → List ℕ → List ℕ → List ℕ → Type 0
-  Left x fq' rl' ss' us' = ClaimLeft z st (x .frames) (x .answer) fq' rl' ss' us'
+  Left x fq' rl' ss' us' = Said z st (take (z .frames) (x .frames)) (x .answer) fq' rl' ss' us'
 
   pub refused : {e : ℕ} → e ≡ at rl 0 → e ≡ 0 → {x : Framed} → x ≡ answered fs 21 0 → Left x fq rl ss us
-  refused a b {x} y = record {
-    answer = ap (λ (v : Framed). v .answer) y ∙ sym (ap (λ (o : Outcome State). o .answer) no);
-    frames = ap (λ (v : Framed). take (z .frames) (v .frames)) y ∙ sym (ap (λ (o : Outcome State). o .left .memory .core .frames) no);
-    free-queue = sym (ap (λ (o : Outcome State). o .left .memory .core .free-queue) no);
-    removal-list = sym (ap (λ (o : Outcome State). o .left .memory .core .removal-list) no);
-    states = sym (ap (λ (o : Outcome State). o .left .memory .held .states) no);
-    used = sym (ap (λ (n : ℕ). outcome n 0 us (usedThen z st) .left) says);
-  }
+  refused a b {x} y = (
+    ap (λ (v : Framed). v .answer) y ∙ sym (ap (λ (o : Outcome State). o .answer) no),
+    (
+      ap (λ (v : Framed). take (z .frames) (v .frames)) y ∙ sym (ap (λ (o : Outcome State). o .left .memory .core .frames) no),
+      (
+        sym (ap (λ (o : Outcome State). o .left .memory .core .free-queue) no),
+        (
+          sym (ap (λ (o : Outcome State). o .left .memory .core .removal-list) no),
+          (
+            sym (ap (λ (o : Outcome State). o .left .memory .held .states) no),
+            sym (ap (λ (n : ℕ). outcome n 0 us (usedThen z st) .left) says),
+          ),
+        ),
+      ),
+    ),
+  )
     where
       says : firstNo (questions z st claim) ≡ 21
       says = first-no 21 _ _ (λ h. omega (arith, size-zero rl (sym a ∙ b)))
@@ -72,10 +90,10 @@ module _ (z : Sizes) (fs : List Frame) (ac ls ps ws fq rl ads ss us : List ℕ) 
     says : firstNo (questions z st claim) ≡ 0
     says = yes-all (questions z st claim) (some, tt)
 
-    module _ (ready : ClaimReady z (take (z .frames) fs) ac ls ps ws fq rl ads ss us) {kept : List Frame} {looks f : ℕ} {list : List ℕ} (t : LooksLeft fs rl kept looks list) (here : f ≡ first list) where
+    module _ (ready : Queues (z .frames) fq rl × Claimable z (take (z .frames) fs) ac ls ps ws fq rl ads ss us) {kept : List Frame} {looks f : ℕ} {list : List ℕ} (t : LooksEnded fs rl kept looks list) (here : f ≡ first list) where
       looked-is : looking z st ≡ cut (z .frames) (look (suc (size rl)) 0 fs (members rl))
       unfolding looking
-      looked-is = ap (λ (n : ℕ). look (suc n) 0 (take (z .frames) fs) (members rl)) (sym (size-members rl)) ∙ look-take (z .frames) (suc (size rl)) 0 fs (members rl) (members-within rl (ready .list-long) (ready .listed))
+      looked-is = ap (λ (n : ℕ). look (suc n) 0 (take (z .frames) fs) (members rl)) (sym (size-members rl)) ∙ look-take (z .frames) (suc (size rl)) 0 fs (members rl) (members-within rl (ready .0 .list-long) (ready .0 .list-packed))
 
       taken-is : looking z st .taken ≡ f
       taken-is = ap (λ (l : Looked). l .taken) looked-is ∙ sym (t .the-taken) ∙ sym here
@@ -93,7 +111,7 @@ module _ (z : Sizes) (fs : List Frame) (ac ls ps ws fq rl ads ss us : List ℕ) 
       in-list = rw (here ∙ t .the-taken) (taken-in fs rl some)
 
       below : f < z .frames
-      below = members-within rl (ready .list-long) (ready .listed) f in-list
+      below = members-within rl (ready .0 .list-long) (ready .0 .list-packed) f in-list
 
       abbrev old : Frame
       old = frameAt fs f
@@ -101,8 +119,8 @@ module _ (z : Sizes) (fs : List Frame) (ac ls ps ws fq rl ads ss us : List ℕ) 
       same-frame : frameAt (take (z .frames) fs) f ≡ old
       same-frame = frame-take (z .frames) fs f below
 
-      held : Claimable z (old .page) (old .modified) ac ls ps fq ads ss us
-      held = subst (λ (g : Frame). Claimable z (g .page) (g .modified) ac ls ps fq ads ss us) same-frame (ready .held f below in-list)
+      held : Listed z (old .page) (old .modified) ac ls ps fq ads ss us
+      held = subst (λ (g : Frame). Listed z (g .page) (g .modified) ac ls ps fq ads ss us) same-frame (ready .1 .listed f below in-list)
 
       module _ {r : ℕ} (found : r ≡ pred (at ads (pred (old .page)))) where
         item-is : r ≡ held .item
@@ -113,8 +131,8 @@ module _ (z : Sizes) (fs : List Frame) (ac ls ps ws fq rl ads ss us : List ℕ) 
 
       pub taken : Taken z fs ac ls ps ws fq ads ss us f
       taken = record {
-        words-fit = rw (ready .words-long) (part-fits (z .frames) (z .words) f below);
-        room = (omega (arith, below, ready .most), (z .frames, rw (ready .queue-long) (ready .queued)), omega (arith, held .room, ready .queue-long));
+        words-fit = rw (ready .1 .words-long) (part-fits (z .frames) (z .words) f below);
+        room = (omega (arith, below, ready .1 .frames-most), (z .frames, rw (ready .0 .free-long) (ready .0 .free-packed)), omega (arith, held .room, ready .0 .free-long));
         pays = held .pays;
         moves = λ r found. rw (item-is found) (held .moves);
       }
@@ -133,19 +151,27 @@ module _ (z : Sizes) (fs : List Frame) (ac ls ps ws fq rl ads ss us : List ℕ) 
         the-answer : {st' : State} {x : Framed} {gs : List Frame} → own z st claim ≡ completed (looking z st .looks) st' → x ≡ answered gs 0 looks → x .answer ≡ own z st claim .answer
         the-answer c y = ap (λ (v : Framed). v .answer) y ∙ ap (λ (n : ℕ). record { refusal = 0; result = n }) (sym looks-are) ∙ sym (ap (λ (o : Outcome State). o .answer) c)
 
-        used-by : {us' : List ℕ} → us' ≡ usedThen z st → us' ≡ outcome (firstNo (questions z st claim)) 0 us (usedThen z st) .left
+        used-by : {us' : List ℕ} → us' ≡ usedThen z st → us' ≡ usedLeft z st
         used-by u = u ∙ sym (ap (λ (n : ℕ). outcome n 0 us (usedThen z st) .left) says)
 
         pub write-begins : b ≡ true → {rl' : List ℕ} {g : Frame} {x : Framed} → rl' ≡ pop list → g ≡ frameAt kept f → x ≡ answered (set kept f (setTransfer WRITING g)) 0 looks → Left x fq rl' ss us
         unfolding carried Writeback.claim counted usedThen
-        write-begins v {x = x} p q y = record {
-          answer = the-answer {x = x} way y;
-          frames = ap (λ (k : Framed). take (z .frames) (k .frames)) y ∙ take-frame (z .frames) kept f _ ∙ ap (λ (k : Frame). set (take (z .frames) kept) f (setTransfer WRITING k)) (q ∙ sym (frame-take (z .frames) kept f below)) ∙ rw (← frames-are, ← taken-is) (sym (ap (λ (o : Outcome State). o .left .memory .core .frames) way));
-          free-queue = sym (ap (λ (o : Outcome State). o .left .memory .core .free-queue) way);
-          removal-list = p ∙ list-is ∙ sym (ap (λ (o : Outcome State). o .left .memory .core .removal-list) way);
-          states = sym (ap (λ (o : Outcome State). o .left .memory .held .states) way);
-          used = used-by (rw (begins ∙ v));
-        }
+        write-begins v {x = x} p q y = (
+          the-answer {x = x} way y,
+          (
+            ap (λ (k : Framed). take (z .frames) (k .frames)) y ∙ take-frame (z .frames) kept f _ ∙ ap (λ (k : Frame). set (take (z .frames) kept) f (setTransfer WRITING k)) (q ∙ sym (frame-take (z .frames) kept f below)) ∙ rw (← frames-are, ← taken-is) (sym (ap (λ (o : Outcome State). o .left .memory .core .frames) way)),
+            (
+              sym (ap (λ (o : Outcome State). o .left .memory .core .free-queue) way),
+              (
+                p ∙ list-is ∙ sym (ap (λ (o : Outcome State). o .left .memory .core .removal-list) way),
+                (
+                  sym (ap (λ (o : Outcome State). o .left .memory .held .states) way),
+                  used-by (rw (begins ∙ v)),
+                ),
+              ),
+            ),
+          ),
+        )
           where
             way : own z st claim ≡ completed (looking z st .looks) (counted z (onCore (λ c. onFrame (looking z st .taken) (setTransfer WRITING) c) (looked z st)))
             way = by-way (onCore (λ c. onFrame (looking z st .taken) (setTransfer WRITING) c) (looked z st)) (rw (begins ∙ v))
@@ -191,25 +217,41 @@ module _ (z : Sizes) (fs : List Frame) (ac ls ps ws fq rl ads ss us : List ℕ) 
               (u : us' ≡ if (eqb (old .modified) 1) less us) (y : x ≡ answered (set kept f noFrame) 0 looks) where
             free-nulled : old .modified ≡ 1 → ss' ≡ set ss r NULLED → Left x fq' rl' ss' us'
             unfolding counted freeFrame
-            free-nulled m s = record {
-              answer = the-answer {x = x} (way-nulled m) y;
-              frames = freed-frames y ∙ sym (ap (λ (o : Outcome State). o .left .memory .core .frames) (way-nulled m));
-              free-queue = q ∙ ap (push-back fq) (sym taken-is) ∙ sym (ap (λ (o : Outcome State). o .left .memory .core .free-queue) (way-nulled m));
-              removal-list = p ∙ list-is ∙ sym (ap (λ (o : Outcome State). o .left .memory .core .removal-list) (way-nulled m));
-              states = s ∙ ap (λ (i : ℕ). set ss i NULLED) (sym (record-is found)) ∙ sym (ap (λ (o : Outcome State). o .left .memory .held .states) (way-nulled m));
-              used = used-by (u ∙ rw (eq-eqb _ _ m) (used-nulled m));
-            }
+            free-nulled m s = (
+              the-answer {x = x} (way-nulled m) y,
+              (
+                freed-frames y ∙ sym (ap (λ (o : Outcome State). o .left .memory .core .frames) (way-nulled m)),
+                (
+                  q ∙ ap (push-back fq) (sym taken-is) ∙ sym (ap (λ (o : Outcome State). o .left .memory .core .free-queue) (way-nulled m)),
+                  (
+                    p ∙ list-is ∙ sym (ap (λ (o : Outcome State). o .left .memory .core .removal-list) (way-nulled m)),
+                    (
+                      s ∙ ap (λ (i : ℕ). set ss i NULLED) (sym (record-is found)) ∙ sym (ap (λ (o : Outcome State). o .left .memory .held .states) (way-nulled m)),
+                      used-by (u ∙ rw (eq-eqb _ _ m) (used-nulled m)),
+                    ),
+                  ),
+                ),
+              ),
+            )
 
             free-kept : ¬ (old .modified ≡ 1) → ss' ≡ ss → Left x fq' rl' ss' us'
             unfolding counted freeFrame
-            free-kept m s = record {
-              answer = the-answer {x = x} (way-kept m) y;
-              frames = freed-frames y ∙ sym (ap (λ (o : Outcome State). o .left .memory .core .frames) (way-kept m));
-              free-queue = q ∙ ap (push-back fq) (sym taken-is) ∙ sym (ap (λ (o : Outcome State). o .left .memory .core .free-queue) (way-kept m));
-              removal-list = p ∙ list-is ∙ sym (ap (λ (o : Outcome State). o .left .memory .core .removal-list) (way-kept m));
-              states = s ∙ sym (ap (λ (o : Outcome State). o .left .memory .held .states) (way-kept m));
-              used = used-by (u ∙ rw (ne-eqb _ _ m) (used-kept m));
-            }
+            free-kept m s = (
+              the-answer {x = x} (way-kept m) y,
+              (
+                freed-frames y ∙ sym (ap (λ (o : Outcome State). o .left .memory .core .frames) (way-kept m)),
+                (
+                  q ∙ ap (push-back fq) (sym taken-is) ∙ sym (ap (λ (o : Outcome State). o .left .memory .core .free-queue) (way-kept m)),
+                  (
+                    p ∙ list-is ∙ sym (ap (λ (o : Outcome State). o .left .memory .core .removal-list) (way-kept m)),
+                    (
+                      s ∙ sym (ap (λ (o : Outcome State). o .left .memory .held .states) (way-kept m)),
+                      used-by (u ∙ rw (ne-eqb _ _ m) (used-kept m)),
+                    ),
+                  ),
+                ),
+              ),
+            )
 
             pub freed : ss' ≡ if (eqb (old .modified) 1) (set ss r NULLED) ss → Left x fq' rl' ss' us'
             freed s = elim (ℕ-discrete (old .modified) 1) [

@@ -22,7 +22,7 @@ use Rattle.model.specs.State.{frameAt}
 use Rattle.writeback.specs.ByPage.{ByPage}
 use Rattle.leaves.specs.FrameLaws.{frameIn}
 use Rattle.writeback.specs.Pages.{framed}
-use Rattle.writeback.specs.Truncate.{cutFrames, cutFrame, FramesReady}
+use Rattle.writeback.specs.Truncate.{cutFrames, cutFrame, Cutting}
 use Rattle.writeback.proofs.Cut.{from-up}
 
 -- lists without numbers that pass alike
@@ -37,7 +37,7 @@ without-alike p q (x ∷ xs) f = rw (f x (here x xs), without-alike p q xs (λ y
     there : (x : ℕ) (xs : List ℕ) (y : ℕ) → 0 < times xs y → 0 < times (x ∷ xs) y
     there x xs y h = omega (arith, times-cons x xs y)
 
-module _ (n pages s k : ℕ) (fs : List Frame) (fq rl : List ℕ) (ready : FramesReady n pages s k fs fq rl) where
+module _ (n pages s k : ℕ) (fs : List Frame) (fq rl : List ℕ) (ready : Cutting n pages s k fs fq rl) where
   abbrev page : ℕ → ℕ
   page f = frameAt fs f .page
 
@@ -55,7 +55,7 @@ module _ (n pages s k : ℕ) (fs : List Frame) (fq rl : List ℕ) (ready : Frame
   its-frame p h = let x = found n (λ f. eqb (page f) (suc (s * pages + p))) 0 (h .0) (omega arith) (omega (arith, h .1)) (eq→T (h .2)) in (omega (arith, x .inside), eqb→eq _ _ (x .passes))
 
   its-only : (p x : ℕ) → x < n → page x ≡ suc (s * pages + p) → its p ≡ x
-  its-only p x h e = let f = its-frame p (x, h, e) in ready .framed-once (its p) x (f .0) h (omega (arith, f .1)) (e ∙ sym (f .1))
+  its-only p x h e = let f = its-frame p (x, h, e) in ready .placed .seated (its p) x (f .0) h (omega (arith, f .1)) (e ∙ sym (f .1))
 
   -- the frame is one of those freed below m
   abbrev freed : ℕ → ℕ → Rule
@@ -83,12 +83,12 @@ module _ (n pages s k : ℕ) (fs : List Frame) (fq rl : List ℕ) (ready : Frame
   cut-within m x h = elim (decided (freed m x)) [ yes y ↦ y .0 | no y ↦ absurd (omega (arith, times-unfreed m x y)) ]
 
   both-within : (m : ℕ) → Within n (members fq ++ cutFrames n pages s k fs m)
-  both-within m = within-append n (members fq) (cutFrames n pages s k fs m) (members-within fq (ready .queue-long) (ready .queued)) (cut-within m)
+  both-within m = within-append n (members fq) (cutFrames n pages s k fs m) (members-within fq (ready .queues .free-long) (ready .queues .free-packed)) (cut-within m)
 
   both-once : (m : ℕ) → Once n (members fq ++ cutFrames n pages s k fs m)
   both-once m x h = elim (decided (freed m x)) [
-    | yes y ↦ omega (arith, times-append (members fq) (cutFrames n pages s k fs m) x, times-freed m x y, ready .unqueued x h (omega (arith, y .1 .0)))
-    | no y ↦ omega (arith, times-append (members fq) (cutFrames n pages s k fs m) x, times-unfreed m x y, ready .queue-once x h)
+    | yes y ↦ omega (arith, times-append (members fq) (cutFrames n pages s k fs m) x, times-freed m x y, ready .placed .unqueued x h (omega (arith, y .1 .0)))
+    | no y ↦ omega (arith, times-append (members fq) (cutFrames n pages s k fs m) x, times-unfreed m x y, ready .placed .free-once x h)
   ]
 
   module _ (m : ℕ) (up : k ≤ m) where
@@ -98,7 +98,7 @@ module _ (n pages s k : ℕ) (fs : List Frame) (fq rl : List ℕ) (ready : Frame
       f = its m
 
       absent : times (members fq ++ cutFrames n pages s k fs m) f ≡ 0
-      absent = let g = its-frame m h in omega (arith, times-append (members fq) (cutFrames n pages s k fs m) f, ready .unqueued f (g .0) (omega (arith, g .1)), times-unfreed m f (λ y. omega (arith, y .1 .1, g .1)))
+      absent = let g = its-frame m h in omega (arith, times-append (members fq) (cutFrames n pages s k fs m) f, ready .placed .unqueued f (g .0) (omega (arith, g .1)), times-unfreed m f (λ y. omega (arith, y .1 .1, g .1)))
 
       pub room : length (members fq ++ cutFrames n pages s k fs m) < n
       room = length-lt n (members fq ++ cutFrames n pages s k fs m) (both-within m) (both-once m) f (its-frame m h .0) absent
@@ -121,7 +121,7 @@ module _ (n pages s k : ℕ) (fs : List Frame) (fq rl : List ℕ) (ready : Frame
   gone m x = test (cutFrame pages s k m (frameAt fs x))
 
   in-list : (x : ℕ) → 0 < times (members rl) x → x < n
-  in-list = members-within rl (ready .list-long) (ready .listed)
+  in-list = members-within rl (ready .queues .list-long) (ready .queues .list-packed)
 
   gone-more : (m : ℕ) → k ≤ m → Holds (in-some m) → (x : ℕ) → 0 < times (members rl) x → (gone m x || eqb (its m) x) ≡ gone (m + 1) x
   unfolding test
@@ -144,8 +144,8 @@ module _ (n pages s k : ℕ) (fs : List Frame) (fq rl : List ℕ) (ready : Frame
 
   pub turn-starts : CutTurn k fq rl
   turn-starts = record {
-    so-queue = sym (append-none fq (rw (ready .queue-long) (ready .queued))) ∙ ap (λ (l : List ℕ). packed (length fq) (members fq ++ map its l)) (sym none);
-    so-list = sym (packed-members {m = length rl} rl refl (rw (ready .list-long) (ready .listed))) ∙ ap (packed (length rl)) (sym (without-same (gone k) (members rl) gone-none));
+    so-queue = sym (append-none fq (rw (ready .queues .free-long) (ready .queues .free-packed))) ∙ ap (λ (l : List ℕ). packed (length fq) (members fq ++ map its l)) (sym none);
+    so-list = sym (packed-members {m = length rl} rl refl (rw (ready .queues .list-long) (ready .queues .list-packed))) ∙ ap (packed (length rl)) (sym (without-same (gone k) (members rl) gone-none));
   }
     where
       none : passed k ≡ []
@@ -153,7 +153,7 @@ module _ (n pages s k : ℕ) (fs : List Frame) (fq rl : List ℕ) (ready : Frame
 
   module _ {m : ℕ} (up : k ≤ m) {q r : List ℕ} (t : CutTurn m q r) where
     queue-fits : length (members fq ++ cutFrames n pages s k fs m) ≤ length fq
-    queue-fits = fits-once fq (ready .queue-long) (members fq ++ cutFrames n pages s k fs m) (both-within m) (both-once m)
+    queue-fits = fits-once fq (ready .queues .free-long) (members fq ++ cutFrames n pages s k fs m) (both-within m) (both-once m)
 
     list-fits : length (without (gone m) (members rl)) ≤ length rl
     list-fits = omega (arith, length-without (gone m) (members rl), size-members rl, size-le rl)
@@ -162,15 +162,15 @@ module _ (n pages s k : ℕ) (fs : List Frame) (fq rl : List ℕ) (ready : Frame
       pub push-asks : (f' < 65535) × ((m : ℕ) × Holds (queueOf (length q) m q)) × (size q < length q)
       push-asks = (
         omega (arith, e, its-frame m h .0, ready .sized .most),
-        (n, rw (t .so-queue, length-packed (length fq) (members fq ++ cutFrames n pages s k fs m), ready .queue-long) (rw (ready .queue-long) at (queue-repacked fq (ready .queue-long) (members fq ++ cutFrames n pages s k fs m) (both-within m) queue-fits))),
-        rw (t .so-queue, length-packed (length fq) (members fq ++ cutFrames n pages s k fs m), size-packed (length fq) (members fq ++ cutFrames n pages s k fs m) queue-fits, ready .queue-long) (room m up h),
+        (n, rw (t .so-queue, length-packed (length fq) (members fq ++ cutFrames n pages s k fs m), ready .queues .free-long) (rw (ready .queues .free-long) at (queue-repacked fq (ready .queues .free-long) (members fq ++ cutFrames n pages s k fs m) (both-within m) queue-fits))),
+        rw (t .so-queue, length-packed (length fq) (members fq ++ cutFrames n pages s k fs m), size-packed (length fq) (members fq ++ cutFrames n pages s k fs m) queue-fits, ready .queues .free-long) (room m up h),
       )
 
       pub remove-asks : (f' < 65535) × Holds (queue (length r) r) × (times (members r) f' ≤ 1)
       remove-asks = (
         omega (arith, e, its-frame m h .0, ready .sized .most),
-        rw (t .so-list, length-packed (length rl) (without (gone m) (members rl)), ready .list-long) (rw (ready .list-long) at (queue-without rl (ready .list-long) (ready .listed) (gone m))),
-        rw (t .so-list, members-packed (length rl) (without (gone m) (members rl)) list-fits) (omega (arith, times-without-le (gone m) (members rl) f', ready .list-once f' (omega (arith, e, its-frame m h .0)))),
+        rw (t .so-list, length-packed (length rl) (without (gone m) (members rl)), ready .queues .list-long) (rw (ready .queues .list-long) at (queue-without rl (ready .queues .list-long) (ready .queues .list-packed) (gone m))),
+        rw (t .so-list, members-packed (length rl) (without (gone m) (members rl)) list-fits) (omega (arith, times-without-le (gone m) (members rl) f', ready .placed .list-once f' (omega (arith, e, its-frame m h .0)))),
       )
 
       pub turn-frees : {q' r' : List ℕ} → q' ≡ push-back q f' → r' ≡ remove r f' → CutTurn (m + 1) q' r'
@@ -186,7 +186,7 @@ module _ (n pages s k : ℕ) (fs : List Frame) (fq rl : List ℕ) (ready : Frame
     }
 
 -- a page's frame by the table of the slot's frames
-module _ (n pages s k : ℕ) (fs : List Frame) (fq rl : List ℕ) (ready : FramesReady n pages s k fs fq rl) {table : List ℕ} (t : ByPage false n pages s fs table) (p : ℕ) (b : p < pages) {e : ℕ} (q : e ≡ at table p) where
+module _ (n pages s k : ℕ) (fs : List Frame) (fq rl : List ℕ) (ready : Cutting n pages s k fs fq rl) {table : List ℕ} (t : ByPage false n pages s fs table) (p : ℕ) (b : p < pages) {e : ℕ} (q : e ≡ at table p) where
   module _ (d : ¬ (e ≡ 0)) where
     pub in-entry : Holds (some n λ f. same (frameAt fs f .page) (suc (s * pages + p)))
     in-entry = let x = t .in-one p (e - 1) b (omega (arith, q, d)) in (e - 1, x .0, x .1)

@@ -25,7 +25,7 @@ use Rattle.model.specs.Fit.{Fit}
 use Rattle.model.specs.Ruled.{Ruled}
 use Rattle.model.specs.Lent.{stateIn, same-state}
 use Rattle.leaves.specs.Counts.{counts}
-use Rattle.writeback.specs.Done.{pageDone}
+use Rattle.writeback.specs.Seen.{pageDone}
 use Rattle.writeback.proofs.Kept.{counts-alike, charged-alike, used-kept, map-kept, pool-kept}
 use Rattle.writeback.proofs.Ready.{Paged, paged, moved}
 

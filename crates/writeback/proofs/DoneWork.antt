@@ -14,6 +14,7 @@ use Rattle.tables.specs.Store.{store}
 use Rattle.model.specs.declared.sizes.Sizes.{Sizes}
 use Rattle.model.specs.declared.frame.Frame.{Frame}
 use Rattle.model.specs.declared.applied.Framed.{Framed}
+use Rattle.model.specs.declared.event.Answer.{Answer}
 use Rattle.model.specs.Lines.{NULLED, LIVE}
 use Rattle.model.specs.State.{State, NONE, READING, frameAt, noFrame}
 use Rattle.model.specs.Setters.{counted, setModified, setInitial, setTransfer}
@@ -23,7 +24,8 @@ use Rattle.model.specs.Writeback
 use Rattle.model.specs.Step.{Outcome, carried, result}
 use Rattle.model.specs.Own.{own, completed}
 use Rattle.model.specs.OwnLaws.{own-yes, own-no}
-use Rattle.writeback.specs.Done.{pageDone, seen, InTransfer, DoneReady, DoneLeft}
+use Rattle.writeback.specs.Needs.{Queues, InTransfer, Transfers}
+use Rattle.writeback.specs.Seen.{pageDone, seenPageDone}
 use Rattle.leaves.specs.FrameLaws.{frame-take, take-frame}
 use Rattle.tables.specs.StoreLoops.{part-fits}
 
@@ -34,9 +36,11 @@ answered fs n m = record { frames = fs; answer = record { refusal = n; result = 
 abbrev pub unwritten : Frame → Frame
 unwritten g = setTransfer NONE (setModified 1 (setInitial 0 g))
 
--- the outcome by another name
-left-by : {o p : Outcome State} {n : ℕ} {x : Framed} {rs ws fq rl ss : List ℕ} → o ≡ p → DoneLeft p n (x .frames) (x .answer) rs ws fq rl ss → DoneLeft o n (x .frames) (x .answer) rs ws fq rl ss
-left-by {n = n} {x = x} {rs = rs} {ws = ws} {fq = fq} {rl = rl} {ss = ss} e h = subst (λ (o : Outcome State). DoneLeft o n (x .frames) (x .answer) rs ws fq rl ss) (sym e) h
+-- what the contract says of the answer, the frames, the records, the words, both queues and the states
+abbrev pub Said : Outcome State → List Frame → Answer → List ℕ → List ℕ → List ℕ → List ℕ → List ℕ → Type 0
+Said o fs a rs ws fq rl ss =
+    (a ≡ o .answer) × ((fs ≡ o .left .memory .core .frames) × ((rs ≡ o .left .disk .records) × ((ws ≡ o .left .memory .core .words)
+    × ((fq ≡ o .left .memory .core .free-queue) × ((rl ≡ o .left .memory .core .removal-list) × (ss ≡ o .left .memory .held .states))))))
 
 -- what the answers tell of the frame, as the calls after them ask it
 pub record Passed (z : Sizes) (fs : List Frame) (rs ws fq rl ads ss : List ℕ) (f : ℕ) : Type 0 where
@@ -49,7 +53,7 @@ pub record Passed (z : Sizes) (fs : List Frame) (rs ws fq rl ads ss : List ℕ) 
 
 module _ (z : Sizes) (fs : List Frame) (rs ws fq rl ads ss : List ℕ) (f good : ℕ) where
   abbrev st : State
-  st = seen z fs rs ws fq rl ads ss
+  st = seenPageDone (take (z .frames) fs) rs ws fq rl ads ss
 
   abbrev old : Frame
   old = frameAt fs f
@@ -58,12 +62,16 @@ module _ (z : Sizes) (fs : List Frame) (rs ws fq rl ads ss : List ℕ) (f good :
   out = own z st (pageDone f good)
 
   abbrev Left : Framed → List ℕ → List ℕ → List ℕ → List ℕ → List ℕ → Type 0
-  Left x rs' ws' fq' rl' ss' = DoneLeft out (z .frames) (x .frames) (x .answer) rs' ws' fq' rl' ss'
+  Left x rs' ws' fq' rl' ss' = Said out (take (z .frames) (x .frames)) (x .answer) rs' ws' fq' rl' ss'
+
+  -- the outcome by another name
+  left-by : {p : Outcome State} (x : Framed) {rs' ws' fq' rl' ss' : List ℕ} → out ≡ p → Said p (take (z .frames) (x .frames)) (x .answer) rs' ws' fq' rl' ss' → Left x rs' ws' fq' rl' ss'
+  left-by x {rs' = rs'} {ws' = ws'} {fq' = fq'} {rl' = rl'} {ss' = ss'} e h = subst (λ (o : Outcome State). Said o (take (z .frames) (x .frames)) (x .answer) rs' ws' fq' rl' ss') (sym e) h
 
   module _ {n : ℕ} (e : n ≡ firstNo (questions z st (pageDone f good))) where
     pub refused : ¬ (n ≡ 0) → {x : Framed} → x ≡ answered fs n 0 → Left x rs ws fq rl ss
-    refused d {x} y = left-by {x = x} (sym (own-no z st (pageDone f good) _ e d))
-        (record { answer = ap (λ (a : Framed). a .answer) y; frames = ap (λ (a : Framed). take (z .frames) (a .frames)) y; records = refl; words = refl; free-queue = refl; removal-list = refl; states = refl })
+    refused d {x} y = left-by x (sym (own-no z st (pageDone f good) _ e d))
+        (ap (λ (a : Framed). a .answer) y, (ap (λ (a : Framed). take (z .frames) (a .frames)) y, (refl, (refl, (refl, (refl, refl))))))
 
     module _ (yes : n ≡ 0) where
       asked : Asked (questions z st (pageDone f good))
@@ -79,9 +87,9 @@ module _ (z : Sizes) (fs : List Frame) (rs ws fq rl ads ss : List ℕ) (f good :
       moving = asked .1 .0
 
       -- ── what the leaves ask for ──
-      module _ (ready : DoneReady z (take (z .frames) fs) rs ws fq rl ads ss) where
+      module _ (ready : Queues (z .frames) fq rl × Transfers z (take (z .frames) fs) rs ws fq rl ads ss) where
         held : InTransfer z (frameAt (take (z .frames) fs) f .page) fq rl ads ss
-        held = ready .transfer f inside moving
+        held = ready .1 .moving f inside moving
 
         page-is : old .page ≡ suc (held .index)
         page-is = ap (λ (g : Frame). g .page) (sym same-frame) ∙ held .named
@@ -92,10 +100,10 @@ module _ (z : Sizes) (fs : List Frame) (rs ws fq rl ads ss : List ℕ) (f good :
         pub passed : Passed z fs rs ws fq rl ads ss f
         passed = record {
           paged = omega (arith, page-is);
-          room-queue = (omega (arith, inside, ready .most), (z .frames, rw (ready .queue-long) (ready .queued)), omega (arith, held .free-room, ready .queue-long));
-          room-list = (omega (arith, inside, ready .most), rw (ready .list-long) (ready .listed), omega (arith, held .list-room, ready .list-long));
-          part-frame = rw (ready .words-long) (part-fits (z .frames) (z .words) f inside);
-          part-record = λ r found. rw (found ∙ item-is, ready .records-long) (part-fits (z .records) (z .words) (held .item) (held .inside));
+          room-queue = (omega (arith, inside, ready .1 .frames-most), (z .frames, rw (ready .0 .free-long) (ready .0 .free-packed)), omega (arith, held .free-room, ready .0 .free-long));
+          room-list = (omega (arith, inside, ready .1 .frames-most), rw (ready .0 .list-long) (ready .0 .list-packed), omega (arith, held .list-room, ready .0 .list-long));
+          part-frame = rw (ready .1 .words-long) (part-fits (z .frames) (z .words) f inside);
+          part-record = λ r found. rw (found ∙ item-is, ready .1 .records-long) (part-fits (z .records) (z .words) (held .item) (held .inside));
           moves = λ r found. rw (found ∙ item-is) (held .moves);
         }
 
@@ -117,29 +125,17 @@ module _ (z : Sizes) (fs : List Frame) (rs ws fq rl ads ss : List ℕ) (f good :
         pub read-good : good ≡ 1 → {ws' rl' : List ℕ} {x : Framed} → ws' ≡ store ws (λ k. same (k / z .words) f) (λ k. at rs (pred (at ads (pred (old .page))) * z .words + k % z .words))
             → rl' ≡ push-front rl f → x ≡ answered (set fs f (fresh (pred (old .page)))) 0 0 → Left x rs ws' fq rl' ss
         unfolding carried Writeback.pageDone Writeback.readGood counted
-        read-good g {x = x} a b y = left-by {x = x} (by-way (Writeback.readGood z st f) (rw (eq-eqb _ _ t, eq-eqb _ _ g)))
-            (record {
-              answer = ap (λ (v : Framed). v .answer) y;
-              frames = stored (fresh (pred (old .page))) (fresh (pred (frameAt (take (z .frames) fs) f .page))) (ap (λ (v : Frame). fresh (pred (v .page))) (sym same-frame)) y;
-              records = refl;
-              words = a ∙ rw same-frame;
-              free-queue = refl;
-              removal-list = b;
-              states = refl;
-            })
+        read-good g {x = x} a b y = left-by x (by-way (Writeback.readGood z st f) (rw (eq-eqb _ _ t, eq-eqb _ _ g))) (
+          ap (λ (v : Framed). v .answer) y,
+          (stored (fresh (pred (old .page))) (fresh (pred (frameAt (take (z .frames) fs) f .page))) (ap (λ (v : Frame). fresh (pred (v .page))) (sym same-frame)) y, (refl, (a ∙ rw same-frame, (refl, (b, refl))))),
+        )
 
         pub read-failed : ¬ (good ≡ 1) → {fq' : List ℕ} {x : Framed} → fq' ≡ push-back fq f → x ≡ answered (set fs f noFrame) 0 0 → Left x rs ws fq' rl ss
         unfolding carried Writeback.pageDone Writeback.readFailed Writeback.freeFrame counted
-        read-failed g {x = x} a y = left-by {x = x} (by-way (Writeback.readFailed z st f) (rw (eq-eqb _ _ t, ne-eqb _ _ g)))
-            (record {
-              answer = ap (λ (v : Framed). v .answer) y;
-              frames = stored noFrame noFrame refl y;
-              records = refl;
-              words = refl;
-              free-queue = a;
-              removal-list = refl;
-              states = refl;
-            })
+        read-failed g {x = x} a y = left-by x (by-way (Writeback.readFailed z st f) (rw (eq-eqb _ _ t, ne-eqb _ _ g))) (
+          ap (λ (v : Framed). v .answer) y,
+          (stored noFrame noFrame refl y, (refl, (refl, (a, (refl, refl))))),
+        )
 
       module _ (writes : ¬ (old .transfer ≡ READING)) where
         u : ¬ (frameAt (take (z .frames) fs) f .transfer ≡ READING)
@@ -149,26 +145,14 @@ module _ (z : Sizes) (fs : List Frame) (rs ws fq rl ads ss : List ℕ) (f good :
             → rs' ≡ store rs (λ k. same (k / z .words) (pred (at ads (pred (old .page))))) (λ k. at ws (f * z .words + k % z .words))
             → ss' ≡ set ss (pred (at ads (pred (old .page)))) LIVE → fq' ≡ push-back fq f → x ≡ answered (set fs f noFrame) 0 0 → Left x rs' ws fq' rl ss'
         unfolding carried Writeback.pageDone Writeback.writeGood Writeback.storeFrame Writeback.freeFrame counted
-        write-good g {x = x} a b d y = left-by {x = x} (by-way (Writeback.writeGood z st f) (rw (ne-eqb _ _ u, eq-eqb _ _ g)))
-            (record {
-              answer = ap (λ (v : Framed). v .answer) y;
-              frames = stored noFrame noFrame refl y;
-              records = a ∙ rw same-frame;
-              words = refl;
-              free-queue = d;
-              removal-list = refl;
-              states = b ∙ rw same-frame;
-            })
+        write-good g {x = x} a b d y = left-by x (by-way (Writeback.writeGood z st f) (rw (ne-eqb _ _ u, eq-eqb _ _ g))) (
+          ap (λ (v : Framed). v .answer) y,
+          (stored noFrame noFrame refl y, (a ∙ rw same-frame, (refl, (d, (refl, b ∙ rw same-frame))))),
+        )
 
         pub write-failed : ¬ (good ≡ 1) → {rl' : List ℕ} {x : Framed} → rl' ≡ push-back rl f → x ≡ answered (set fs f (unwritten old)) 0 0 → Left x rs ws fq rl' ss
         unfolding carried Writeback.pageDone Writeback.writeFailed counted
-        write-failed g {x = x} a y = left-by {x = x} (by-way (Writeback.writeFailed z st f) (rw (ne-eqb _ _ u, ne-eqb _ _ g)))
-            (record {
-              answer = ap (λ (v : Framed). v .answer) y;
-              frames = stored (unwritten old) (unwritten (frameAt (take (z .frames) fs) f)) (ap unwritten (sym same-frame)) y;
-              records = refl;
-              words = refl;
-              free-queue = refl;
-              removal-list = a;
-              states = refl;
-            })
+        write-failed g {x = x} a y = left-by x (by-way (Writeback.writeFailed z st f) (rw (ne-eqb _ _ u, ne-eqb _ _ g))) (
+          ap (λ (v : Framed). v .answer) y,
+          (stored (unwritten old) (unwritten (frameAt (take (z .frames) fs) f)) (ap unwritten (sym same-frame)) y, (refl, (refl, (refl, (a, refl))))),
+        )

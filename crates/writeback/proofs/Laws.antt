@@ -21,8 +21,7 @@ use Rattle.model.specs.Step.{carried}
 use Rattle.model.specs.Fit.{Fit}
 use Rattle.model.specs.Ruled.{Ruled}
 use Rattle.model.specs.Lent.{stateIn, same-state}
-use Rattle.writeback.specs.MapDone.{mapDone}
-use Rattle.writeback.specs.Update.{update}
+use Rattle.writeback.specs.Seen.{mapDone, update}
 use Rattle.leaves.specs.Counts.{counts}
 use Rattle.writeback.proofs.Kept.{counts-alike, charged-alike, used-kept, map-kept, pool-kept}
 

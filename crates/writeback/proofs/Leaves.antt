@@ -19,7 +19,7 @@ use Rattle.model.specs.Lines.{NULLED, LEAVING, allowed}
 use Rattle.model.specs.State.{frameAt}
 use Rattle.leaves.specs.FrameLaws.{frameIn}
 use Rattle.writeback.specs.Pages.{framed}
-use Rattle.writeback.specs.Update.{leaving, leavingPage, PagesReady}
+use Rattle.writeback.specs.Update.{leaving, leavingPage, SlotPages}
 use Rattle.writeback.proofs.Moves.{nulled-leaving}
 
 -- the page is in one of the first n frames, or in none
@@ -37,7 +37,7 @@ module _ (n : ℕ) (fs : List Frame) (i : ℕ) where
   ]
 
 -- ── one turn ──
-module _ {z : Sizes} {s : ℕ} (fs : List Frame) {ads₀ ss₀ ads ss : List ℕ} (ready : PagesReady z s ads₀ ss₀) (i : ℕ)
+module _ {z : Sizes} {s : ℕ} (fs : List Frame) {ads₀ ss₀ ads ss : List ℕ} (ready : SlotPages z s ads₀ ss₀) (i : ℕ)
     (t : Turned ads₀ (leavingPage z fs ads₀ ss₀ s) (λ k. 0) i ads) (n : Named ss₀ (length ads₀) (leavingPage z fs ads₀ ss₀ s) ads₀ (λ r. LEAVING) i ss)
     (from : s * z .pages ≤ i) (to : i < s * z .pages + z .pages) where
   within : i < length ads₀

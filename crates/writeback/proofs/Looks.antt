@@ -16,7 +16,7 @@ use Rattle.model.specs.State.{frameAt}
 use Rattle.model.specs.Writeback.{Looked, look, warm, cooled}
 use Rattle.model.specs.LookLaws.{cool, cool-at, warms, warms-le, fewer}
 use Rattle.leaves.specs.FrameLaws.{frame-take, take-frame}
-use Rattle.writeback.specs.Claim.{LooksLeft}
+use Rattle.writeback.specs.Claim.{LooksEnded}
 
 -- ── one look ──
 module _ (fuel n : ℕ) (fs : List Frame) (f : ℕ) (xs : List ℕ) where
@@ -181,7 +181,7 @@ module _ {fs₀ : List Frame} {list₀ : List ℕ} {kept : List Frame} {looks f 
         one : suc (r .fuel - 1) ≡ r .fuel
         one = omega (arith, hot-fuel)
 
-  pub round-ends : warm g ≡ false → LooksLeft fs₀ list₀ kept looks list
+  pub round-ends : warm g ≡ false → LooksEnded fs₀ list₀ kept looks list
   unfolding pop
   round-ends w = record {
     the-looks = r .counted ∙ ap (λ (l : Looked). l .looks) ends;

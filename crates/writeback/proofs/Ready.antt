@@ -5,6 +5,7 @@ use Prim.Native.Nat.{ℕ, suc, _+_, _<_, pred}
 use native.Mathlib.Omega.{arith}
 use borrow.Author.Tests.{ne-eqb}
 use Rattle.tables.specs.Base.{at}
+use lib.ListN.{length}
 use Rattle.tables.specs.Queue.{size}
 use Rattle.tables.specs.QueueLaws.{room}
 use Rattle.tables.specs.Laws.{not-zero}
@@ -13,14 +14,22 @@ use Rattle.model.specs.Lines.{NULLED, LIVE}
 use Rattle.model.specs.State.{State, Frames, NONE, files, frames, allPages}
 use Rattle.model.specs.Fit.{Fit}
 use Rattle.model.specs.Ruled.{Ruled, once-free, once-list}
-use Rattle.writeback.specs.Done.{DoneReady}
-use Rattle.writeback.specs.MapDone.{MapReady}
-use Rattle.writeback.specs.Update.{UpdateReady}
+use Rattle.writeback.specs.Needs.{Sized, Queues, Addressed, Transfers, Mapped}
 use Rattle.writeback.proofs.Kept.{map-is}
 
 module _ (z : Sizes) (st : State) (fit : Fit z st) (ruled : Ruled z st) where
   abbrev c : Frames
   c = frames st
+
+  -- ── of several events ──
+  pub sized : Sized z
+  sized = record { frames-most = fit .sizes .frames-most; pages-some = fit .sizes .pages; pages-most = fit .sizes .pages-most; slots-most = fit .sizes .slots-most }
+
+  pub queues : Queues (z .frames) (st .memory .core .free-queue) (st .memory .core .removal-list)
+  queues = record { free-long = fit .memory .free-queue; free-packed = ruled .queues .free-queue; list-long = fit .memory .removal-list; list-packed = ruled .queues .removal-list }
+
+  pub addressed : Addressed z (st .memory .held .addresses) (st .memory .held .states)
+  addressed = record { long = fit .memory .addresses; inside = λ i r h e. rw (fit .memory .states) (ruled .records .address-fit i h r e); held-once = ruled .records .held-once }
 
   pub queue-room : (f : ℕ) → f < z .frames → c .queued f ≡ 0 → size (st .memory .core .free-queue) < z .frames
   queue-room f h e = omega (arith, fit .memory .free-queue, room (st .memory .core .free-queue) (fit .memory .free-queue) (ruled .queues .free-queue) (once-free z st ruled) f h e)
@@ -60,23 +69,23 @@ module _ (z : Sizes) (st : State) (fit : Fit z st) (ruled : Ruled z st) where
   pub moved : (f : ℕ) → f < z .frames → ¬ (c .frame f .transfer ≡ NONE) → (c .queued f ≡ 0) × (c .removing f ≡ 0)
   moved f h d = let e : c .queued f + c .removing f + c .frame f .wired + 1 ≡ 1 = rw (ne-eqb _ _ d) at (ruled .frames .in-one-place f h) in (omega arith, omega arith)
 
-  pub done-ready : DoneReady z (st .memory .core .frames) (st .disk .records) (st .memory .core .words) (st .memory .core .free-queue) (st .memory .core .removal-list) (st .memory .held .addresses) (st .memory .held .states)
-  done-ready = record {
-    positive = fit .sizes .words;
-    words-most = fit .sizes .words-most;
-    most = fit .sizes .frames-most;
-    records-most = fit .sizes .records-most;
-    records-long = fit .disk .records;
-    words-long = fit .memory .words;
-    queue-long = fit .memory .free-queue;
-    list-long = fit .memory .removal-list;
-    queued = ruled .queues .free-queue;
-    listed = ruled .queues .removal-list;
-    transfer = λ f h d. let m = moved f h d in let p = paged f h (m .0) in record { index = p .index; item = p .item; named = p .named; holds = p .holds; inside = p .inside; moves = p .moves; free-room = queue-room f h (m .0); list-room = list-room f h (m .1) };
-  }
+  pub done-ready : Queues (z .frames) (st .memory .core .free-queue) (st .memory .core .removal-list)
+      × Transfers z (st .memory .core .frames) (st .disk .records) (st .memory .core .words) (st .memory .core .free-queue) (st .memory .core .removal-list) (st .memory .held .addresses) (st .memory .held .states)
+  done-ready = (
+    queues,
+    record {
+      words-some = fit .sizes .words;
+      words-most = fit .sizes .words-most;
+      frames-most = fit .sizes .frames-most;
+      records-most = fit .sizes .records-most;
+      records-long = fit .disk .records;
+      words-long = fit .memory .words;
+      moving = λ f h d. let m = moved f h d in let p = paged f h (m .0) in record { index = p .index; item = p .item; named = p .named; holds = p .holds; inside = p .inside; moves = p .moves; free-room = queue-room f h (m .0); list-room = list-room f h (m .1) };
+    },
+  )
 
   -- ── map done ──
-  pub map-ready : MapReady z (st .disk .maps) (st .memory .held .states) (st .memory .held .owners) (st .memory .held .free-map) (st .memory .slots .images)
+  pub map-ready : Mapped z (st .disk .maps) (st .memory .held .states) (st .memory .held .owners) (st .memory .held .free-map) (st .memory .slots .images)
   map-ready = record {
     pages-some = fit .sizes .pages;
     records-most = fit .sizes .records-most;
@@ -88,15 +97,5 @@ module _ (z : Sizes) (st : State) (fit : Fit z st) (ruled : Ruled z st) where
   }
 
   -- ── update ──
-  pub update-ready : UpdateReady z (st .memory .held .addresses) (st .memory .held .states) (st .memory .held .owners) (st .memory .slots .images)
-  update-ready = record {
-    frames-most = fit .sizes .frames-most;
-    pages-some = fit .sizes .pages;
-    pages-most = fit .sizes .pages-most;
-    slots-most = fit .sizes .slots-most;
-    addresses-long = fit .memory .addresses;
-    images-long = fit .memory .images;
-    owners-long = fit .memory .owners ∙ sym (fit .memory .states);
-    inside = λ i r h e. rw (fit .memory .states) (ruled .records .address-fit i h r e);
-    held-once = ruled .records .held-once;
-  }
+  pub update-ready : Sized z × Addressed z (st .memory .held .addresses) (st .memory .held .states) × (length (st .memory .held .owners) ≡ length (st .memory .held .states)) × (length (st .memory .slots .images) ≡ allPages z)
+  update-ready = (sized, addressed, fit .memory .owners ∙ sym (fit .memory .states), fit .memory .images)

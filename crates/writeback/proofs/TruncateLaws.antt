@@ -33,10 +33,13 @@ use Rattle.model.specs.Ruled.{Ruled, once-free, once-list}
 use Rattle.model.specs.Lent.{stateIn, same-state}
 use Rattle.leaves.specs.Counts.{counts, countsFor, usedCounts}
 use Rattle.leaves.specs.Payers as Payers
-use Rattle.writeback.specs.Truncate.{truncate, usedThen, TruncateReady}
+use Rattle.writeback.specs.Needs.{Sized, Queues, Placed, Addressed, Releasable, Paid}
+use Rattle.writeback.specs.Seen.{truncate}
+use Rattle.writeback.specs.Truncate.{usedThen}
 use Rattle.writeback.proofs.Cut.{from-up, not-up}
 use Rattle.writeback.proofs.Kept.{counts-alike, charged-alike, used-is, map-kept, pool-kept}
 use Rattle.writeback.proofs.Moves.{nulled-released, live-released}
+use Rattle.writeback.proofs.Ready.{sized, queues, addressed}
 use Rattle.tables.specs.StoreLoops.{part-fits}
 
 -- a count over all pages is one over the pages before a slot, its own, and those after
@@ -79,26 +82,24 @@ module _ (z : Sizes) (st : State) (fit : Fit z st) (ruled : Ruled z st) where
       ruled .counts .used (payer v s) (Payers.payer-below z st (fit .disk .accounts) (ruled .disk .account-fit) (fit .sizes .accounts) s),
     )
 
-  pub truncate-ready : TruncateReady z (st .memory .core .frames) (st .disk .accounts) (st .disk .limits) (st .disk .parents) (st .memory .core .free-queue) (st .memory .core .removal-list) (st .memory .held .addresses) (st .memory .held .states) (st .memory .used)
+  pub truncate-ready : Sized z × Queues (z .frames) (st .memory .core .free-queue) (st .memory .core .removal-list)
+      × Placed (z .frames) (st .memory .core .frames) (st .memory .core .free-queue) (st .memory .core .removal-list)
+      × Addressed z (st .memory .held .addresses) (st .memory .held .states) × Releasable z (st .memory .held .addresses) (st .memory .held .states)
+      × Paid z (st .memory .core .frames) (st .disk .accounts) (st .disk .limits) (st .disk .parents) (st .memory .held .addresses) (st .memory .held .states) (st .memory .used)
   unfolding payer charged
-  truncate-ready = record {
-    most = fit .sizes .frames-most;
-    pages-some = fit .sizes .pages;
-    pages-most = fit .sizes .pages-most;
-    slots-most = fit .sizes .slots-most;
-    queue-long = fit .memory .free-queue;
-    list-long = fit .memory .removal-list;
-    addresses-long = fit .memory .addresses;
-    queued = ruled .queues .free-queue;
-    listed = ruled .queues .removal-list;
-    queue-once = once-free z st ruled;
-    list-once = once-list z st ruled;
-    unqueued = λ f h b. elim (ℕ-discrete (c .queued f) 0) [ yes e ↦ e | no e ↦ absurd (omega (arith, b, ruled .frames .free f h e .0)) ];
-    framed-once = λ f g h i b e. let q = not-zero (c .frame f .page) (λ n. omega (arith, b, n)) in ruled .frames .once f h g i (pred (c .frame f .page)) q (e ∙ q);
-    held-once = ruled .records .held-once;
-    along = λ i r h a. (rw (fit .memory .states) (ruled .records .address-fit i h r a), elim (ruled .records .held i h r a .1) [ inl q ↦ rw q nulled-released | inr q ↦ rw q live-released ]);
-    pays = λ s k h. pays-enough s k h;
-  }
+  truncate-ready = (
+    sized z st fit ruled,
+    queues z st fit ruled,
+    record {
+      free-once = once-free z st ruled;
+      list-once = once-list z st ruled;
+      unqueued = λ f h b. elim (ℕ-discrete (c .queued f) 0) [ yes e ↦ e | no e ↦ absurd (omega (arith, b, ruled .frames .free f h e .0)) ];
+      seated = λ f g h i b e. let q = not-zero (c .frame f .page) (λ n. omega (arith, b, n)) in ruled .frames .once f h g i (pred (c .frame f .page)) q (e ∙ q);
+    },
+    addressed z st fit ruled,
+    record { along = λ i r h a. elim (ruled .records .held i h r a .1) [ inl q ↦ rw q nulled-released | inr q ↦ rw q live-released ] },
+    record { enough = λ s k h. pays-enough s k h },
+  )
 
   -- ── truncated ──
   module _ (s k : ℕ) (asked : Asked (questions z st (truncate s k))) where

@@ -20,6 +20,7 @@ use Rattle.tables.specs.ThoseLaws.{those-same}
 use Rattle.model.specs.declared.sizes.Sizes.{Sizes}
 use Rattle.model.specs.declared.frame.Frame.{Frame}
 use Rattle.model.specs.declared.applied.Framed.{Framed}
+use Rattle.model.specs.declared.event.Answer.{Answer}
 use Rattle.model.specs.Lines.{RELEASED}
 use Rattle.model.specs.State.{State, frames, frameAt, noFrame, pageOf, allPages, payer}
 use Rattle.model.specs.State as Model
@@ -33,8 +34,10 @@ use Rattle.leaves.specs.FrameLaws.{frameIn, frame-take, frame-found}
 use Rattle.leaves.specs.Released.{Releasing}
 use Rattle.model.specs.OwnLaws.{own-yes, own-no}
 use Rattle.leaves.specs.Payers.{whoPays}
-use Rattle.writeback.specs.Pages.{framed, charged}
-use Rattle.writeback.specs.Truncate.{truncate, quiet, allQuiet, chargesFrom, cutFrame, cutFrames, CutReady, FramesReady, seen, usedThen, TruncateReady, TruncateLeft}
+use Rattle.writeback.specs.Needs.{Sized, Queues, Placed, Addressed, Releasable, Paid}
+use Rattle.writeback.specs.Pages.{framed, charged, chargesFrom}
+use Rattle.writeback.specs.Seen.{truncate, seenTruncate}
+use Rattle.writeback.specs.Truncate.{quiet, allQuiet, cutFrame, cutFrames, CutGiven, Cutting, ClearedLeft, usedThen, usedLeft}
 use Rattle.writeback.proofs.CutFrames.{without-alike}
 use Rattle.writeback.proofs.DoneWork.{answered}
 use Rattle.tables.specs.StoreLoops.{part-fits}
@@ -61,35 +64,52 @@ module _ (n : ℕ) (fs : List Frame) where
       (λ h. elim h [ inl l ↦ inl l | inr q ↦ inr (q .0, q .1, rw (frame-take n fs (q .0) (q .1)) (q .2)) ])
       (λ h. elim h [ inl l ↦ inl l | inr q ↦ inr (q .0, q .1, rw (frame-take n fs (q .0) (q .1)) at (q .2)) ])
 
+-- what the contract says of the answer, the frames, both queues, the addresses, the states and the used counts
+abbrev pub Said : Sizes → State → ℕ → ℕ → List Frame → Answer → List ℕ → List ℕ → List ℕ → List ℕ → List ℕ → Type 0
+Said z st s k fs a fq rl ds ss us =
+    let o = own z st (truncate s k) in
+    (a ≡ o .answer) × ((fs ≡ o .left .memory .core .frames) × ((fq ≡ o .left .memory .core .free-queue) × ((rl ≡ o .left .memory .core .removal-list)
+    × ((ds ≡ o .left .memory .held .addresses) × ((ss ≡ o .left .memory .held .states) × (us ≡ usedLeft z st s k))))))
+
 -- what the answers tell, as the passes ask it
 pub record Passed (z : Sizes) (fs : List Frame) (ac ls ps fq rl ds ss us : List ℕ) (s k : ℕ) : Type 0 where
-  pub sized : CutReady (z .frames) (z .pages) s k
+  pub sized : CutGiven (z .frames) (z .pages) s k
   pub addresses-fit : s * z .pages + z .pages ≤ length ds
-  pub frames-ready : FramesReady (z .frames) (z .pages) s k fs fq rl
+  pub cutting : Cutting (z .frames) (z .pages) s k fs fq rl
   pub releasing : Releasing z s k ss ds
   pub pays : (m : ℕ) → m ≡ chargesFrom (z .frames) (z .pages) s k fs ds ss → m ≤ at us (whoPays ac ls ps s)
 
 module _ (z : Sizes) (fs : List Frame) (ns ac ls ps fq rl ds ss act us : List ℕ) (s k : ℕ) where
   abbrev st : State
-  st = seen z fs ns ac ls ps fq rl ds ss act us
+  st = seenTruncate (take (z .frames) fs) ns ac ls ps fq rl ds ss act us
 
   abbrev out : Outcome State
   out = own z st (truncate s k)
 
   abbrev Left : Framed → List ℕ → List ℕ → List ℕ → List ℕ → List ℕ → Type 0
-  Left x fq' rl' ds' ss' us' = TruncateLeft z st s k (x .frames) (x .answer) fq' rl' ds' ss' us'
+  Left x fq' rl' ds' ss' us' = Said z st s k (take (z .frames) (x .frames)) (x .answer) fq' rl' ds' ss' us'
 
   module _ {n : ℕ} (e : n ≡ firstNo (questions z st (truncate s k))) where
     pub refused : ¬ (n ≡ 0) → {x : Framed} → x ≡ answered fs n 0 → Left x fq rl ds ss us
-    refused d {x} y = record {
-      answer = ap (λ (v : Framed). v .answer) y ∙ sym (ap (λ (o : Outcome State). o .answer) no);
-      frames = ap (λ (v : Framed). take (z .frames) (v .frames)) y ∙ sym (ap (λ (o : Outcome State). o .left .memory .core .frames) no);
-      free-queue = sym (ap (λ (o : Outcome State). o .left .memory .core .free-queue) no);
-      removal-list = sym (ap (λ (o : Outcome State). o .left .memory .core .removal-list) no);
-      addresses = sym (ap (λ (o : Outcome State). o .left .memory .held .addresses) no);
-      states = sym (ap (λ (o : Outcome State). o .left .memory .held .states) no);
-      used = stays n d ∙ ap (λ (m : ℕ). outcome m 0 us (usedThen z st s k) .left) e;
-    }
+    refused d {x} y = (
+      ap (λ (v : Framed). v .answer) y ∙ sym (ap (λ (o : Outcome State). o .answer) no),
+      (
+        ap (λ (v : Framed). take (z .frames) (v .frames)) y ∙ sym (ap (λ (o : Outcome State). o .left .memory .core .frames) no),
+        (
+          sym (ap (λ (o : Outcome State). o .left .memory .core .free-queue) no),
+          (
+            sym (ap (λ (o : Outcome State). o .left .memory .core .removal-list) no),
+            (
+              sym (ap (λ (o : Outcome State). o .left .memory .held .addresses) no),
+              (
+                sym (ap (λ (o : Outcome State). o .left .memory .held .states) no),
+                stays n d ∙ ap (λ (m : ℕ). outcome m 0 us (usedThen z st s k) .left) e,
+              ),
+            ),
+          ),
+        ),
+      ),
+    )
       where
         no : out ≡ record { answer = record { refusal = n; result = 0 }; left = st }
         no = sym (own-no z st (truncate s k) _ e d)
@@ -98,7 +118,7 @@ module _ (z : Sizes) (fs : List Frame) (ns ac ls ps fq rl ds ss act us : List �
         stays zero d = absurd (d refl)
         stays (suc m) d = refl
 
-    module _ (yes : n ≡ 0) (ready : TruncateReady z (take (z .frames) fs) ac ls ps fq rl ds ss us) where
+    module _ (yes : n ≡ 0) (ready : Sized z × Queues (z .frames) fq rl × Placed (z .frames) (take (z .frames) fs) fq rl × Addressed z ds ss × Releasable z ds ss × Paid z (take (z .frames) fs) ac ls ps ds ss us) where
       asked : Asked (questions z st (truncate s k))
       asked = all-yes 2 (questions z st (truncate s k)) tt (sym e ∙ yes)
 
@@ -108,33 +128,32 @@ module _ (z : Sizes) (fs : List Frame) (ns ac ls ps fq rl ds ss act us : List �
       from : k ≤ z .pages
       from = omega (arith, asked .0 .1)
 
-      sized : CutReady (z .frames) (z .pages) s k
-      sized = record { most = ready .most; pages-most = ready .pages-most; slots-most = omega (arith, inside, ready .slots-most); from = from }
+      sized : CutGiven (z .frames) (z .pages) s k
+      sized = record { most = ready .0 .frames-most; pages-most = ready .0 .pages-most; slots-most = omega (arith, inside, ready .0 .slots-most); from = from }
 
       addresses-fit : s * z .pages + z .pages ≤ length ds
-      addresses-fit = rw (ready .addresses-long) (part-fits (z .slots) (z .pages) s inside)
+      addresses-fit = rw (ready .3 .long) (part-fits (z .slots) (z .pages) s inside)
 
-      frames-ready : FramesReady (z .frames) (z .pages) s k fs fq rl
-      frames-ready = record {
+      cutting : Cutting (z .frames) (z .pages) s k fs fq rl
+      cutting = record {
         sized = sized;
-        queue-long = ready .queue-long;
-        list-long = ready .list-long;
-        queued = ready .queued;
-        listed = ready .listed;
-        queue-once = ready .queue-once;
-        list-once = ready .list-once;
-        unqueued = λ f h b. ready .unqueued f h (rw (same-page (z .frames) fs f h) at b);
-        framed-once = λ f g h i b q. ready .framed-once f g h i (rw (same-page (z .frames) fs f h) at b) (sym (same-page (z .frames) fs g i) ∙ q ∙ same-page (z .frames) fs f h);
+        queues = ready .1;
+        placed = record {
+          free-once = ready .2 .free-once;
+          list-once = ready .2 .list-once;
+          unqueued = λ f h b. ready .2 .unqueued f h (rw (same-page (z .frames) fs f h) at b);
+          seated = λ f g h i b q. ready .2 .seated f g h i (rw (same-page (z .frames) fs f h) at b) (sym (same-page (z .frames) fs g i) ∙ q ∙ same-page (z .frames) fs f h);
+        };
       }
 
       releasing : Releasing z s k ss ds
       releasing = record {
-        pages-some = ready .pages-some;
+        pages-some = ready .0 .pages-some;
         from = from;
         inside = part-fits (z .slots) (z .pages) s inside;
-        addresses-long = ready .addresses-long;
-        held-once = ready .held-once;
-        along = λ i r h a. ready .along i r (omega (arith, from-inside (z .pages) s (ready .pages-some) k i h .1, part-fits (z .slots) (z .pages) s inside)) a;
+        addresses-long = ready .3 .long;
+        held-once = ready .3 .held-once;
+        along = λ i r h a. let b : i < allPages z = omega (arith, from-inside (z .pages) s (ready .0 .pages-some) k i h .1, part-fits (z .slots) (z .pages) s inside) in (ready .3 .inside i r b a, ready .4 .along i r b a);
       }
 
       -- the charges counted
@@ -145,17 +164,17 @@ module _ (z : Sizes) (fs : List Frame) (ns ac ls ps fq rl ds ss act us : List �
       passed = record {
         sized = sized;
         addresses-fit = addresses-fit;
-        frames-ready = frames-ready;
+        cutting = cutting;
         releasing = releasing;
-        pays = λ m q. rw (q ∙ charges-are) (ready .pays s k inside);
+        pays = λ m q. rw (q ∙ charges-are) (ready .5 .enough s k inside);
       }
 
       -- a frame is cut off
       to-cut : (f : ℕ) → f < z .frames → Holds (cutFrame (z .pages) s k (z .pages) (frameAt fs f)) → Holds (Writeback.cutFrame z st s k f)
-      to-cut f h y = let p = frameAt fs f .page - 1 in (p, sym (same-page (z .frames) fs f h) ∙ omega (arith, y .0), inside-from (z .pages) s (ready .pages-some) k p (λ l. omega (arith, y .0), omega (arith, y .0, y .1)))
+      to-cut f h y = let p = frameAt fs f .page - 1 in (p, sym (same-page (z .frames) fs f h) ∙ omega (arith, y .0), inside-from (z .pages) s (ready .0 .pages-some) k p (λ l. omega (arith, y .0), omega (arith, y .0, y .1)))
 
       from-cut : (f : ℕ) → f < z .frames → Holds (Writeback.cutFrame z st s k f) → Holds (cutFrame (z .pages) s k (z .pages) (frameAt fs f))
-      from-cut f h y = let b = from-inside (z .pages) s (ready .pages-some) k (y .0) (y .2) in let q : frameAt fs f .page ≡ suc (y .0) = same-page (z .frames) fs f h ∙ y .1 in (omega (arith, b .0), omega (arith, b .1))
+      from-cut f h y = let b = from-inside (z .pages) s (ready .0 .pages-some) k (y .0) (y .2) in let q : frameAt fs f .page ≡ suc (y .0) = same-page (z .frames) fs f h ∙ y .1 in (omega (arith, b .0), omega (arith, b .1))
 
       cut-alike : (f : ℕ) → f < z .frames → test (cutFrame (z .pages) s k (z .pages) (frameAt fs f)) ≡ test (Writeback.cutFrame z st s k f)
       cut-alike f h = alike (cutFrame (z .pages) s k (z .pages) (frameAt fs f)) (Writeback.cutFrame z st s k f) (to-cut f h) (from-cut f h)
@@ -172,7 +191,7 @@ module _ (z : Sizes) (fs : List Frame) (ns ac ls ps fq rl ds ss act us : List �
           then f = if (test (Writeback.cutFrame z st s k f)) noFrame (frameAt (take (z .frames) fs) f)
 
           long : (xs : List Frame) → length xs ≡ length fs → length (take (z .frames) xs) ≡ z .frames
-          long xs q = simp length-take (omega (arith, q, l, ready .most))
+          long xs q = simp length-take (omega (arith, q, l, ready .0 .frames-most))
 
       queue-is : cutFrames (z .frames) (z .pages) s k fs (z .pages) ≡ Writeback.cutFrames z st s k
       unfolding Writeback.cutFrames
@@ -180,7 +199,7 @@ module _ (z : Sizes) (fs : List Frame) (ns ac ls ps fq rl ds ss act us : List �
           ∙ ap (λ (g : ℕ → ℕ). map g (those (z .pages) (λ p. leb k p && test (Model.framed z (frames st) (pageOf z s p))) 0)) (λ j p. frame-found z (frames st) fs (pageOf z s p) (λ f h. frame-take (z .frames) fs f h) j)
 
       list-is : without (λ f. test (cutFrame (z .pages) s k (z .pages) (frameAt fs f))) (members rl) ≡ without (λ f. test (Writeback.cutFrame z st s k f)) (members rl)
-      list-is = without-alike _ _ (members rl) (λ f h. cut-alike f (members-within rl (ready .list-long) (ready .listed) f h))
+      list-is = without-alike _ _ (members rl) (λ f h. cut-alike f (members-within rl (ready .1 .list-long) (ready .1 .list-packed) f h))
 
       used-is : {m : ℕ} → m ≡ chargesFrom (z .frames) (z .pages) s k fs ds ss → set us (whoPays ac ls ps s) (at us (whoPays ac ls ps s) - m) ≡ usedThen z st s k
       unfolding usedThen payer Model.charged
@@ -190,18 +209,28 @@ module _ (z : Sizes) (fs : List Frame) (ns ac ls ps fq rl ds ss act us : List �
           → us' ≡ set us (whoPays ac ls ps s) (at us (whoPays ac ls ps s) - m) → fq' ≡ packed (length fq) (members fq ++ cutFrames (z .frames) (z .pages) s k fs (z .pages))
           → rl' ≡ packed (length rl) (without (λ f. test (cutFrame (z .pages) s k (z .pages) (frameAt fs f))) (members rl))
           → ss' ≡ store ss (λ r. some (allPages z) λ i. fromPage z s k i and same (at ds i) (suc r)) (λ r. RELEASED) → ds' ≡ store ds (fromPage z s k) (λ i. 0)
-          → (length gs ≡ length fs) × ((f : ℕ) → f < z .frames → Split (Holds (cutFrame (z .pages) s k (z .pages) (frameAt fs f))) (frameAt gs f) noFrame (frameAt fs f))
+          → ClearedLeft (z .frames) (z .pages) s k fs gs
           → x ≡ answered gs 0 0 → Left x fq' rl' ds' ss' us'
       unfolding carried result Writeback.truncate counted
-      cut-off {gs = gs} l q u a b c d g y = record {
-        answer = ap (λ (v : Framed). v .answer) y ∙ sym (ap (λ (o : Outcome State). o .answer) way);
-        frames = ap (λ (v : Framed). take (z .frames) (v .frames)) y ∙ frames-are gs l (g .0) (g .1) ∙ sym (ap (λ (o : Outcome State). o .left .memory .core .frames) way);
-        free-queue = a ∙ ap (λ (xs : List ℕ). packed (length fq) (members fq ++ xs)) queue-is ∙ sym (ap (λ (o : Outcome State). o .left .memory .core .free-queue) way);
-        removal-list = b ∙ ap (packed (length rl)) list-is ∙ sym (ap (λ (o : Outcome State). o .left .memory .core .removal-list) way);
-        addresses = d ∙ sym (ap (λ (o : Outcome State). o .left .memory .held .addresses) way);
-        states = c ∙ sym (ap (λ (o : Outcome State). o .left .memory .held .states) way);
-        used = u ∙ used-is q ∙ sym (ap (λ (m : ℕ). outcome m 0 us (usedThen z st s k) .left) (sym e ∙ yes));
-      }
+      cut-off {gs = gs} l q u a b c d g y = (
+        ap (λ (v : Framed). v .answer) y ∙ sym (ap (λ (o : Outcome State). o .answer) way),
+        (
+          ap (λ (v : Framed). take (z .frames) (v .frames)) y ∙ frames-are gs l (g .0) (g .1) ∙ sym (ap (λ (o : Outcome State). o .left .memory .core .frames) way),
+          (
+            a ∙ ap (λ (xs : List ℕ). packed (length fq) (members fq ++ xs)) queue-is ∙ sym (ap (λ (o : Outcome State). o .left .memory .core .free-queue) way),
+            (
+              b ∙ ap (packed (length rl)) list-is ∙ sym (ap (λ (o : Outcome State). o .left .memory .core .removal-list) way),
+              (
+                d ∙ sym (ap (λ (o : Outcome State). o .left .memory .held .addresses) way),
+                (
+                  c ∙ sym (ap (λ (o : Outcome State). o .left .memory .held .states) way),
+                  u ∙ used-is q ∙ sym (ap (λ (m : ℕ). outcome m 0 us (usedThen z st s k) .left) (sym e ∙ yes)),
+                ),
+              ),
+            ),
+          ),
+        ),
+      )
         where
           way : out ≡ completed 0 (carried z st (truncate s k))
           way = sym (own-yes z st (truncate s k) _ e yes)

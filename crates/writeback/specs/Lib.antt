@@ -1,9 +1,9 @@
--- What the events that free, cut and store see, need and leave: `seen` is the state that an event reads, `..Ready` what a function needs, `..Left` what it leaves.
--- Each event's contract goes by bare names: `Given` is its need, `Left` what it leaves.
+-- What the events that free, cut and store see, need and leave: `seen..` is the state that an event reads, `entered..` that state by bare names, `Needs` what questions 1 and 2 give.
+-- What a pass inside an event is given and leaves goes by bare names too: `..Given` and `..Left`.
 pub mod ByPage
 pub mod Claim
-pub mod Done
-pub mod MapDone
+pub mod Needs
 pub mod Pages
+pub mod Seen
 pub mod Truncate
 pub mod Update

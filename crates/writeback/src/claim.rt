@@ -2,16 +2,17 @@
 ghost use mathlib.Core.Path.{_≡_};
 ghost use mathlib.Core.Bool.{false, not};
 ghost use mathlib.Core.Logic.{_⊎_};
-ghost use Prim.Native.Nat.{_+_, _-_, _*_, _/_, _<_, _≤_};
+ghost use Prim.Native.Nat.{_+_, _-_, _*_, _<_, _≤_};
 ghost use lib.Dec.{eqb};
-ghost use lib.ListN.{length, set};
+ghost use lib.ListN.{length, set, take};
 ghost use Rattle.tables.specs.Base.{at, all, if};
-ghost use Rattle.tables.specs.Queue.{queue, size};
-ghost use Rattle.tables.specs.Rule.{Holds};
 ghost use Rattle.leaves.specs.Payers.{whoPays};
 ghost use Rattle.model.specs.Lines.{NULLED, LIVE};
 ghost use Rattle.model.specs.Writeback.{warm};
-ghost use Rattle.writeback.specs.Claim.{LooksLeft, Given, Left};
+ghost use Rattle.model.specs.Own.{own};
+ghost use Rattle.writeback.specs.Claim.{usedLeft, LooksGiven, LooksLeft};
+ghost use Rattle.writeback.specs.Needs.{Queues, Claimable};
+ghost use Rattle.writeback.specs.Seen.{claim, enteredClaim};
 use crate::charges::uncharge;
 use crate::names::named;
 use crate::names::record_of;
@@ -54,8 +55,8 @@ fn is_warm(frame: Frame) -> bool
 
 // The first entry goes to the list's end, cooled, while it is warm; then it is the one to take.
 fn turn(frames: [Frame; 64], list: &mut [u16]) -> Looks
-    requires { ⌜ Holds (queue (length (now list)) (now list)) × (0 < size (now list)) × (length (now list) < 65) ⌝ }
-    ensures { λ r. ⌜ LooksLeft frames (now (list .entry)) (r .frames) (r .looks) (now (list .exit)) ⌝ }
+    requires { ⌜ LooksGiven list ⌝ }
+    ensures { λ r. ⌜ LooksLeft frames list (r .frames) (r .looks) ⌝ }
 {
     let mut kept = frames;
     let mut looks = 1;
@@ -127,8 +128,14 @@ pub fn claim(
     states: &mut [u8],
     used: &mut [u16],
 ) -> Framed
-    requires { ⌜ Given sizes frames accounts limits parents words «free_queue» «removal_list» addresses states used ⌝ }
-    ensures { λ r. ⌜ Left sizes frames accounts limits parents words «free_queue» «removal_list» addresses states used r ⌝ }
+    requires { ⌜ Queues (sizes .frames) (now «free_queue») (now «removal_list»)
+        × Claimable sizes (take (sizes .frames) frames) (now accounts) (now limits) (now parents) (now words) (now «free_queue») (now «removal_list») (now addresses) (now states) (now used) ⌝ }
+    ensures answer { λ r. ⌜ r .answer ≡ own sizes (enteredClaim (take (sizes .frames) frames) accounts limits parents words «free_queue» «removal_list» addresses states used) claim .answer ⌝ }
+    ensures frames { λ r. ⌜ take (sizes .frames) (r .frames) ≡ own sizes (enteredClaim (take (sizes .frames) frames) accounts limits parents words «free_queue» «removal_list» addresses states used) claim .left .memory .core .frames ⌝ }
+    ensures free_queue { λ r. ⌜ now («free_queue» .exit) ≡ own sizes (enteredClaim (take (sizes .frames) frames) accounts limits parents words «free_queue» «removal_list» addresses states used) claim .left .memory .core .free-queue ⌝ }
+    ensures removal_list { λ r. ⌜ now («removal_list» .exit) ≡ own sizes (enteredClaim (take (sizes .frames) frames) accounts limits parents words «free_queue» «removal_list» addresses states used) claim .left .memory .core .removal-list ⌝ }
+    ensures states { λ r. ⌜ now (states .exit) ≡ own sizes (enteredClaim (take (sizes .frames) frames) accounts limits parents words «free_queue» «removal_list» addresses states used) claim .left .memory .held .states ⌝ }
+    ensures used { λ r. ⌜ now (used .exit) ≡ usedLeft sizes (enteredClaim (take (sizes .frames) frames) accounts limits parents words «free_queue» «removal_list» addresses states used) ⌝ }
 {
     if at16(removal_list, 0) == 0 {
         return answered(frames, NOTHING_TO_CLAIM, 0);

@@ -7,7 +7,9 @@ ghost use Rattle.model.specs.State.{freeCount};
 ghost use Rattle.model.specs.Pool.{deposited};
 ghost use Rattle.model.specs.Questions.{questions};
 ghost use Rattle.model.specs.Own.{own};
-ghost use Rattle.writeback.specs.MapDone.{mapDone, asked, entered, MapReady, Left};
+ghost use Rattle.model.specs.Lent.{noPool};
+ghost use Rattle.writeback.specs.Needs.{Mapped};
+ghost use Rattle.writeback.specs.Seen.{mapDone, enteredMapDone, askedMapDone};
 use leaves::cells::at8;
 use leaves::cells::at32;
 use leaves::cells::put8;
@@ -35,7 +37,7 @@ fn ask_map_done(
     active: &[u8],
     updating: &[u8],
 ) -> u32
-    ensures { λ r. ⌜ r ≡ firstNo (questions sizes (asked (now (numbers .entry)) (now (active .entry)) (now (updating .entry))) (mapDone slot good)) ⌝ }
+    ensures { λ r. ⌜ r ≡ firstNo (questions sizes (askedMapDone numbers active updating) (mapDone slot good)) ⌝ }
 {
     if slot >= sizes.slots {
         return 3;
@@ -68,9 +70,16 @@ pub fn map_done(
     updating: &mut [u8],
     images: &mut [u16],
 ) -> Freed
-    requires { ⌜ MapReady sizes (now maps) (now states) (now owners) (now «free_map») (now images) ⌝ }
-    ensures { λ r. ⌜ ((pool : Pool) → pool .free ≡ freeCount sizes (at (now (states .entry)))
-        → Left (own sizes (entered pool numbers maps states owners «free_map» active updating images) (mapDone slot good)) (deposited (r .deposited) pool) (r .answer) maps states owners «free_map» updating images) ⌝ }
+    requires { ⌜ Mapped sizes (now maps) (now states) (now owners) (now «free_map») (now images) ⌝ }
+    ensures answer { λ r. ⌜ r .answer ≡ own sizes (enteredMapDone noPool numbers maps states owners «free_map» active updating images) (mapDone slot good) .answer ⌝ }
+    ensures pool { λ r. ⌜ ((pool : Pool) → pool .free ≡ freeCount sizes (at (now (states .entry)))
+        → deposited (r .deposited) pool ≡ own sizes (enteredMapDone pool numbers maps states owners «free_map» active updating images) (mapDone slot good) .left .memory .held .pool) ⌝ }
+    ensures maps { λ r. ⌜ now (maps .exit) ≡ own sizes (enteredMapDone noPool numbers maps states owners «free_map» active updating images) (mapDone slot good) .left .disk .maps ⌝ }
+    ensures states { λ r. ⌜ now (states .exit) ≡ own sizes (enteredMapDone noPool numbers maps states owners «free_map» active updating images) (mapDone slot good) .left .memory .held .states ⌝ }
+    ensures owners { λ r. ⌜ now (owners .exit) ≡ own sizes (enteredMapDone noPool numbers maps states owners «free_map» active updating images) (mapDone slot good) .left .memory .held .owners ⌝ }
+    ensures free_map { λ r. ⌜ now («free_map» .exit) ≡ own sizes (enteredMapDone noPool numbers maps states owners «free_map» active updating images) (mapDone slot good) .left .memory .held .free-map ⌝ }
+    ensures updating { λ r. ⌜ now (updating .exit) ≡ own sizes (enteredMapDone noPool numbers maps states owners «free_map» active updating images) (mapDone slot good) .left .memory .slots .updating ⌝ }
+    ensures images { λ r. ⌜ now (images .exit) ≡ own sizes (enteredMapDone noPool numbers maps states owners «free_map» active updating images) (mapDone slot good) .left .memory .slots .images ⌝ }
 {
     let refusal = ask_map_done(sizes, slot, good, numbers, active, updating);
     if refusal != 0 {

@@ -1,12 +1,14 @@
 // Page done: a frame's read or write has ended, good or failed.
 ghost use mathlib.Core.Path.{_≡_};
-ghost use lib.ListN.{set};
+ghost use lib.ListN.{set, take};
 ghost use mathlib.Core.Logic.{_⊎_};
 ghost use Rattle.tables.specs.Base.{at};
 ghost use Rattle.tables.specs.Questions.{firstNo};
 ghost use Rattle.model.specs.Lines.{NULLED, LIVE};
+ghost use Rattle.model.specs.Own.{own};
 ghost use Rattle.model.specs.Questions.{questions};
-ghost use Rattle.writeback.specs.Done.{pageDone, asked, Given, Left};
+ghost use Rattle.writeback.specs.Needs.{Queues, Transfers};
+ghost use Rattle.writeback.specs.Seen.{pageDone, enteredPageDone, askedPageDone};
 use crate::names::record_of;
 use crate::switches::served;
 use crate::switches::unwritten;
@@ -31,7 +33,7 @@ use model::sizes::Sizes;
 
 // Questions 3 and 22.
 fn ask_done(sizes: Sizes, frame: usize, good: usize, frames: [Frame; 64]) -> u32
-    ensures { λ r. ⌜ r ≡ firstNo (questions sizes (asked sizes frames) (pageDone frame good)) ⌝ }
+    ensures { λ r. ⌜ r ≡ firstNo (questions sizes (askedPageDone (take (sizes .frames) frames)) (pageDone frame good)) ⌝ }
 {
     if frame >= sizes.frames {
         return NO_RANGE;
@@ -68,8 +70,15 @@ pub fn page_done(
     addresses: &[u16],
     states: &mut [u8],
 ) -> Framed
-    requires { ⌜ Given sizes frames records words «free_queue» «removal_list» addresses states ⌝ }
-    ensures { λ r. ⌜ Left sizes frame good frames records words «free_queue» «removal_list» addresses states r ⌝ }
+    requires { ⌜ Queues (sizes .frames) (now «free_queue») (now «removal_list»)
+        × Transfers sizes (take (sizes .frames) frames) (now records) (now words) (now «free_queue») (now «removal_list») (now addresses) (now states) ⌝ }
+    ensures answer { λ r. ⌜ r .answer ≡ own sizes (enteredPageDone (take (sizes .frames) frames) records words «free_queue» «removal_list» addresses states) (pageDone frame good) .answer ⌝ }
+    ensures frames { λ r. ⌜ take (sizes .frames) (r .frames) ≡ own sizes (enteredPageDone (take (sizes .frames) frames) records words «free_queue» «removal_list» addresses states) (pageDone frame good) .left .memory .core .frames ⌝ }
+    ensures records { λ r. ⌜ now (records .exit) ≡ own sizes (enteredPageDone (take (sizes .frames) frames) records words «free_queue» «removal_list» addresses states) (pageDone frame good) .left .disk .records ⌝ }
+    ensures words { λ r. ⌜ now (words .exit) ≡ own sizes (enteredPageDone (take (sizes .frames) frames) records words «free_queue» «removal_list» addresses states) (pageDone frame good) .left .memory .core .words ⌝ }
+    ensures free_queue { λ r. ⌜ now («free_queue» .exit) ≡ own sizes (enteredPageDone (take (sizes .frames) frames) records words «free_queue» «removal_list» addresses states) (pageDone frame good) .left .memory .core .free-queue ⌝ }
+    ensures removal_list { λ r. ⌜ now («removal_list» .exit) ≡ own sizes (enteredPageDone (take (sizes .frames) frames) records words «free_queue» «removal_list» addresses states) (pageDone frame good) .left .memory .core .removal-list ⌝ }
+    ensures states { λ r. ⌜ now (states .exit) ≡ own sizes (enteredPageDone (take (sizes .frames) frames) records words «free_queue» «removal_list» addresses states) (pageDone frame good) .left .memory .held .states ⌝ }
 {
     let refusal = ask_done(sizes, frame, good, frames);
     if refusal != 0 {

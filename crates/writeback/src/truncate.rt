@@ -1,14 +1,16 @@
 // Truncate: the pages of a slot from page k up become zeros.
 ghost use mathlib.Core.Path.{_≡_};
-ghost use Prim.Native.Nat.{ℕ, _<_};
-ghost use lib.ListN.{length};
+ghost use Prim.Native.Nat.{_<_};
+ghost use lib.ListN.{take};
 ghost use Rattle.tables.specs.Questions.{firstNo};
-ghost use Rattle.tables.specs.Rule.{Holds, test};
-ghost use Rattle.tables.specs.Store.{Split};
-ghost use Rattle.model.specs.State.{frameAt, noFrame};
+ghost use Rattle.tables.specs.Rule.{test};
+ghost use Rattle.model.specs.Own.{own};
 ghost use Rattle.model.specs.Questions.{questions};
 ghost use Rattle.writeback.specs.ByPage.{chargedEntry};
-ghost use Rattle.writeback.specs.Truncate.{quiet, allQuiet, chargesFrom, cutFrame, CutReady, FramesReady, FramesLeft, truncate, asked, Given, Left};
+ghost use Rattle.writeback.specs.Needs.{Sized, Queues, Placed, Addressed, Releasable, Paid};
+ghost use Rattle.writeback.specs.Pages.{chargesFrom};
+ghost use Rattle.writeback.specs.Seen.{truncate, enteredTruncate, askedTruncate};
+ghost use Rattle.writeback.specs.Truncate.{quiet, allQuiet, CutGiven, FramesGiven, FramesLeft, ClearedLeft, usedLeft};
 use crate::by_page::by_page;
 use crate::by_page::wide;
 use crate::charges::uncharge;
@@ -48,7 +50,7 @@ fn all_quiet(
     k: usize,
     frames: [Frame; 64],
 ) -> bool
-    requires { ⌜ CutReady count pages slot k ⌝ }
+    requires { ⌜ CutGiven count pages slot k ⌝ }
     ensures { λ r. ⌜ r ≡ test (allQuiet which count pages slot k frames) ⌝ }
 {
     let start = slot * pages;
@@ -92,7 +94,7 @@ fn charges(
     addresses: &[u16],
     states: &[u8],
 ) -> usize
-    requires { ⌜ CutReady count pages slot k ⌝ }
+    requires { ⌜ CutGiven count pages slot k ⌝ }
     ensures { λ r. ⌜ r ≡ chargesFrom count pages slot k frames (now (addresses .entry)) (now (states .entry)) ⌝ }
 {
     let start = slot * pages;
@@ -116,8 +118,8 @@ fn clear_frames(
     k: usize,
     frames: [Frame; 64],
 ) -> [Frame; 64]
-    requires { ⌜ CutReady count pages slot k ⌝ }
-    ensures { λ r. ⌜ (length r ≡ length frames) × ((f : ℕ) → f < count → Split (Holds (cutFrame pages slot k pages (frameAt frames f))) (frameAt r f) noFrame (frameAt frames f)) ⌝ }
+    requires { ⌜ CutGiven count pages slot k ⌝ }
+    ensures { λ r. ⌜ ClearedLeft count pages slot k frames r ⌝ }
 {
     let start = slot * pages;
     let mut kept = frames;
@@ -145,7 +147,7 @@ fn free_frames(
     free_queue: &mut [u16],
     removal_list: &mut [u16],
 )
-    requires { ⌜ FramesReady count pages slot k frames (now «free_queue») (now «removal_list») ⌝ }
+    requires { ⌜ FramesGiven count pages slot k frames «free_queue» «removal_list» ⌝ }
     ensures { λ _. ⌜ FramesLeft count pages slot k frames «free_queue» «removal_list» ⌝ }
 {
     let entries = by_page(false, count, pages, slot, frames, [0; 256]);
@@ -170,7 +172,7 @@ fn ask_truncate(
     active: &[u8],
 ) -> u32
     requires { ⌜ (sizes .frames < 65) × (sizes .pages < 257) × (sizes .slots < 65) ⌝ }
-    ensures { λ r. ⌜ r ≡ firstNo (questions sizes (asked sizes frames numbers active) (truncate slot k)) ⌝ }
+    ensures { λ r. ⌜ r ≡ firstNo (questions sizes (askedTruncate (take (sizes .frames) frames) numbers active) (truncate slot k)) ⌝ }
 {
     let in_range = (slot < sizes.slots) & (k <= sizes.pages);
     let no = ask_slot(in_range, slot, numbers, active);
@@ -202,8 +204,16 @@ pub fn truncate(
     active: &[u8],
     used: &mut [u16],
 ) -> Framed
-    requires { ⌜ Given sizes frames accounts limits parents «free_queue» «removal_list» addresses states used ⌝ }
-    ensures { λ r. ⌜ Left sizes slot k frames numbers accounts limits parents «free_queue» «removal_list» addresses states active used r ⌝ }
+    requires { ⌜ Sized sizes × Queues (sizes .frames) (now «free_queue») (now «removal_list») × Placed (sizes .frames) (take (sizes .frames) frames) (now «free_queue») (now «removal_list»)
+        × Addressed sizes (now addresses) (now states) × Releasable sizes (now addresses) (now states)
+        × Paid sizes (take (sizes .frames) frames) (now accounts) (now limits) (now parents) (now addresses) (now states) (now used) ⌝ }
+    ensures answer { λ r. ⌜ r .answer ≡ own sizes (enteredTruncate (take (sizes .frames) frames) numbers accounts limits parents «free_queue» «removal_list» addresses states active used) (truncate slot k) .answer ⌝ }
+    ensures frames { λ r. ⌜ take (sizes .frames) (r .frames) ≡ own sizes (enteredTruncate (take (sizes .frames) frames) numbers accounts limits parents «free_queue» «removal_list» addresses states active used) (truncate slot k) .left .memory .core .frames ⌝ }
+    ensures free_queue { λ r. ⌜ now («free_queue» .exit) ≡ own sizes (enteredTruncate (take (sizes .frames) frames) numbers accounts limits parents «free_queue» «removal_list» addresses states active used) (truncate slot k) .left .memory .core .free-queue ⌝ }
+    ensures removal_list { λ r. ⌜ now («removal_list» .exit) ≡ own sizes (enteredTruncate (take (sizes .frames) frames) numbers accounts limits parents «free_queue» «removal_list» addresses states active used) (truncate slot k) .left .memory .core .removal-list ⌝ }
+    ensures addresses { λ r. ⌜ now (addresses .exit) ≡ own sizes (enteredTruncate (take (sizes .frames) frames) numbers accounts limits parents «free_queue» «removal_list» addresses states active used) (truncate slot k) .left .memory .held .addresses ⌝ }
+    ensures states { λ r. ⌜ now (states .exit) ≡ own sizes (enteredTruncate (take (sizes .frames) frames) numbers accounts limits parents «free_queue» «removal_list» addresses states active used) (truncate slot k) .left .memory .held .states ⌝ }
+    ensures used { λ r. ⌜ now (used .exit) ≡ usedLeft sizes (enteredTruncate (take (sizes .frames) frames) numbers accounts limits parents «free_queue» «removal_list» addresses states active used) slot k ⌝ }
 {
     let refusal = ask_truncate(sizes, slot, k, frames, numbers, active);
     if refusal != 0 {

@@ -1,14 +1,18 @@
 // Update: a slot's map image is made, and the records that its design gives up leave.
 ghost use mathlib.Core.Path.{_≡_};
 ghost use Prim.Native.Nat.{_+_, _*_, _/_, _<_, _≤_};
-ghost use lib.ListN.{length};
+ghost use lib.ListN.{length, take};
 ghost use Rattle.tables.specs.Base.{at};
 ghost use Rattle.tables.specs.Questions.{firstNo};
 ghost use Rattle.tables.specs.Rule.{Holds, same};
 ghost use Rattle.tables.specs.Store.{store, Split};
+ghost use Rattle.model.specs.Own.{own};
 ghost use Rattle.model.specs.Questions.{questions};
+ghost use Rattle.model.specs.State.{allPages};
 ghost use Rattle.leaves.specs.Addresses.{liveAddress};
-ghost use Rattle.writeback.specs.Update.{update, asked, leaving, PagesReady, PagesLeft, Given, Left};
+ghost use Rattle.writeback.specs.Needs.{Sized, Addressed};
+ghost use Rattle.writeback.specs.Seen.{update, enteredUpdate, askedUpdate};
+ghost use Rattle.writeback.specs.Update.{leaving, PagesGiven, PagesLeft};
 use leaves::addresses::live_address;
 use leaves::asks::ask_idle;
 use leaves::cells::at8;
@@ -26,7 +30,7 @@ use model::sizes::Sizes;
 
 // Questions 3, 4, 8 and 10.
 fn ask_update(sizes: Sizes, slot: usize, numbers: &[u32], active: &[u8], updating: &[u8]) -> u32
-    ensures { λ r. ⌜ r ≡ firstNo (questions sizes (asked numbers active updating) (update slot)) ⌝ }
+    ensures { λ r. ⌜ r ≡ firstNo (questions sizes (askedUpdate numbers active updating) (update slot)) ⌝ }
 {
     ask_idle(slot < sizes.slots, slot, numbers, active, updating)
 }
@@ -70,7 +74,7 @@ fn leave_pages(
     addresses: &mut [u16],
     states: &mut [u8],
 )
-    requires { ⌜ PagesReady sizes slot (now addresses) (now states) ⌝ }
+    requires { ⌜ PagesGiven sizes slot addresses states ⌝ }
     ensures { λ _. ⌜ PagesLeft sizes slot frames addresses states ⌝ }
 {
     let pages = sizes.pages;
@@ -98,8 +102,12 @@ pub fn update(
     updating: &mut [u8],
     images: &mut [u16],
 ) -> Answer
-    requires { ⌜ Given sizes addresses states owners images ⌝ }
-    ensures { λ r. ⌜ Left sizes slot frames numbers addresses states owners active updating images r ⌝ }
+    requires { ⌜ Sized sizes × Addressed sizes (now addresses) (now states) × (length (now owners) ≡ length (now states)) × (length (now images) ≡ allPages sizes) ⌝ }
+    ensures answer { λ r. ⌜ r ≡ own sizes (enteredUpdate (take (sizes .frames) frames) numbers addresses states owners active updating images) (update slot) .answer ⌝ }
+    ensures addresses { λ r. ⌜ now (addresses .exit) ≡ own sizes (enteredUpdate (take (sizes .frames) frames) numbers addresses states owners active updating images) (update slot) .left .memory .held .addresses ⌝ }
+    ensures states { λ r. ⌜ now (states .exit) ≡ own sizes (enteredUpdate (take (sizes .frames) frames) numbers addresses states owners active updating images) (update slot) .left .memory .held .states ⌝ }
+    ensures updating { λ r. ⌜ now (updating .exit) ≡ own sizes (enteredUpdate (take (sizes .frames) frames) numbers addresses states owners active updating images) (update slot) .left .memory .slots .updating ⌝ }
+    ensures images { λ r. ⌜ now (images .exit) ≡ own sizes (enteredUpdate (take (sizes .frames) frames) numbers addresses states owners active updating images) (update slot) .left .memory .slots .images ⌝ }
 {
     let refusal = ask_update(sizes, slot, numbers, active, updating);
     if refusal != 0 {

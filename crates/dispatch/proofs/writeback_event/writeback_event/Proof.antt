@@ -68,7 +68,7 @@ returns-5 : tie.Need-returns-5
 unfolding taken
 returns-5 c =
     let k : tie.After-map-done = search in let m : tie.After-event4 = search in
-    let d = k .map-done .ensures in rw (m .event4 .given .1, c .freed .ensures) (map-done-own _ _ (start4 m .pre) _ _ (d _ (start4 m .pre .rules .counts .free)))
+    let d = k .map-done .ensures in rw (m .event4 .given .1, c .freed .ensures) (map-done-own _ _ (start4 m .pre) _ _ (k .map-done .result .deposited) d)
 
 pub writeback-event-spec : {M : Type 1} → statement M
 writeback-event-spec =

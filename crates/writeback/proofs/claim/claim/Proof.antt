@@ -58,9 +58,9 @@ turn-requires : tie.Need-turn-requires
 turn-requires c κs =
     let l : tie.Else1 = search in
     let s = entered l in (
-      rw (s .pre .list-long) (s .pre .listed),
+      rw (s .pre .0 .list-long) (s .pre .0 .list-packed),
       size-more (s .args .removal-list .now) 0 (omega arith) (λ h. l .if1 .left (l .before .at16 .ensures ∙ h)),
-      omega (arith, s .pre .list-long, s .pre .most),
+      omega (arith, s .pre .0 .list-long, s .pre .1 .frames-most),
     )
 
 pop-requires : tie.Need-pop-requires
@@ -95,7 +95,7 @@ div-uncharge-modified : tie.Need-div-uncharge-modified
 div-uncharge-modified c =
     let r : tie.After-record-of = search in
     let g : tie.After-frame-at = search in
-    start (first g) .pre .pages-some
+    start (first g) .pre .1 .pages-some
 
 uncharge-modified-requires : tie.Need-uncharge-modified-requires
 uncharge-modified-requires c κs =

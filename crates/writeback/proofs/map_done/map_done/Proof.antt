@@ -1,7 +1,6 @@
 -- `map_done` meets its contract: each way out by its law.
 use borrow.Author.Needs.{needs}
 use native.Mathlib.Omega.{arith}
-use Rattle.model.specs.Lent.{noPool}
 use Rattle.writeback.proofs.MapWork.{refused, maps-fit, images-fit, good-left, failed-left}
 use Rattle.writeback.proofs.Moves.{leaving-released}
 use Rattle.writeback.proofs.map_done.map_done.Statement.{statement}
@@ -12,21 +11,21 @@ abbrev start : tie.After-ask-map-done → tie.Start
 start k = search
 
 returns : tie.Need-returns
-returns c = λ p h. let k = c .before .before in refused _ p _ _ _ _ _ _ _ _ _ _ (k .ask-map-done .ensures) (c .before .if1 .taken) (c .counted .ensures)
+returns c = let k = c .before .before in refused _ _ _ _ _ _ _ _ _ _ _ (k .ask-map-done .ensures) (c .before .if1 .taken) (c .counted .ensures)
 
 copy-slot-requires : tie.Need-copy-slot-requires
 copy-slot-requires c κs =
     let i : tie.Else1 = search in
     let k = i .before in
     let s = start k in
-    (s .pre .pages-some, images-fit _ noPool (s .args .numbers .now) _ _ _ _ (s .args .active .now) (s .args .updating .now) _ _ _ (k .ask-map-done .ensures) (i .if1 .left) (s .pre), maps-fit _ noPool (s .args .numbers .now) _ _ _ _ (s .args .active .now) (s .args .updating .now) _ _ _ (k .ask-map-done .ensures) (i .if1 .left) (s .pre))
+    (s .pre .pages-some, images-fit _ (s .args .numbers .now) _ _ _ _ (s .args .active .now) (s .args .updating .now) _ _ _ (k .ask-map-done .ensures) (i .if1 .left) (s .pre), maps-fit _ (s .args .numbers .now) _ _ _ _ (s .args .active .now) (s .args .updating .now) _ _ _ (k .ask-map-done .ensures) (i .if1 .left) (s .pre))
 
 clear-slot-requires : tie.Need-clear-slot-requires
 clear-slot-requires c κs =
     let i : tie.Else1 = search in
     let k = i .before in
     let s = start k in
-    (s .pre .pages-some, images-fit _ noPool (s .args .numbers .now) _ _ _ _ (s .args .active .now) (s .args .updating .now) _ _ _ (k .ask-map-done .ensures) (i .if1 .left) (s .pre))
+    (s .pre .pages-some, images-fit _ (s .args .numbers .now) _ _ _ _ (s .args .active .now) (s .args .updating .now) _ _ _ (k .ask-map-done .ensures) (i .if1 .left) (s .pre))
 
 free-leaving-requires : tie.Need-free-leaving-requires
 free-leaving-requires c κs =
@@ -45,14 +44,14 @@ returns-2 c =
     let i = u .before .before in
     let k = i .before in
     let s = start k in
-    λ p h. good-left _ p _ _ _ _ _ _ _ _ _ _ (k .ask-map-done .ensures) (i .if1 .left) (s .pre) (g .if2 .taken) (u .put8 .ensures) (m .copy-slot .ensures) (d .clear-slot .ensures) h (f .free-leaving .ensures) (c .counted2 .ensures)
+    good-left _ _ _ _ _ _ _ _ _ _ _ (k .ask-map-done .ensures) (i .if1 .left) (s .pre) (g .if2 .taken) (u .put8 .ensures) (m .copy-slot .ensures) (d .clear-slot .ensures) (f .free-leaving .ensures) (c .counted2 .ensures)
 
 clear-slot-requires-2 : tie.Need-clear-slot-requires-2
 clear-slot-requires-2 c κs =
     let i : tie.Else1 = search in
     let k = i .before in
     let s = start k in
-    (s .pre .pages-some, images-fit _ noPool (s .args .numbers .now) _ _ _ _ (s .args .active .now) (s .args .updating .now) _ _ _ (k .ask-map-done .ensures) (i .if1 .left) (s .pre))
+    (s .pre .pages-some, images-fit _ (s .args .numbers .now) _ _ _ _ (s .args .active .now) (s .args .updating .now) _ _ _ (k .ask-map-done .ensures) (i .if1 .left) (s .pre))
 
 move-all-requires : tie.Need-move-all-requires
 move-all-requires c κs =
@@ -70,7 +69,7 @@ returns-3 c =
     let i = u .before .before in
     let k = i .before in
     let s = start k in
-    λ p h. failed-left _ p _ _ _ _ _ _ _ _ _ _ (k .ask-map-done .ensures) (i .if1 .left) (s .pre) (g .if2 .left) (u .put8 .ensures) (d .clear-slot2 .ensures) (f .move-all .ensures) h (c .counted3 .ensures)
+    failed-left _ _ _ _ _ _ _ _ _ _ _ (k .ask-map-done .ensures) (i .if1 .left) (s .pre) (g .if2 .left) (u .put8 .ensures) (d .clear-slot2 .ensures) (f .move-all .ensures) (c .counted3 .ensures)
 
 pub map-done-spec : {M : Type 1} → statement M
 map-done-spec =

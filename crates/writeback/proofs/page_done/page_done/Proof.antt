@@ -32,7 +32,7 @@ found r = r .record-of .ensures ∙ ap (λ (x : Frame). pred (at (start (yes r) 
 copy-part-requires : tie.Need-copy-part-requires
 copy-part-requires c κs =
     let r : tie.After-record-of = search in
-    (start (yes r) .pre .positive, told (yes r) .part-record _ (found r), told (yes r) .part-frame)
+    (start (yes r) .pre .1 .words-some, told (yes r) .part-record _ (found r), told (yes r) .part-frame)
 
 push-front-requires : tie.Need-push-front-requires
 push-front-requires c κs =
@@ -79,7 +79,7 @@ returns-3 c =
 copy-part-requires-2 : tie.Need-copy-part-requires-2
 copy-part-requires-2 c κs =
     let r : tie.After-record-of = search in
-    (start (yes r) .pre .positive, told (yes r) .part-frame, told (yes r) .part-record _ (found r))
+    (start (yes r) .pre .1 .words-some, told (yes r) .part-frame, told (yes r) .part-record _ (found r))
 
 make-live-requires : tie.Need-make-live-requires
 make-live-requires c κs =

@@ -14,7 +14,7 @@ use Rattle.tables.specs.Rule.{Rule, Holds, below, _and_, test}
 use Rattle.tables.specs.Turn.{said-yes, said-no}
 use Rattle.model.specs.Own.{first-yes, first-no}
 use Rattle.leaves.specs.Asks.{askFilled, askActive, part-no, part-yes, part-range}
-use Rattle.writeback.specs.Truncate.{allQuiet, CutReady}
+use Rattle.writeback.specs.Truncate.{allQuiet, CutGiven}
 use Rattle.writeback.proofs.Cut.{from-up, not-up}
 use Rattle.writeback.proofs.TruncateWork.{quiet-model, model-quiet}
 use Rattle.writeback.proofs.truncate.ask_truncate.Statement.{statement}
@@ -56,7 +56,7 @@ start e = search
 more : (e : tie.Else1) → firstNo (framed (start e)) ≡ firstNo (ask 3 (range (start e)) (active (start e) also framed (start e)))
 more e = let s = start e in part-yes _ _ (tested s) (active s) (framed s) _ (e .before .ask-slot .ensures) tt (e .if1 .left)
 
-sized : (e : tie.Else1) → (let a = start e .args in CutReady (a .sizes .frames) (a .sizes .pages) (a .slot) (a .k))
+sized : (e : tie.Else1) → (let a = start e .args in CutGiven (a .sizes .frames) (a .sizes .pages) (a .slot) (a .k))
 sized e =
     let s = start e in
     let r : Holds (range s) = part-range _ _ (tested s) (active s) (framed s) _ (e .before .ask-slot .ensures) tt (e .if1 .left) in

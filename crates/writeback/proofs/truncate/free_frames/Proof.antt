@@ -13,14 +13,14 @@ use Rattle.tables.specs.Rule.{test}
 use Rattle.model.specs.declared.frame.Frame.{Frame}
 use Rattle.model.specs.State.{frameAt}
 use Rattle.writeback.specs.ByPage.{ByPage}
-use Rattle.writeback.specs.Truncate.{cutFrames, cutFrame, FramesReady}
+use Rattle.writeback.specs.Truncate.{cutFrames, cutFrame, Cutting}
 use Rattle.writeback.proofs.CutFrames.{CutTurn, turn-starts, push-asks, remove-asks, turn-frees, turn-leaves, in-entry, its-entry, no-entry}
 use Rattle.writeback.proofs.truncate.free_frames.Statement.{statement}
 use Rattle.writeback.proofs.truncate.free_frames.Tie as tie
 
 abbrev Inv-loop : tie.InvT-loop
 Inv-loop n pages slot k fq₀ rl₀ framed p₀ fq rl p =
-    (k ≤ p) × (p ≤ pages) × ((fs : List Frame) → ByPage false n pages slot fs framed → (ready : FramesReady n pages slot k fs fq₀ rl₀) → CutTurn n pages slot k fs fq₀ rl₀ ready p fq rl)
+    (k ≤ p) × (p ≤ pages) × ((fs : List Frame) → ByPage false n pages slot fs framed → (ready : Cutting n pages slot k fs fq₀ rl₀) → CutTurn n pages slot k fs fq₀ rl₀ ready p fq rl)
 
 abbrev μ-loop : tie.MeasureT-loop
 μ-loop n pages slot k fq₀ rl₀ framed p₀ fq rl p = pages - p

@@ -20,7 +20,7 @@ told p =
 ask-truncate-requires : tie.Need-ask-truncate-requires
 ask-truncate-requires c κs =
     let s : tie.Start = search in
-    (s .pre .most, s .pre .pages-most, s .pre .slots-most)
+    (s .pre .0 .frames-most, s .pre .0 .pages-most, s .pre .0 .slots-most)
 
 returns : tie.Need-returns
 returns c = refused _ _ _ _ _ _ _ _ _ _ _ _ _ _ (c .before .before .ask-truncate .ensures) (c .before .if1 .taken) (c .answered .ensures)
@@ -38,7 +38,7 @@ uncharge-requires c κs =
 free-frames-requires : tie.Need-free-frames-requires
 free-frames-requires c κs =
     let p : tie.Else1 = search in
-    told p .frames-ready
+    told p .cutting
 
 release-from-requires : tie.Need-release-from-requires
 release-from-requires c κs =
@@ -48,7 +48,7 @@ release-from-requires c κs =
 clear-from-requires : tie.Need-clear-from-requires
 clear-from-requires c κs =
     let p : tie.Else1 = search in
-    (start p .pre .pages-some, told p .sized .from, told p .addresses-fit)
+    (start p .pre .0 .pages-some, told p .sized .from, told p .addresses-fit)
 
 clear-frames-requires : tie.Need-clear-frames-requires
 clear-frames-requires c κs =

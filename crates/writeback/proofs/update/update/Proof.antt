@@ -17,19 +17,19 @@ fill-image-requires : tie.Need-fill-image-requires
 fill-image-requires c κs =
     let p : tie.Else1 = search in
     let a = start p .args in
-    (start p .pre .pages-some, images-fit _ (a .frames) (a .numbers .now) _ _ _ (a .active .now) (a .updating .now) _ _ (p .before .ask-update .ensures) (p .if1 .left) (start p .pre))
+    (start p .pre .0 .pages-some, images-fit (a .sizes) (a .frames) (a .numbers .now) (a .addresses .now) (a .states .now) (a .owners .now) (a .active .now) (a .updating .now) (a .images .now) (a .slot) (p .before .ask-update .ensures) (p .if1 .left) (start p .pre))
 
 leave-pages-requires : tie.Need-leave-pages-requires
 leave-pages-requires c κs =
     let p : tie.Else1 = search in
     let a = start p .args in
-    pages-ready _ (a .frames) (a .numbers .now) _ _ _ (a .active .now) (a .updating .now) _ _ (p .before .ask-update .ensures) (p .if1 .left) (start p .pre)
+    pages-ready (a .sizes) (a .frames) (a .numbers .now) (a .addresses .now) (a .states .now) (a .owners .now) (a .active .now) (a .updating .now) (a .images .now) (a .slot) (p .before .ask-update .ensures) (p .if1 .left) (start p .pre)
 
 move-all-requires : tie.Need-move-all-requires
 move-all-requires c κs =
     let l : tie.After-leave-pages = search in
     let p : tie.Else1 = search in
-    (omega (arith, l .leave-pages .kept .1 .1 .1 .1 .0, start p .pre .owners-long), released-leaving)
+    (omega (arith, l .leave-pages .kept .1 .1 .1 .1 .0, start p .pre .2), released-leaving)
 
 returns-2 : tie.Need-returns-2
 returns-2 c =
