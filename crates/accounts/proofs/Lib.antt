@@ -2,3 +2,4 @@
 pub mod Counted
 pub mod Carried
 pub mod Left
+pub mod Stays

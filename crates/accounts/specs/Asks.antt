@@ -1,7 +1,11 @@
--- The questions of a move, by the tables that they look at.
+-- The questions of a move, by the tables that they look at; and where a limit leaves who pays as it is.
 use Prim.Native.Nat.{ℕ, _+_}
 use Rattle.tables.specs.Questions.{Questions, none, ask}
 use Rattle.tables.specs.Rule.{Rule, same, below, non, _and_, _or_, each}
+
+-- who pays stays as it is where an account's limit goes from `before` to `after`: account 0 pays whatever its limit, any other where it has one
+abbrev pub staysPayer : (account before after : ℕ) → Rule
+staysPayer a l n = same a 0 or below 0 l and below 0 n
 
 abbrev pub isParent : (ℕ → ℕ) → ℕ → ℕ → Rule
 isParent parent a b = below 0 b and same (parent b) a

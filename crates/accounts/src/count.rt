@@ -7,8 +7,8 @@ ghost use Rattle.tables.specs.Rule.{Holds};
 ghost use Rattle.model.specs.Rules.{fit};
 ghost use Rattle.rules.specs.Passes.{mostEntries, usedPage, usedTable, framedTable};
 ghost use Rattle.accounts.specs.Contracts.{SlotsGiven, SlotsLeft, FramesGiven, FramesLeft, CountsGiven, CountsLeft};
+use leaves::packed::frame_at;
 use leaves::payer::fill_payers;
-use model::frame::Frame;
 use model::sizes::Sizes;
 use rules::counts::listed_one;
 use rules::counts::live_one;
@@ -75,7 +75,7 @@ fn count_slots(
 // .. and the pages that count by their modified frames.
 fn count_frames(
     z: Sizes,
-    frames: [Frame; Sizes::MOST_FRAMES],
+    frames: &[u64],
     totals: &mut [usize],
     payers: &[u16],
     addresses: &[u16],
@@ -87,7 +87,7 @@ fn count_frames(
     let mut f = 0;
     while f < z.frames {
         charge(
-            woven_page(frames[f]),
+            woven_page(frame_at(frames, f)),
             z.pages,
             totals,
             payers,
@@ -101,7 +101,7 @@ fn count_frames(
 // All that count, for who pays by these limits, from a table of zeros.
 pub fn count_used(
     z: Sizes,
-    frames: [Frame; Sizes::MOST_FRAMES],
+    frames: &[u64],
     totals: &mut [usize],
     accounts: &[u16],
     maps: &[u16],

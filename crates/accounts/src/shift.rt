@@ -2,7 +2,7 @@
 // afresh. What would be is worked out beside the tables, so that a refusal has touched nothing.
 ghost use mathlib.Core.Path.{_≡_};
 ghost use Prim.Native.Nat.{_+_, _≤_, _<_};
-ghost use lib.ListN.{length, take};
+ghost use lib.ListN.{length};
 ghost use Rattle.tables.specs.Base.{at, tab};
 ghost use Rattle.tables.specs.Questions.{firstNo};
 ghost use Rattle.tables.specs.Rule.{same, below, _and_, test};
@@ -11,6 +11,7 @@ ghost use Rattle.model.specs.declared.event.Event.the-variants as Event;
 ghost use Rattle.model.specs.Accounts.{shifted};
 ghost use Rattle.model.specs.Own.{own};
 ghost use Rattle.accounts.specs.Asks.{isParent, kin, firstAsked, enough};
+ghost use Rattle.leaves.specs.Packed.{framesEntered};
 ghost use Rattle.accounts.specs.Seen.{enteredAccount};
 ghost use Rattle.accounts.specs.Contracts.{ReadyGiven};
 use crate::copies::copy16;
@@ -20,7 +21,6 @@ use leaves::cells::at16;
 use leaves::cells::put16;
 use leaves::payer::wide;
 use model::event::Answer;
-use model::frame::Frame;
 use model::refusals::NO_MOVE;
 use model::refusals::NO_RANGE;
 use model::refusals::OVER_LIMIT;
@@ -99,7 +99,7 @@ pub fn move_pages(
     giver: usize,
     taker: usize,
     pages: usize,
-    frames: [Frame; Sizes::MOST_FRAMES],
+    frames: &[u64],
     accounts: &[u16],
     maps: &[u16],
     limits: &mut [u16],
@@ -110,9 +110,9 @@ pub fn move_pages(
     used: &mut [u16],
 ) -> Answer
     requires { ⌜ ReadyGiven sizes frames accounts maps limits addresses states active used ⌝ }
-    ensures answer { λ r. ⌜ r ≡ own sizes (enteredAccount (take (sizes .frames) frames) accounts maps limits parents addresses states active used) (Event.Account (Account.Move giver taker pages)) .answer ⌝ }
-    ensures limits { λ r. ⌜ now (limits .exit) ≡ own sizes (enteredAccount (take (sizes .frames) frames) accounts maps limits parents addresses states active used) (Event.Account (Account.Move giver taker pages)) .left .disk .limits ⌝ }
-    ensures used { λ r. ⌜ now (used .exit) ≡ own sizes (enteredAccount (take (sizes .frames) frames) accounts maps limits parents addresses states active used) (Event.Account (Account.Move giver taker pages)) .left .memory .used ⌝ }
+    ensures answer { λ r. ⌜ r ≡ own sizes (enteredAccount (framesEntered sizes frames) accounts maps limits parents addresses states active used) (Event.Account (Account.Move giver taker pages)) .answer ⌝ }
+    ensures limits { λ r. ⌜ now (limits .exit) ≡ own sizes (enteredAccount (framesEntered sizes frames) accounts maps limits parents addresses states active used) (Event.Account (Account.Move giver taker pages)) .left .disk .limits ⌝ }
+    ensures used { λ r. ⌜ now (used .exit) ≡ own sizes (enteredAccount (framesEntered sizes frames) accounts maps limits parents addresses states active used) (Event.Account (Account.Move giver taker pages)) .left .memory .used ⌝ }
 {
     let refusal = ask_move(sizes.accounts, giver, taker, pages, limits, parents);
     if refusal != 0 {

@@ -24,7 +24,7 @@ use Rattle.dispatch.specs.Kept.{Kept}
 pub good : (z : Sizes) (st : State) → Kept z st → Good z st
 good z st k = (all-fit z st (k .fits), rules z st (k .rules))
 
-abbrev setPool : Pool → Held → Held
+abbrev pub setPool : Pool → Held → Held
 setPool p h = record { addresses = h .addresses; states = h .states; owners = h .owners; free-map = h .free-map; pool = p }
 
 module _ (z : Sizes) (requests answers : List ℕ) (k : ℕ) (last : Answer) (st : State) (g : Kept z st) where

@@ -1,5 +1,6 @@
 // Requests and answers as numbers: five a request, two an answer.
 ghost use mathlib.Core.Path.{_≡_};
+ghost use mathlib.Core.List.{[], _∷_};
 ghost use Prim.Native.Nat.{_+_, _*_, _<_, _≤_};
 ghost use lib.ListN.{length};
 ghost use Rattle.model.specs.ApplyAll.{requestCount, requestAt, putAnswer, refusals, lastRefusal};
@@ -28,6 +29,19 @@ pub fn request_at(requests: &[u32], k: usize) -> Request
         third: requests[i + 3],
         fourth: requests[i + 4],
     }
+}
+
+// A request as numbers.
+pub fn as_numbers(request: Request) -> [u32; 5]
+    ensures { λ r. ⌜ r ≡ request .kind ∷ request .first ∷ request .second ∷ request .third ∷ request .fourth ∷ [] ⌝ }
+{
+    [
+        request.kind,
+        request.first,
+        request.second,
+        request.third,
+        request.fourth,
+    ]
 }
 
 // Answer k into its place.

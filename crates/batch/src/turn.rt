@@ -1,18 +1,29 @@
 // One request of a list, once questions 1 and 2 were answered yes.
 ghost use mathlib.Core.Path.{_≡_};
 ghost use Prim.Native.Nat.{_+_, _*_, _<_};
-ghost use lib.ListN.{length, take};
+ghost use lib.ListN.{length};
 ghost use Rattle.model.specs.Lent.{allGiven, allEntered, allLeft};
+ghost use Rattle.model.specs.Pool.{taken, deposited};
 ghost use Rattle.model.specs.ApplyAll.{turned};
+ghost use Rattle.leaves.specs.Packed.{framesGiven, framesEntered, framesLeft};
 ghost use Rattle.dispatch.specs.Kept.{Kept};
 use crate::numbers::put_answer;
 use crate::numbers::request_at;
 use calls::carry::carry;
-use model::applied::Pooled;
 use model::event::Answer;
+use model::frame::Pool;
+use model::refusals::NO_RANGE;
 use model::request::Decoded;
 use model::request::decode;
 use model::sizes::Sizes;
+
+// After a request: the pool, what the request took out of it and deposited in it, and its answer.
+pub struct Last {
+    pub pool: Pool,
+    pub taken: u32,
+    pub deposited: u32,
+    pub answer: Answer,
+}
 
 // Request k is answered by its own questions, and its answer put.
 // Shut out: a request that is answered by the tables before the last one.
@@ -21,7 +32,8 @@ pub fn turn(
     requests: &[u32],
     answers: &mut [u32],
     k: usize,
-    held: Pooled,
+    last: Last,
+    frames: &mut [u64],
     records: &mut [u32],
     numbers: &mut [u32],
     accounts: &mut [u16],
@@ -40,35 +52,36 @@ pub fn turn(
     images: &mut [u16],
     line: &mut [u16],
     used: &mut [u16],
-) -> Pooled
+) -> Last
     requires { ⌜ (5 * k + 4 < length (now requests)) × (2 * k + 1 < length (now answers)) × Kept sizes
-        (allGiven (take (sizes .frames) (held .frames)) (held .pool) records numbers accounts maps limits parents
+        (allGiven (framesGiven sizes frames) (last .pool) records numbers accounts maps limits parents
         «frame_words» «free_queue» «removal_list» addresses states owners «free_map» active updating images line used) ⌝ }
-    ensures { λ r. ⌜ record {
+    ensures turned { λ r. ⌜ record {
       answer = r .answer;
       answers = now (answers .exit);
-      left = allLeft (take (sizes .frames) (r .frames)) (r .pool) records numbers accounts maps limits parents
+      left = allLeft (framesLeft sizes frames) (r .pool) records numbers accounts maps limits parents
           «frame_words» «free_queue» «removal_list» addresses states owners «free_map» active updating images line used;
     }
         ≡ turned sizes (now (requests .entry)) k (record {
-          answer = held .answer;
+          answer = last .answer;
           answers = now (answers .entry);
-          left = allEntered (take (sizes .frames) (held .frames)) (held .pool) records numbers accounts maps limits parents
+          left = allEntered (framesEntered sizes frames) (last .pool) records numbers accounts maps limits parents
               «frame_words» «free_queue» «removal_list» addresses states owners «free_map» active updating images line used;
         }) ⌝ }
+    ensures pool { λ r. ⌜ r .pool ≡ deposited (r .deposited) (taken sizes (r .taken) (last .pool)) ⌝ }
 {
-    let frames = held.frames;
-    let pool = held.pool;
+    let pool = last.pool;
     let decoded = decode(request_at(requests, k));
     let Decoded::Known(event) = decoded else {
         let answer = Answer {
-            refusal: 3,
+            refusal: NO_RANGE,
             result: 0,
         };
         put_answer(answers, k, answer);
-        return Pooled {
-            frames,
+        return Last {
             pool,
+            taken: 0,
+            deposited: 0,
             answer,
         };
     };
@@ -96,14 +109,14 @@ pub fn turn(
         line,
         used,
     );
-    let frames = out.frames;
     let answer = out.answer;
     let fewer = leaves::pool::take(sizes, out.taken, pool);
     let pool = leaves::pool::deposit(out.deposited, fewer);
     put_answer(answers, k, answer);
-    Pooled {
-        frames,
+    Last {
         pool,
+        taken: out.taken,
+        deposited: out.deposited,
         answer,
     }
 }

@@ -1,17 +1,16 @@
 // An event handed on to its family.
 ghost use mathlib.Core.Path.{_≡_};
-ghost use lib.ListN.{take};
 ghost use Rattle.model.specs.Lent.{allGiven, allEntered, allLeft};
 ghost use Rattle.model.specs.Own.{own, leaves};
 ghost use Rattle.model.specs.Pool.{taken, deposited};
+ghost use Rattle.leaves.specs.Packed.{framesGiven, framesEntered, framesLeft};
 ghost use Rattle.dispatch.specs.Kept.{Kept};
 use dispatch::account_event::account_event;
 use dispatch::design_event::design_event;
 use dispatch::page_event::page_event;
 use dispatch::writeback_event::writeback_event;
-use model::applied::Applied;
+use model::applied::Worked;
 use model::event::Event;
-use model::frame::Frame;
 use model::frame::Pool;
 use model::sizes::Sizes;
 use waiting::waiting_event;
@@ -20,7 +19,7 @@ use waiting::waiting_event;
 pub fn carry(
     sizes: Sizes,
     event: Event,
-    frames: [Frame; 64],
+    frames: &mut [u64],
     pool: Pool,
     records: &mut [u32],
     numbers: &mut [u32],
@@ -40,15 +39,15 @@ pub fn carry(
     images: &mut [u16],
     line: &mut [u16],
     used: &mut [u16],
-) -> Applied
+) -> Worked
     requires { ⌜ Kept sizes
-        (allGiven (take (sizes .frames) frames) pool records numbers accounts maps limits parents
+        (allGiven (framesGiven sizes frames) pool records numbers accounts maps limits parents
         «frame_words» «free_queue» «removal_list» addresses states owners «free_map» active updating images line used) ⌝ }
     ensures { λ r. ⌜ leaves (r .answer)
-        (allLeft (take (sizes .frames) (r .frames)) (deposited (r .deposited) (taken sizes (r .taken) pool)) records numbers accounts maps limits parents
+        (allLeft (framesLeft sizes frames) (deposited (r .deposited) (taken sizes (r .taken) pool)) records numbers accounts maps limits parents
         «frame_words» «free_queue» «removal_list» addresses states owners «free_map» active updating images line used)
         ≡ own sizes
-        (allEntered (take (sizes .frames) frames) pool records numbers accounts maps limits parents
+        (allEntered (framesEntered sizes frames) pool records numbers accounts maps limits parents
         «frame_words» «free_queue» «removal_list» addresses states owners «free_map» active updating images line used) event ⌝ }
 {
     match event {
@@ -76,8 +75,7 @@ pub fn carry(
                 images,
                 used,
             );
-            Applied {
-                frames,
+            Worked {
                 taken: 0,
                 deposited: 0,
                 answer,
@@ -107,8 +105,7 @@ pub fn carry(
                 images,
                 used,
             );
-            Applied {
-                frames,
+            Worked {
                 taken: 0,
                 deposited: 0,
                 answer,

@@ -1,21 +1,15 @@
 // The calls, over everything that is lent: questions 1 and 2 are asked once, then the work is done.
 ghost use mathlib.Core.Path.{_≡_};
 ghost use Rattle.model.specs.Lent.{diskOf, allEntered, allLeft};
-ghost use Rattle.model.specs.Calls.{framesOf, apply};
+ghost use Rattle.model.specs.Calls.{framesOf};
 ghost use Rattle.model.specs.Step.{restart, format};
 ghost use Rattle.model.specs.Own.{leaves};
-ghost use Rattle.model.specs.Pool.{taken, deposited};
-use crate::carry::carry;
 use crate::common::common;
 use crate::lent::lent_fit;
-use model::applied::Applied;
 use model::applied::Pooled;
 use model::event::Answer;
 use model::frame::Frame;
 use model::frame::Pool;
-use model::request::Decoded;
-use model::request::Request;
-use model::request::decode;
 use model::sizes::Sizes;
 use questions::question1::disk_fit;
 use questions::question2::disk_rules;
@@ -28,111 +22,7 @@ pub mod lent; // questions 1 and 2 with the line
 pub mod common; // questions 1 and 2, as a number
 pub mod carry; // an event handed on to its family
 pub mod looks; // a page look
-
-// Every event: questions 1 and 2, the event that the request asks for, and its work.
-pub fn apply_core(
-    sizes: Sizes,
-    request: Request,
-    lent: usize,
-    frames: [Frame; 64],
-    pool: Pool,
-    records: &mut [u32],
-    numbers: &mut [u32],
-    accounts: &mut [u16],
-    maps: &mut [u16],
-    limits: &mut [u16],
-    parents: &[u16],
-    frame_words: &mut [u32],
-    free_queue: &mut [u16],
-    removal_list: &mut [u16],
-    addresses: &mut [u16],
-    states: &mut [u8],
-    owners: &mut [u8],
-    free_map: &mut [u32],
-    active: &mut [u8],
-    updating: &mut [u8],
-    images: &mut [u16],
-    line: &mut [u16],
-    used: &mut [u16],
-) -> Applied
-    ensures { λ r. ⌜ leaves (r .answer)
-        (allLeft (framesOf (r .frames) lent) (deposited (r .deposited) (taken sizes (r .taken) pool)) records numbers accounts maps limits parents
-        «frame_words» «free_queue» «removal_list» addresses states owners «free_map» active updating images line used)
-        ≡ apply sizes
-        (allEntered (framesOf frames lent) pool records numbers accounts maps limits parents
-        «frame_words» «free_queue» «removal_list» addresses states owners «free_map» active updating images line used) request ⌝ }
-{
-    let refusal = common(
-        sizes,
-        lent,
-        frames,
-        pool,
-        records,
-        numbers,
-        accounts,
-        maps,
-        limits,
-        parents,
-        frame_words,
-        free_queue,
-        removal_list,
-        addresses,
-        states,
-        owners,
-        free_map,
-        active,
-        updating,
-        images,
-        line,
-        used,
-    );
-    if refusal != 0 {
-        let answer = Answer { refusal, result: 0 };
-        return Applied {
-            frames,
-            taken: 0,
-            deposited: 0,
-            answer,
-        };
-    }
-    let decoded = decode(request);
-    let Decoded::Known(event) = decoded else {
-        let answer = Answer {
-            refusal: 3,
-            result: 0,
-        };
-        return Applied {
-            frames,
-            taken: 0,
-            deposited: 0,
-            answer,
-        };
-    };
-    carry(
-        sizes,
-        event,
-        frames,
-        pool,
-        records,
-        numbers,
-        accounts,
-        maps,
-        limits,
-        parents,
-        frame_words,
-        free_queue,
-        removal_list,
-        addresses,
-        states,
-        owners,
-        free_map,
-        active,
-        updating,
-        images,
-        line,
-        used,
-    )
-}
+pub mod packing; // the frames in use, packed and back
 
 // Questions 1 and 2 (the disk rules only), then every table of the memory part set anew.
 pub fn restart_core(

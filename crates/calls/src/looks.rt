@@ -8,6 +8,7 @@ ghost use Rattle.model.specs.Calls.{framesOf};
 ghost use Rattle.model.specs.Step.{look};
 ghost use Rattle.model.specs.Part.{partOf, wordAt};
 use crate::common::common;
+use crate::packing::pack_first;
 use model::applied::Part;
 use model::frame::Frame;
 use model::frame::Pool;
@@ -77,7 +78,8 @@ pub fn place_core(
             count: 0,
         };
     }
-    place(sizes, slot, page, frames, numbers, active)
+    let packed = pack_first(sizes.frames, frames);
+    place(sizes, slot, page, &packed, numbers, active)
 }
 
 // The frame's own part of the lent words; refused, an empty part.

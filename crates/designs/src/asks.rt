@@ -2,13 +2,14 @@
 ghost use mathlib.Core.Path.{_≡_};
 ghost use mathlib.Core.List.{[]};
 ghost use Prim.Native.Nat.{_<_, _≤_};
-ghost use lib.ListN.{length, take};
+ghost use lib.ListN.{length};
 ghost use Rattle.tables.specs.Questions.{firstNo};
 ghost use Rattle.tables.specs.Rule.{test};
 ghost use Rattle.model.specs.declared.event.Design.the-variants as Design;
 ghost use Rattle.model.specs.declared.event.Event.the-variants as Event;
 ghost use Rattle.model.specs.Fit.{Within};
 ghost use Rattle.model.specs.Questions.{questions};
+ghost use Rattle.leaves.specs.Packed.{framesEntered};
 ghost use Rattle.designs.specs.Asks.{newNumber, heldAsked};
 ghost use Rattle.designs.specs.Seen.{seenFiles, seenTurns, enteredDeactivate};
 use crate::frames::none_framed;
@@ -19,7 +20,6 @@ use leaves::asks::ask_filled;
 use leaves::asks::ask_idle;
 use leaves::cells::at8;
 use leaves::cells::at32;
-use model::frame::Frame;
 use model::refusals::ACTIVE;
 use model::refusals::MAP_NOT_EMPTY;
 use model::refusals::MAP_OLD;
@@ -96,14 +96,14 @@ pub fn ask_activate(sizes: Sizes, slot: usize, numbers: &[u32], active: &[u8]) -
 pub fn ask_held(
     sizes: Sizes,
     slot: usize,
-    frames: [Frame; 64],
+    frames: &[u64],
     maps: &[u16],
     addresses: &[u16],
     states: &[u8],
     owners: &[u8],
 ) -> u32
     requires { ⌜ Within sizes × (slot < sizes .slots) × (length (now states) ≤ length (now owners)) ⌝ }
-    ensures { λ r. ⌜ r ≡ firstNo (heldAsked sizes slot (take (sizes .frames) frames) (now (maps .entry)) (now (addresses .entry)) (now (states .entry)) (now (owners .entry))) ⌝ }
+    ensures { λ r. ⌜ r ≡ firstNo (heldAsked sizes slot (framesEntered sizes frames) (now (maps .entry)) (now (addresses .entry)) (now (states .entry)) (now (owners .entry))) ⌝ }
 {
     if none_framed(frames, sizes.frames, sizes.pages, slot) {} else {
         return PAGES_IN;
@@ -121,7 +121,7 @@ pub fn ask_held(
 pub fn ask_deactivate(
     sizes: Sizes,
     slot: usize,
-    frames: [Frame; 64],
+    frames: &[u64],
     numbers: &[u32],
     maps: &[u16],
     addresses: &[u16],
@@ -131,7 +131,7 @@ pub fn ask_deactivate(
     updating: &[u8],
 ) -> u32
     requires { ⌜ Within sizes × (length (now states) ≤ length (now owners)) ⌝ }
-    ensures { λ r. ⌜ r ≡ firstNo (questions sizes (enteredDeactivate (take (sizes .frames) frames) numbers maps addresses states owners active updating) (Event.Design (Design.Deactivate slot))) ⌝ }
+    ensures { λ r. ⌜ r ≡ firstNo (questions sizes (enteredDeactivate (framesEntered sizes frames) numbers maps addresses states owners active updating) (Event.Design (Design.Deactivate slot))) ⌝ }
 {
     let no = ask_idle(slot < sizes.slots, slot, numbers, active, updating);
     if no != 0 {

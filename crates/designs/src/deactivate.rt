@@ -1,9 +1,9 @@
 // Deactivate: a design's pages have no address, and its live records are filed.
 ghost use mathlib.Core.Path.{_≡_};
-ghost use lib.ListN.{take};
 ghost use Rattle.model.specs.declared.event.Design.the-variants as Design;
 ghost use Rattle.model.specs.declared.event.Event.the-variants as Event;
 ghost use Rattle.model.specs.Own.{own};
+ghost use Rattle.leaves.specs.Packed.{framesEntered};
 ghost use Rattle.designs.specs.Needs.{Turning};
 ghost use Rattle.designs.specs.Seen.{enteredDeactivate};
 use crate::asks::ask_deactivate;
@@ -11,7 +11,6 @@ use leaves::cells::put8;
 use leaves::slots::clear_slot;
 use leaves::states::move_all;
 use model::event::Answer;
-use model::frame::Frame;
 use model::lines::FILED;
 use model::lines::LIVE;
 use model::sizes::Sizes;
@@ -19,7 +18,7 @@ use model::sizes::Sizes;
 pub fn deactivate(
     sizes: Sizes,
     slot: usize,
-    frames: [Frame; 64],
+    frames: &[u64],
     numbers: &[u32],
     maps: &[u16],
     addresses: &mut [u16],
@@ -29,10 +28,10 @@ pub fn deactivate(
     updating: &[u8],
 ) -> Answer
     requires { ⌜ Turning sizes (now maps) (now addresses) (now states) (now owners) ⌝ }
-    ensures answer { λ r. ⌜ r ≡ own sizes (enteredDeactivate (take (sizes .frames) frames) numbers maps addresses states owners active updating) (Event.Design (Design.Deactivate slot)) .answer ⌝ }
-    ensures addresses { λ r. ⌜ now (addresses .exit) ≡ own sizes (enteredDeactivate (take (sizes .frames) frames) numbers maps addresses states owners active updating) (Event.Design (Design.Deactivate slot)) .left .memory .held .addresses ⌝ }
-    ensures states { λ r. ⌜ now (states .exit) ≡ own sizes (enteredDeactivate (take (sizes .frames) frames) numbers maps addresses states owners active updating) (Event.Design (Design.Deactivate slot)) .left .memory .held .states ⌝ }
-    ensures active { λ r. ⌜ now (active .exit) ≡ own sizes (enteredDeactivate (take (sizes .frames) frames) numbers maps addresses states owners active updating) (Event.Design (Design.Deactivate slot)) .left .memory .slots .active ⌝ }
+    ensures answer { λ r. ⌜ r ≡ own sizes (enteredDeactivate (framesEntered sizes frames) numbers maps addresses states owners active updating) (Event.Design (Design.Deactivate slot)) .answer ⌝ }
+    ensures addresses { λ r. ⌜ now (addresses .exit) ≡ own sizes (enteredDeactivate (framesEntered sizes frames) numbers maps addresses states owners active updating) (Event.Design (Design.Deactivate slot)) .left .memory .held .addresses ⌝ }
+    ensures states { λ r. ⌜ now (states .exit) ≡ own sizes (enteredDeactivate (framesEntered sizes frames) numbers maps addresses states owners active updating) (Event.Design (Design.Deactivate slot)) .left .memory .held .states ⌝ }
+    ensures active { λ r. ⌜ now (active .exit) ≡ own sizes (enteredDeactivate (framesEntered sizes frames) numbers maps addresses states owners active updating) (Event.Design (Design.Deactivate slot)) .left .memory .slots .active ⌝ }
 {
     let refusal = ask_deactivate(
         sizes,

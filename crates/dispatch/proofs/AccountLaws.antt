@@ -16,7 +16,7 @@ use Rattle.model.specs.Own.{own, leaves}
 use Rattle.rules.proofs.Used.{seated-by}
 use Rattle.tables.specs.Base.{at}
 use Rattle.accounts.specs.Seen.{seen}
-use Rattle.accounts.specs.Contracts.{Ready}
+use Rattle.accounts.specs.Contracts.{Ready, LimitReady}
 use Rattle.accounts.proofs.Left.{after, limit-left, move-left}
 use Rattle.dispatch.specs.Kept.{Kept}
 use Rattle.dispatch.proofs.Outcomes.{own-by}
@@ -39,6 +39,11 @@ module _ (z : Sizes) (st : State) (k : Kept z st) where
     limits-long = k .fits .disk .limits;
     used-long = k .fits .memory .used;
   }
+
+  -- .. and a limit: the used counts are as defined
+  pub limit-ready : LimitReady z (st .memory .core .frames) (st .disk .accounts) (st .disk .maps) (st .disk .limits) (st .disk .parents) (st .memory .held .addresses) (st .memory .held .states) (st .memory .slots .active) (st .memory .used)
+  unfolding usedOf payer charged
+  limit-ready = record { ready = account-ready; counted = k .rules .counts .used }
 
   abbrev sees : State
   sees = seen (st .memory .core .frames) (st .disk .accounts) (st .disk .maps) (st .disk .limits) (st .disk .parents) (st .memory .held .addresses) (st .memory .held .states) (st .memory .slots .active) (st .memory .used)

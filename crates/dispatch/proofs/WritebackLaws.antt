@@ -1,7 +1,7 @@
 -- The events that free frames and records, or that move pages and maps to the disk, over all tables: the outcome of each by what it ensures of the tables that it sees.
 use mathlib.Core.Path.{_≡_, refl, ap, sym, _∙_}
 use mathlib.Core.Bool.{Bool, true, false}
-use mathlib.Core.List.{List, []}
+use mathlib.Core.List.{List}
 use Prim.Native.Nat.{ℕ}
 use lib.Dec.{eqb}
 use Rattle.tables.specs.Base.{if}
@@ -15,13 +15,13 @@ use Rattle.model.specs.Setters.{counted}
 use Rattle.model.specs.Questions.{questions, wouldStore}
 use Rattle.model.specs.Parts.{frameOf}
 use Rattle.model.specs.Writeback
-use Rattle.model.specs.Lent.{stateIn, stateOf, same-state, noPool}
+use Rattle.model.specs.Lent.{stateIn, same-state, noPool}
 use Rattle.model.specs.Step.{Outcome, outcome, carried, result}
 use Rattle.model.specs.Own.{own, leaves}
 use Rattle.model.specs.OwnLaws.{own-yes, own-no, outcome-no}
 use Rattle.model.specs.Pool.{deposited}
 use Rattle.writeback.specs.Claim.{usedThen}
-use Rattle.writeback.specs.Seen.{claim, truncate, update, pageDone, mapDone}
+use Rattle.writeback.specs.Seen.{claim, truncate, update, pageDone, mapDone, seenClaim, seenTruncate, seenUpdate, seenPageDone, seenMapDone}
 use Rattle.writeback.specs.Truncate as T
 use Rattle.writeback.proofs.ClaimWork as ClaimWork
 use Rattle.writeback.proofs.DoneWork as DoneWork
@@ -53,7 +53,7 @@ module _ (z : Sizes) (st : State) (k : Kept z st) where
   -- ── page done ──
   module _ (f good : ℕ) where
     abbrev done-sees : State
-    done-sees = stateOf (core .frames) noPool (st .disk .records) [] [] [] [] [] (core .words) (core .free-queue) (core .removal-list) (held .addresses) (held .states) [] [] [] [] [] []
+    done-sees = seenPageDone (core .frames) (st .disk .records) (core .words) (core .free-queue) (core .removal-list) (held .addresses) (held .states)
 
     abbrev four : State → State
     four t = if (eqb (frames st .frame f .transfer) READING) (if (eqb good 1) (Writeback.readGood z t f) (Writeback.readFailed z t f)) (if (eqb good 1) (Writeback.writeGood z t f) (Writeback.writeFailed z t f))
@@ -94,7 +94,7 @@ module _ (z : Sizes) (st : State) (k : Kept z st) where
   -- ── map done ──
   module _ (s good : ℕ) where
     abbrev map-sees : Pool → State
-    map-sees pool = stateOf [] pool [] (st .disk .numbers) [] (st .disk .maps) [] [] [] [] [] [] (held .states) (held .owners) (held .free-map) (slots .active) (slots .updating) (slots .images) []
+    map-sees pool = seenMapDone pool (st .disk .numbers) (st .disk .maps) (held .states) (held .owners) (held .free-map) (slots .active) (slots .updating) (slots .images)
 
     pub map-done-own : (n : ℕ) {a : Answer} {ms ss os fm us is : List ℕ} → MapWork.Said (λ p. own z (map-sees p) (mapDone s good)) (freeCount z (files st .state)) n a ms ss os fm us is
         → leaves a (stateIn (st .memory .line) (core .frames) (deposited n (held .pool)) (st .disk .records) (st .disk .numbers) (st .disk .accounts) ms (st .disk .limits) (st .disk .parents) (core .words) (core .free-queue) (core .removal-list) (held .addresses) ss os fm (slots .active) us is (st .memory .used))
@@ -133,7 +133,7 @@ module _ (z : Sizes) (st : State) (k : Kept z st) where
   -- ── update ──
   module _ (s : ℕ) where
     abbrev update-sees : State
-    update-sees = stateOf (core .frames) noPool [] (st .disk .numbers) [] [] [] [] [] [] [] (held .addresses) (held .states) (held .owners) [] (slots .active) (slots .updating) (slots .images) []
+    update-sees = seenUpdate (core .frames) (st .disk .numbers) (held .addresses) (held .states) (held .owners) (slots .active) (slots .updating) (slots .images)
 
     pub update-own : {a : Answer} {ads ss us is : List ℕ} → UpdateWork.Said (own z update-sees (update s)) a ads ss us is
         → leaves a (stateIn (st .memory .line) (core .frames) (held .pool) (st .disk .records) (st .disk .numbers) (st .disk .accounts) (st .disk .maps) (st .disk .limits) (st .disk .parents) (core .words) (core .free-queue) (core .removal-list) ads ss (held .owners) (held .free-map) (slots .active) us is (st .memory .used))
@@ -158,7 +158,7 @@ module _ (z : Sizes) (st : State) (k : Kept z st) where
 
   -- ── claim ──
   abbrev claim-sees : State
-  claim-sees = stateOf (core .frames) noPool [] [] (st .disk .accounts) [] (st .disk .limits) (st .disk .parents) (core .words) (core .free-queue) (core .removal-list) (held .addresses) (held .states) [] [] [] [] [] (st .memory .used)
+  claim-sees = seenClaim (core .frames) (st .disk .accounts) (st .disk .limits) (st .disk .parents) (core .words) (core .free-queue) (core .removal-list) (held .addresses) (held .states) (st .memory .used)
 
   pub claim-own : {fs : List Frame} {a : Answer} {fq rl ss us : List ℕ} → ClaimWork.Said z claim-sees fs a fq rl ss us
       → leaves a (stateIn (st .memory .line) fs (held .pool) (st .disk .records) (st .disk .numbers) (st .disk .accounts) (st .disk .maps) (st .disk .limits) (st .disk .parents) (core .words) fq rl (held .addresses) ss (held .owners) (held .free-map) (slots .active) (slots .updating) (slots .images) us)
@@ -188,7 +188,7 @@ module _ (z : Sizes) (st : State) (k : Kept z st) where
   -- ── truncate ──
   module _ (s n : ℕ) where
     abbrev truncate-sees : State
-    truncate-sees = stateOf (core .frames) noPool [] (st .disk .numbers) (st .disk .accounts) [] (st .disk .limits) (st .disk .parents) [] (core .free-queue) (core .removal-list) (held .addresses) (held .states) [] [] (slots .active) [] [] (st .memory .used)
+    truncate-sees = seenTruncate (core .frames) (st .disk .numbers) (st .disk .accounts) (st .disk .limits) (st .disk .parents) (core .free-queue) (core .removal-list) (held .addresses) (held .states) (slots .active) (st .memory .used)
 
     pub truncate-own : {fs : List Frame} {a : Answer} {fq rl ds ss us : List ℕ} → TruncateWork.Said z truncate-sees s n fs a fq rl ds ss us
         → leaves a (stateIn (st .memory .line) fs (held .pool) (st .disk .records) (st .disk .numbers) (st .disk .accounts) (st .disk .maps) (st .disk .limits) (st .disk .parents) (core .words) fq rl ds ss (held .owners) (held .free-map) (slots .active) (slots .updating) (slots .images) us)

@@ -1,15 +1,14 @@
 // The events about an account.
 ghost use mathlib.Core.Path.{_≡_};
-ghost use lib.ListN.{take};
 ghost use Rattle.model.specs.declared.event.Event.the-variants as Event;
 ghost use Rattle.model.specs.Lent.{given, entered, left};
 ghost use Rattle.model.specs.Own.{own, leaves};
+ghost use Rattle.leaves.specs.Packed.{framesGiven, framesEntered, framesLeft};
 ghost use Rattle.dispatch.specs.Kept.{Kept};
 use accounts::limit::limit;
 use accounts::shift::move_pages;
 use model::event::Account;
 use model::event::Answer;
-use model::frame::Frame;
 use model::frame::Pool;
 use model::sizes::Sizes;
 
@@ -17,7 +16,7 @@ use model::sizes::Sizes;
 pub fn account_event(
     sizes: Sizes,
     event: Account,
-    frames: [Frame; 64],
+    frames: &[u64],
     pool: Pool,
     records: &[u32],
     numbers: &[u32],
@@ -38,13 +37,13 @@ pub fn account_event(
     used: &mut [u16],
 ) -> Answer
     requires { ⌜ Kept sizes
-        (given (take (sizes .frames) frames) pool records numbers accounts maps limits parents
+        (given (framesGiven sizes frames) pool records numbers accounts maps limits parents
         «frame_words» «free_queue» «removal_list» addresses states owners «free_map» active updating images used) ⌝ }
     ensures { λ r. ⌜ leaves r
-        (left (take (sizes .frames) frames) pool records numbers accounts maps limits parents
+        (left (framesLeft sizes frames) pool records numbers accounts maps limits parents
         «frame_words» «free_queue» «removal_list» addresses states owners «free_map» active updating images used)
         ≡ own sizes
-        (entered (take (sizes .frames) frames) pool records numbers accounts maps limits parents
+        (entered (framesEntered sizes frames) pool records numbers accounts maps limits parents
         «frame_words» «free_queue» «removal_list» addresses states owners «free_map» active updating images used)
         (Event.Account event) ⌝ }
 {

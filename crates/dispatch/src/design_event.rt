@@ -1,9 +1,9 @@
 // The events about a design.
 ghost use mathlib.Core.Path.{_≡_};
-ghost use lib.ListN.{take};
 ghost use Rattle.model.specs.declared.event.Event.the-variants as Event;
 ghost use Rattle.model.specs.Lent.{given, entered, left};
 ghost use Rattle.model.specs.Own.{own, leaves};
+ghost use Rattle.leaves.specs.Packed.{framesGiven, framesEntered, framesLeft};
 ghost use Rattle.dispatch.specs.Kept.{Kept};
 use designs::activate::activate;
 use designs::create::create;
@@ -11,7 +11,6 @@ use designs::deactivate::deactivate;
 use designs::delete::delete;
 use model::event::Answer;
 use model::event::Design;
-use model::frame::Frame;
 use model::frame::Pool;
 use model::sizes::Sizes;
 
@@ -19,7 +18,7 @@ use model::sizes::Sizes;
 pub fn design_event(
     sizes: Sizes,
     event: Design,
-    frames: [Frame; 64],
+    frames: &[u64],
     pool: Pool,
     records: &[u32],
     numbers: &mut [u32],
@@ -40,13 +39,13 @@ pub fn design_event(
     used: &[u16],
 ) -> Answer
     requires { ⌜ Kept sizes
-        (given (take (sizes .frames) frames) pool records numbers accounts maps limits parents
+        (given (framesGiven sizes frames) pool records numbers accounts maps limits parents
         «frame_words» «free_queue» «removal_list» addresses states owners «free_map» active updating images used) ⌝ }
     ensures { λ r. ⌜ leaves r
-        (left (take (sizes .frames) frames) pool records numbers accounts maps limits parents
+        (left (framesLeft sizes frames) pool records numbers accounts maps limits parents
         «frame_words» «free_queue» «removal_list» addresses states owners «free_map» active updating images used)
         ≡ own sizes
-        (entered (take (sizes .frames) frames) pool records numbers accounts maps limits parents
+        (entered (framesEntered sizes frames) pool records numbers accounts maps limits parents
         «frame_words» «free_queue» «removal_list» addresses states owners «free_map» active updating images used)
         (Event.Design event) ⌝ }
 {

@@ -1,15 +1,14 @@
 // The events about one page.
 ghost use mathlib.Core.Path.{_≡_};
-ghost use lib.ListN.{take};
 ghost use Rattle.model.specs.declared.event.Event.the-variants as Event;
 ghost use Rattle.model.specs.Lent.{given, entered, left};
 ghost use Rattle.model.specs.Own.{own, leaves};
 ghost use Rattle.model.specs.Pool.{taken, deposited};
+ghost use Rattle.leaves.specs.Packed.{framesGiven, framesEntered, framesLeft};
 ghost use Rattle.dispatch.specs.Kept.{Kept};
-use crate::handed::framed;
-use model::applied::Applied;
+use crate::handed::told;
+use model::applied::Worked;
 use model::event::Page;
-use model::frame::Frame;
 use model::frame::Pool;
 use model::sizes::Sizes;
 use pages::fault::fault;
@@ -21,7 +20,7 @@ use pages::write::write;
 pub fn page_event(
     sizes: Sizes,
     event: Page,
-    frames: [Frame; 64],
+    frames: &mut [u64],
     pool: Pool,
     records: &[u32],
     numbers: &[u32],
@@ -40,15 +39,15 @@ pub fn page_event(
     updating: &[u8],
     images: &[u16],
     used: &mut [u16],
-) -> Applied
+) -> Worked
     requires { ⌜ Kept sizes
-        (given (take (sizes .frames) frames) pool records numbers accounts maps limits parents
+        (given (framesGiven sizes frames) pool records numbers accounts maps limits parents
         «frame_words» «free_queue» «removal_list» addresses states owners «free_map» active updating images used) ⌝ }
     ensures { λ r. ⌜ leaves (r .answer)
-        (left (take (sizes .frames) (r .frames)) (deposited (r .deposited) (taken sizes (r .taken) pool)) records numbers accounts maps limits parents
+        (left (framesLeft sizes frames) (deposited (r .deposited) (taken sizes (r .taken) pool)) records numbers accounts maps limits parents
         «frame_words» «free_queue» «removal_list» addresses states owners «free_map» active updating images used)
         ≡ own sizes
-        (entered (take (sizes .frames) frames) pool records numbers accounts maps limits parents
+        (entered (framesEntered sizes frames) pool records numbers accounts maps limits parents
         «frame_words» «free_queue» «removal_list» addresses states owners «free_map» active updating images used)
         (Event.Page event) ⌝ }
 {
@@ -69,7 +68,7 @@ pub fn page_event(
             free_map,
             active,
         ),
-        Page::Read { slot, page, word } => framed(read(
+        Page::Read { slot, page, word } => told(read(
             sizes,
             slot,
             page,
@@ -84,7 +83,7 @@ pub fn page_event(
             page,
             word,
             value,
-        } => framed(write(
+        } => told(write(
             sizes,
             slot,
             page,
@@ -102,10 +101,10 @@ pub fn page_event(
             used,
         )),
         Page::Wire { slot, page } => {
-            framed(wire(sizes, slot, page, frames, numbers, active, removal_list))
+            told(wire(sizes, slot, page, frames, numbers, active, removal_list))
         }
         Page::Unwire { slot, page } => {
-            framed(unwire(sizes, slot, page, frames, numbers, active, removal_list))
+            told(unwire(sizes, slot, page, frames, numbers, active, removal_list))
         }
     }
 }

@@ -1,17 +1,15 @@
 // The events that free frames and records, or that move pages and maps to the disk.
 ghost use mathlib.Core.Path.{_≡_};
-ghost use lib.ListN.{take};
 ghost use Rattle.model.specs.declared.event.Event.the-variants as Event;
 ghost use Rattle.model.specs.Lent.{given, entered, left};
 ghost use Rattle.model.specs.Own.{own, leaves};
 ghost use Rattle.model.specs.Pool.{taken, deposited};
+ghost use Rattle.leaves.specs.Packed.{framesGiven, framesEntered, framesLeft};
 ghost use Rattle.dispatch.specs.Kept.{Kept};
-use crate::handed::framed;
 use crate::handed::freed;
 use crate::handed::told;
-use model::applied::Applied;
+use model::applied::Worked;
 use model::event::Writeback;
-use model::frame::Frame;
 use model::frame::Pool;
 use model::sizes::Sizes;
 use writeback::claim::claim;
@@ -23,7 +21,7 @@ use writeback::update::update;
 pub fn writeback_event(
     sizes: Sizes,
     event: Writeback,
-    frames: [Frame; 64],
+    frames: &mut [u64],
     pool: Pool,
     records: &mut [u32],
     numbers: &[u32],
@@ -42,20 +40,20 @@ pub fn writeback_event(
     updating: &mut [u8],
     images: &mut [u16],
     used: &mut [u16],
-) -> Applied
+) -> Worked
     requires { ⌜ Kept sizes
-        (given (take (sizes .frames) frames) pool records numbers accounts maps limits parents
+        (given (framesGiven sizes frames) pool records numbers accounts maps limits parents
         «frame_words» «free_queue» «removal_list» addresses states owners «free_map» active updating images used) ⌝ }
     ensures { λ r. ⌜ leaves (r .answer)
-        (left (take (sizes .frames) (r .frames)) (deposited (r .deposited) (taken sizes (r .taken) pool)) records numbers accounts maps limits parents
+        (left (framesLeft sizes frames) (deposited (r .deposited) (taken sizes (r .taken) pool)) records numbers accounts maps limits parents
         «frame_words» «free_queue» «removal_list» addresses states owners «free_map» active updating images used)
         ≡ own sizes
-        (entered (take (sizes .frames) frames) pool records numbers accounts maps limits parents
+        (entered (framesEntered sizes frames) pool records numbers accounts maps limits parents
         «frame_words» «free_queue» «removal_list» addresses states owners «free_map» active updating images used)
         (Event.Writeback event) ⌝ }
 {
     match event {
-        Writeback::Claim => framed(claim(
+        Writeback::Claim => told(claim(
             sizes,
             frames,
             accounts,
@@ -68,7 +66,7 @@ pub fn writeback_event(
             states,
             used,
         )),
-        Writeback::Truncate { slot, count } => framed(truncate(
+        Writeback::Truncate { slot, count } => told(truncate(
             sizes,
             slot,
             count,
@@ -84,22 +82,19 @@ pub fn writeback_event(
             active,
             used,
         )),
-        Writeback::Update { slot } => told(
-            update(
-                sizes,
-                slot,
-                frames,
-                numbers,
-                addresses,
-                states,
-                owners,
-                active,
-                updating,
-                images,
-            ),
+        Writeback::Update { slot } => told(update(
+            sizes,
+            slot,
             frames,
-        ),
-        Writeback::PageDone { frame, good } => framed(page_done(
+            numbers,
+            addresses,
+            states,
+            owners,
+            active,
+            updating,
+            images,
+        )),
+        Writeback::PageDone { frame, good } => told(page_done(
             sizes,
             frame,
             good,
@@ -111,21 +106,18 @@ pub fn writeback_event(
             addresses,
             states,
         )),
-        Writeback::MapDone { slot, good } => freed(
-            map_done(
-                sizes,
-                slot,
-                good,
-                numbers,
-                maps,
-                states,
-                owners,
-                free_map,
-                active,
-                updating,
-                images,
-            ),
-            frames,
-        ),
+        Writeback::MapDone { slot, good } => freed(map_done(
+            sizes,
+            slot,
+            good,
+            numbers,
+            maps,
+            states,
+            owners,
+            free_map,
+            active,
+            updating,
+            images,
+        )),
     }
 }

@@ -52,7 +52,7 @@ use Rattle.keeper.proofs.AnyLength.{whole as of-any-length}
 use Rattle.keeper.proofs.Refused.{apply-refuses}
 use Rattle.keeper.proofs.Handed.{An, answer-val, Fields}
 use Rattle.keeper.proofs.Callees.{P, frames-val, pool-ptr}
-use Rattle.calls.proofs.apply_core as core
+use Rattle.batch.proofs.apply_one.apply_one as core
 use Rattle.keeper.proofs.apply.keeper_apply as fn
 
 abbrev pub stayed : Stays (fn.ended .signature .params) (fn.ended .kept)

@@ -49,7 +49,7 @@ use Rattle.keeper.proofs.ByValue.{Z, sizes-val, sizes-vals, makes-sizes
 use Rattle.keeper.proofs.AnyList.{whole-list}
 use Rattle.keeper.proofs.HandedAnew.{An, answer-val, Fields}
 use Rattle.keeper.proofs.Callees.{P, frames-val, pool-ptr}
-use Rattle.batch.proofs.apply_all as core
+use Rattle.batch.proofs.apply_all.apply_all as core
 use Rattle.keeper.proofs.apply_all.keeper_apply_all as fn
 
 abbrev pub stayed : Stays (fn.ended .signature .params) (fn.ended .kept)

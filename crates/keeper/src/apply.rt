@@ -50,7 +50,7 @@ pub extern "C" fn keeper_apply(
     let lent = frames.len();
     let values = load(frames);
     let copy = *pool;
-    let out = calls::apply_core(
+    let out = batch::apply_one::apply_one(
         sizes,
         request,
         lent,

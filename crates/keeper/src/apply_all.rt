@@ -51,7 +51,7 @@ pub extern "C" fn keeper_apply_all(
     let lent = frames.len();
     let values = load(frames);
     let copy = *pool;
-    let out = batch::apply_all(
+    let out = batch::apply_all::apply_all(
         sizes,
         lent,
         values,

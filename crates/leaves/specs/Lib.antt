@@ -7,6 +7,7 @@ pub mod FrameLaws
 pub mod FreeMap
 pub mod Freed
 pub mod Near
+pub mod Packed
 pub mod Payers
 pub mod Picks
 pub mod Released

@@ -3,9 +3,9 @@ pub mod addresses; // the address of a page
 pub mod asks; // the questions that begin every event about a slot
 pub mod cells; // one entry
 pub mod close; // the marks close to a number
-pub mod frames; // frames by value
 pub mod marks; // one bit a number
 pub mod near; // the choice of a record near another
+pub mod packed; // frames, packed in a lent table
 pub mod payer; // who pays
 pub mod pool; // the choice of a free record
 pub mod queue; // the free queue and the removal list

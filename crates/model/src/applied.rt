@@ -1,26 +1,16 @@
-// What comes back by value from the work of a call: the frames, 64 of them whatever F is, what was taken out of the pool and deposited in it, and the answer.
-ghost use mathlib.Core.Path.{_≡_};
+// What comes back by value: from an event, what concerns the pool and the answer; from the work of a call, the frames too, 64 of them whatever F is.
 use crate::event::Answer;
 use crate::frame::Frame;
 use crate::frame::Pool;
 
-// Of an event that changes frames.
-pub struct Framed {
-    pub frames: [Frame; 64],
+// Of an event. taken: the record taken out of the pool + 1, or 0 for none. deposited: how many records were given back.
+pub struct Worked {
+    pub taken: u32,
+    pub deposited: u32,
     pub answer: Answer,
 }
 
-// The frames and an answer.
-pub fn answered(frames: [Frame; 64], refusal: u32, result: u32) -> Framed
-    ensures { λ r. ⌜ r ≡ record { frames = frames; answer = record { refusal = refusal; result = result } } ⌝ }
-{
-    Framed {
-        frames,
-        answer: Answer { refusal, result },
-    }
-}
-
-// Of an event that may change the pool too. taken: the record taken + 1, or 0 for none. deposited: how many records were given back.
+// Of a request in one call.
 pub struct Applied {
     pub frames: [Frame; 64],
     pub taken: u32,
@@ -28,7 +18,7 @@ pub struct Applied {
     pub answer: Answer,
 }
 
-// Of a restart, which sets the pool anew.
+// Of a list of requests, and of a restart, which set the pool anew.
 pub struct Pooled {
     pub frames: [Frame; 64],
     pub pool: Pool,

@@ -124,15 +124,15 @@ module _ (a : Call) where
         → n ≡ firstNo (served z st (wordRange z s p w) (quietOf reads z st) s p)
     word-answer reads n = served-answer a (wordRange z s p w) n (wordTest z s p w) (word-test z s p w) reads
 
-    -- f, g and l are the page's frame, what it holds, and the frames that the code stores
-    module _ (h : frameIn (z .frames) fs i < z .frames) (f : ℕ) (g : Frame) (l : List Frame) (ef : f ≡ frameIn (z .frames) fs i) (eg : g ≡ frameAt fs f) where
+    -- f and g are the page's frame and what it holds, l the frames that the code stores
+    module _ (h : frameIn (z .frames) fs i < z .frames) (f : ℕ) (g : Frame) (ef : f ≡ frameIn (z .frames) fs i) (eg : g ≡ frameAt fs f) where
       pub read-answer : (k x : ℕ) → k ≡ f * z .words + w → x ≡ at words k → _≡_ {A = Answer} (record { refusal = 0; result = x }) (done z st (Event.Page (Page.Read s p w)) .answer)
       unfolding result Pages.wordRead
       read-answer k x ek ex = ap (λ (n : ℕ). record { refusal = 0; result = n }) (ex ∙ ap (at words) (ek ∙ ap (λ (j : ℕ). j * z .words + w) (its-place f ef)))
 
-      pub read-frames : l ≡ set fs f (setUsedSwitch 1 g) → take (z .frames) l ≡ done z st (Event.Page (Page.Read s p w)) .left .memory .core .frames
+      pub read-frames : (l : List Frame) → l ≡ set fs f (setUsedSwitch 1 g) → take (z .frames) l ≡ done z st (Event.Page (Page.Read s p w)) .left .memory .core .frames
       unfolding carried Pages.read
-      read-frames el = its-changed z fs i (frames st) (λ k j. refl) h (setUsedSwitch 1) f g l ef eg el
+      read-frames l el = its-changed z fs i (frames st) (λ k j. refl) h (setUsedSwitch 1) f g l ef eg el
 
   -- ── wire and unwire ──
   module _ (h : frameIn (z .frames) fs i < z .frames) (f : ℕ) (ef : f ≡ frameIn (z .frames) fs i) where

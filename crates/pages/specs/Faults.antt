@@ -52,6 +52,10 @@ module _ (z : Sizes) (st : State) (s p : ℕ) where
   abbrev pub taken : ℕ
   taken = pick z (files st .address) (files st .state) (st .memory .held .pool .hand) (pageOf z s p)
 
+  -- what the model leaves
+  abbrev pub ended : State
+  ended = own z st (Event.Page (Page.Fault s p)) .left
+
 -- .. as the contracts name it, by the addresses and states on entry
 abbrev pub chosen : Sizes → Pool → Table → Table → ℕ → ℕ
 chosen z pool addresses states i = pick z (at (addresses .entry .now)) (at (states .entry .now)) (pool .hand) i
@@ -60,20 +64,32 @@ chosen z pool addresses states i = pick z (at (addresses .entry .now)) (at (stat
 abbrev pub cleared : List ℕ → ℕ → List ℕ
 cleared map r = set map (r / 32) (at map (r / 32) - 2 ^ (r % 32))
 
+-- the free count and the free map that a fault leaves: counted down, where it takes a record
+module _ (z : Sizes) (st : State) (s p : ℕ) where
+  abbrev pub freeLeft : ℕ
+  freeLeft = if (takes z st s p) (st .memory .held .pool .free - 1) (st .memory .held .pool .free)
+
+  abbrev pub mapLeft : List ℕ
+  mapLeft = if (takes z st s p) (cleared (st .memory .held .free-map) (taken z st s p)) (st .memory .held .free-map)
+
 -- What a fault leaves in each table that it changes: what the model leaves; the free records are counted down.
 pub record FaultLeft (z : Sizes) (st : State) (s p : ℕ) (fs : List Frame) (pool : Pool) (words queue list addresses states owners map : List ℕ) : Type 0 where
-  pub frames : fs ≡ own z st (Event.Page (Page.Fault s p)) .left .memory .core .frames
-  pub words-left : words ≡ own z st (Event.Page (Page.Fault s p)) .left .memory .core .words
-  pub queue-left : queue ≡ own z st (Event.Page (Page.Fault s p)) .left .memory .core .free-queue
-  pub list-left : list ≡ own z st (Event.Page (Page.Fault s p)) .left .memory .core .removal-list
-  pub addresses-left : addresses ≡ own z st (Event.Page (Page.Fault s p)) .left .memory .held .addresses
-  pub states-left : states ≡ own z st (Event.Page (Page.Fault s p)) .left .memory .held .states
-  pub owners-left : owners ≡ own z st (Event.Page (Page.Fault s p)) .left .memory .held .owners
-  pub hand : pool .hand ≡ own z st (Event.Page (Page.Fault s p)) .left .memory .held .pool .hand
-  pub free : pool .free ≡ if (takes z st s p) (st .memory .held .pool .free - 1) (st .memory .held .pool .free)
-  pub map-left : map ≡ if (takes z st s p) (cleared (st .memory .held .free-map) (taken z st s p)) (st .memory .held .free-map)
+  pub frames : fs ≡ ended z st s p .memory .core .frames
+  pub words-left : words ≡ ended z st s p .memory .core .words
+  pub queue-left : queue ≡ ended z st s p .memory .core .free-queue
+  pub list-left : list ≡ ended z st s p .memory .core .removal-list
+  pub addresses-left : addresses ≡ ended z st s p .memory .held .addresses
+  pub states-left : states ≡ ended z st s p .memory .held .states
+  pub owners-left : owners ≡ ended z st s p .memory .held .owners
+  pub map-left : map ≡ mapLeft z st s p
+  pub hand : pool .hand ≡ ended z st s p .memory .held .pool .hand
+  pub free : pool .free ≡ freeLeft z st s p
 
--- .. by bare names
-abbrev pub Left : Sizes → State → ℕ → ℕ → List Frame → Pool → Table → Table → Table → Table → Table → Table → Table → Type 0
-Left z st s p fs pool words queue list addresses states owners map =
-    FaultLeft z st s p fs pool (words .exit .now) (queue .exit .now) (list .exit .now) (addresses .exit .now) (states .exit .now) (owners .exit .now) (map .exit .now)
+-- .. by these equations, as the contract lists them
+pub fault-left : {z : Sizes} {st : State} {s p : ℕ} {fs : List Frame} {pool : Pool} {words queue list addresses states owners map : List ℕ}
+    → (fs ≡ ended z st s p .memory .core .frames) × ((words ≡ ended z st s p .memory .core .words) × ((queue ≡ ended z st s p .memory .core .free-queue) × ((list ≡ ended z st s p .memory .core .removal-list)
+    × ((addresses ≡ ended z st s p .memory .held .addresses) × ((states ≡ ended z st s p .memory .held .states) × ((owners ≡ ended z st s p .memory .held .owners)
+    × ((map ≡ mapLeft z st s p) × ((pool .hand ≡ ended z st s p .memory .held .pool .hand) × (pool .free ≡ freeLeft z st s p)))))))))
+    → FaultLeft z st s p fs pool words queue list addresses states owners map
+fault-left (fs, (ws, (fq, (rl, (ads, (ss, (os, (fm, (hand, free))))))))) =
+    record { frames = fs; words-left = ws; queue-left = fq; list-left = rl; addresses-left = ads; states-left = ss; owners-left = os; map-left = fm; hand = hand; free = free }

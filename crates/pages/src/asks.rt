@@ -2,7 +2,6 @@
 ghost use mathlib.Core.Bool.{true};
 ghost use mathlib.Core.Path.{_≡_};
 ghost use Prim.Native.Nat.{_+_, _*_, _<_};
-ghost use lib.ListN.{take};
 ghost use Rattle.tables.specs.Questions.{firstNo};
 ghost use Rattle.tables.specs.Also.{_also_};
 ghost use Rattle.tables.specs.Rule.{test};
@@ -10,11 +9,12 @@ ghost use Rattle.model.specs.State.{pageOf};
 ghost use Rattle.model.specs.Fit.{Within};
 ghost use Rattle.leaves.specs.Asks.{slotAsked};
 ghost use Rattle.leaves.specs.FrameLaws.{frameIn};
+ghost use Rattle.leaves.specs.Packed.{unpacked, framesGiven, framesEntered};
 ghost use Rattle.pages.specs.Asks.{frameAsked, isQuiet};
 ghost use Rattle.pages.specs.Needs.{Seats};
 use leaves::asks::ask_slot;
-use leaves::frames::frame_at;
-use leaves::frames::frame_of;
+use leaves::packed::frame_at;
+use leaves::packed::frame_of;
 use model::frame::Frame;
 use model::frame::NONE;
 use model::frame::READING;
@@ -49,9 +49,9 @@ fn is_quiet(reads: bool, frame: Frame) -> bool
 }
 
 // Questions 13 and 14; reads: of a read or a look.
-pub fn ask_frame(reads: bool, sizes: Sizes, frames: [Frame; 64], page: usize) -> u32
-    requires { ⌜ Seats sizes (take (sizes .frames) frames) × (page < 65535) ⌝ }
-    ensures { λ r. ⌜ r ≡ firstNo (frameAsked reads sizes (take (sizes .frames) frames) page) ⌝ }
+pub fn ask_frame(reads: bool, sizes: Sizes, frames: &[u64], page: usize) -> u32
+    requires { ⌜ Seats sizes (framesGiven sizes frames) × (page < 65535) ⌝ }
+    ensures { λ r. ⌜ r ≡ firstNo (frameAsked reads sizes (framesEntered sizes frames) page) ⌝ }
 {
     let f = frame_of(frames, sizes.frames, page);
     if f >= sizes.frames {
@@ -71,13 +71,13 @@ pub fn ask_served(
     in_range: bool,
     slot: usize,
     page: usize,
-    frames: [Frame; 64],
+    frames: &[u64],
     numbers: &[u32],
     active: &[u8],
 ) -> u32
-    requires { ⌜ Seats sizes (take (sizes .frames) frames) × ((«in_range» ≡ true) → (slot < sizes .slots) × (page < sizes .pages)) ⌝ }
-    ensures answer { λ r. ⌜ r ≡ firstNo (slotAsked «in_range» slot (now (numbers .entry)) (now (active .entry)) also frameAsked reads sizes (take (sizes .frames) frames) (pageOf sizes slot page)) ⌝ }
-    ensures given { λ r. ⌜ (r ≡ 0 → («in_range» ≡ true) × (frameIn (sizes .frames) frames (pageOf sizes slot page) < sizes .frames)) ⌝ }
+    requires { ⌜ Seats sizes (framesGiven sizes frames) × ((«in_range» ≡ true) → (slot < sizes .slots) × (page < sizes .pages)) ⌝ }
+    ensures answer { λ r. ⌜ r ≡ firstNo (slotAsked «in_range» slot (now (numbers .entry)) (now (active .entry)) also frameAsked reads sizes (framesEntered sizes frames) (pageOf sizes slot page)) ⌝ }
+    ensures given { λ r. ⌜ (r ≡ 0 → («in_range» ≡ true) × (frameIn (sizes .frames) (unpacked (now (frames .entry))) (pageOf sizes slot page) < sizes .frames)) ⌝ }
 {
     let no = ask_slot(in_range, slot, numbers, active);
     if no != 0 {
@@ -88,9 +88,9 @@ pub fn ask_served(
 }
 
 // The frame that the page is in, or the count of frames.
-pub fn its_frame(sizes: Sizes, slot: usize, page: usize, frames: [Frame; 64]) -> usize
+pub fn its_frame(sizes: Sizes, slot: usize, page: usize, frames: &[u64]) -> usize
     requires { ⌜ Within sizes × (slot < sizes .slots) × (page < sizes .pages) ⌝ }
-    ensures { λ r. ⌜ r ≡ frameIn (sizes .frames) frames (pageOf sizes slot page) ⌝ }
+    ensures { λ r. ⌜ r ≡ frameIn (sizes .frames) (unpacked (now (frames .entry))) (pageOf sizes slot page) ⌝ }
 {
     let i = page_of(sizes, slot, page);
     frame_of(frames, sizes.frames, i)

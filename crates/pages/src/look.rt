@@ -2,7 +2,7 @@
 ghost use mathlib.Core.Path.{_≡_};
 ghost use mathlib.Core.List.{[]};
 ghost use Prim.Native.Nat.{_+_, _*_, _≤_};
-ghost use lib.ListN.{take};
+ghost use Rattle.leaves.specs.Packed.{framesGiven, framesEntered};
 ghost use Rattle.pages.specs.Seen.{seen};
 ghost use Rattle.pages.specs.Needs.{Seats};
 ghost use Rattle.pages.specs.Looks.{placed};
@@ -10,19 +10,18 @@ use crate::asks::ask_served;
 use crate::asks::its_frame;
 use crate::asks::word_of;
 use model::applied::Part;
-use model::frame::Frame;
 use model::sizes::Sizes;
 
 pub fn place(
     sizes: Sizes,
     slot: usize,
     page: usize,
-    frames: [Frame; 64],
+    frames: &[u64],
     numbers: &[u32],
     active: &[u8],
 ) -> Part
-    requires { ⌜ Seats sizes (take (sizes .frames) frames) ⌝ }
-    ensures part { λ r. ⌜ r ≡ placed sizes (seen (take (sizes .frames) frames) (now (numbers .entry)) [] [] (now (active .entry))) slot page ⌝ }
+    requires { ⌜ Seats sizes (framesGiven sizes frames) ⌝ }
+    ensures part { λ r. ⌜ r ≡ placed sizes (seen (framesEntered sizes frames) (now (numbers .entry)) [] [] (now (active .entry))) slot page ⌝ }
     ensures within { λ r. ⌜ r .start + r .count ≤ sizes .frames * sizes .words ⌝ }
 {
     let in_range = (slot < sizes.slots) & (page < sizes.pages);

@@ -3,7 +3,7 @@ ghost use mathlib.Core.Path.{_≡_};
 ghost use mathlib.Core.Bool.{true};
 ghost use Prim.Native.Nat.{suc, _*_, _<_};
 ghost use lib.Dec.{eqb, ltb};
-ghost use lib.ListN.{length, take, set};
+ghost use lib.ListN.{length, set};
 ghost use Rattle.tables.specs.Base.{if, at};
 ghost use Rattle.tables.specs.Queue.{size, queue, push-front};
 ghost use Rattle.tables.specs.Questions.{firstNo};
@@ -12,17 +12,18 @@ ghost use Rattle.model.specs.Lines.{NULLED};
 ghost use Rattle.model.specs.Parts.{setPart};
 ghost use Rattle.model.specs.Pages.{awaiting, fresh};
 ghost use Rattle.model.specs.Fit.{Within};
+ghost use Rattle.leaves.specs.Packed.{unpacked, framesGiven, framesEntered};
 ghost use Rattle.pages.specs.Needs.{Seats, Pooled};
 ghost use Rattle.pages.specs.Faults.{wayOf, awayAsked, supplyAsked, cleared, chosen};
 use leaves::cells::at8;
 use leaves::cells::at16;
 use leaves::cells::put8;
 use leaves::cells::put16;
-use leaves::frames::frame_at;
-use leaves::frames::frame_of;
-use leaves::frames::with_frame;
 use leaves::marks::clear_mark;
 use leaves::near::pick;
+use leaves::packed::frame_at;
+use leaves::packed::frame_of;
+use leaves::packed::put_frame;
 use leaves::queue::push_front;
 use leaves::states::move_record;
 use leaves::words::clear_part;
@@ -51,9 +52,9 @@ pub fn way_of(page: usize, addresses: &[u16], states: &[u8]) -> u8
 }
 
 // Questions 14 and 15.
-pub fn ask_away(sizes: Sizes, frames: [Frame; 64], page: usize) -> u32
-    requires { ⌜ Seats sizes (take (sizes .frames) frames) × (page < 65535) ⌝ }
-    ensures { λ r. ⌜ r ≡ firstNo (awayAsked sizes (take (sizes .frames) frames) page) ⌝ }
+pub fn ask_away(sizes: Sizes, frames: &[u64], page: usize) -> u32
+    requires { ⌜ Seats sizes (framesGiven sizes frames) × (page < 65535) ⌝ }
+    ensures { λ r. ⌜ r ≡ firstNo (awayAsked sizes (framesEntered sizes frames) page) ⌝ }
 {
     let f = frame_of(frames, sizes.frames, page);
     if f >= sizes.frames {
@@ -127,14 +128,14 @@ pub fn serve(
     sizes: Sizes,
     page: usize,
     frame: usize,
-    frames: [Frame; 64],
+    frames: &mut [u64],
     words: &mut [u32],
     removal_list: &mut [u16],
-) -> [Frame; 64]
+)
     requires { ⌜ Within sizes × (page < 65535) × (frame < sizes .frames) × (length (now words) ≡ sizes .frames * sizes .words) × Holds (queue (length (now «removal_list»)) (now «removal_list»)) × (size (now «removal_list») < length (now «removal_list»)) ⌝ }
-    ensures frames { λ r. ⌜ r ≡ set frames frame (if (eqb way 2) (awaiting page) (fresh page)) ⌝ }
-    ensures words { λ r. ⌜ now (words .exit) ≡ if (eqb way 2) (now (words .entry)) (setPart sizes frame (λ w. 0) (now (words .entry))) ⌝ }
-    ensures list { λ r. ⌜ now («removal_list» .exit) ≡ if (eqb way 2) (now («removal_list» .entry)) (push-front (now («removal_list» .entry)) frame) ⌝ }
+    ensures frames { λ _. ⌜ unpacked (now (frames .exit)) ≡ set (unpacked (now (frames .entry))) frame (if (eqb way 2) (awaiting page) (fresh page)) ⌝ }
+    ensures words { λ _. ⌜ now (words .exit) ≡ if (eqb way 2) (now (words .entry)) (setPart sizes frame (λ w. 0) (now (words .entry))) ⌝ }
+    ensures list { λ _. ⌜ now («removal_list» .exit) ≡ if (eqb way 2) (now («removal_list» .entry)) (push-front (now («removal_list» .entry)) frame) ⌝ }
 {
     let mut taken = Frame {
         page: (page + 1) as u16,
@@ -145,11 +146,12 @@ pub fn serve(
         transfer: READING,
     };
     if way == 2 {
-        return with_frame(frames, frame, taken);
+        put_frame(frames, frame, taken);
+        return;
     }
     clear_part(words, sizes.words, frame);
     push_front(removal_list, frame);
     taken.initial = 1;
     taken.transfer = NONE;
-    with_frame(frames, frame, taken)
+    put_frame(frames, frame, taken)
 }

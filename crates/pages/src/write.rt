@@ -1,7 +1,7 @@
 // Write: one word of a page in a frame takes a value; the frame's used and modified switches go on. A page's first write is charged.
 ghost use mathlib.Core.Path.{_≡_};
-ghost use lib.ListN.{take};
 ghost use Rattle.model.specs.Own.{own};
+ghost use Rattle.leaves.specs.Packed.{framesGiven, framesEntered, framesLeft};
 ghost use Rattle.pages.specs.Seen.{enteredWrite};
 ghost use Rattle.pages.specs.Needs.{Seats};
 ghost use Rattle.pages.specs.Writes.{writing, usedLeft};
@@ -12,12 +12,10 @@ use crate::asks::word_of;
 use crate::charges::is_charged;
 use crate::charges::pay;
 use leaves::cells::put32;
-use leaves::frames::frame_at;
-use leaves::frames::with_frame;
+use leaves::packed::frame_at;
+use leaves::packed::put_frame;
 use leaves::payer::slot_payer;
-use model::applied::Framed;
-use model::applied::answered;
-use model::frame::Frame;
+use model::event::Answer;
 use model::refusals::AT_LIMIT;
 use model::sizes::Sizes;
 
@@ -27,7 +25,7 @@ pub fn write(
     page: usize,
     word: usize,
     value: u32,
-    frames: [Frame; 64],
+    frames: &mut [u64],
     numbers: &[u32],
     accounts: &[u16],
     limits: &[u16],
@@ -37,17 +35,17 @@ pub fn write(
     states: &[u8],
     active: &[u8],
     used: &mut [u16],
-) -> Framed
-    requires { ⌜ Seats sizes (take (sizes .frames) frames) ⌝ }
-    ensures answer { λ r. ⌜ r .answer ≡ own sizes (enteredWrite (take (sizes .frames) frames) numbers accounts limits parents words addresses states active used) (writing slot page word value) .answer ⌝ }
-    ensures frames { λ r. ⌜ take (sizes .frames) (r .frames) ≡ own sizes (enteredWrite (take (sizes .frames) frames) numbers accounts limits parents words addresses states active used) (writing slot page word value) .left .memory .core .frames ⌝ }
-    ensures words { λ r. ⌜ now (words .exit) ≡ own sizes (enteredWrite (take (sizes .frames) frames) numbers accounts limits parents words addresses states active used) (writing slot page word value) .left .memory .core .words ⌝ }
-    ensures used { λ r. ⌜ now (used .exit) ≡ usedLeft sizes (enteredWrite (take (sizes .frames) frames) numbers accounts limits parents words addresses states active used) slot page word value ⌝ }
+) -> Answer
+    requires { ⌜ Seats sizes (framesGiven sizes frames) ⌝ }
+    ensures answer { λ r. ⌜ r ≡ own sizes (enteredWrite (framesEntered sizes frames) numbers accounts limits parents words addresses states active used) (writing slot page word value) .answer ⌝ }
+    ensures frames { λ r. ⌜ framesLeft sizes frames ≡ own sizes (enteredWrite (framesEntered sizes frames) numbers accounts limits parents words addresses states active used) (writing slot page word value) .left .memory .core .frames ⌝ }
+    ensures words { λ r. ⌜ now (words .exit) ≡ own sizes (enteredWrite (framesEntered sizes frames) numbers accounts limits parents words addresses states active used) (writing slot page word value) .left .memory .core .words ⌝ }
+    ensures used { λ r. ⌜ now (used .exit) ≡ usedLeft sizes (enteredWrite (framesEntered sizes frames) numbers accounts limits parents words addresses states active used) slot page word value ⌝ }
 {
     let in_range = (slot < sizes.slots) & ((page < sizes.pages) & (word < sizes.words));
     let refusal = ask_served(false, sizes, in_range, slot, page, frames, numbers, active);
     if refusal != 0 {
-        return answered(frames, refusal, 0);
+        return Answer { refusal, result: 0 };
     }
     let f = its_frame(sizes, slot, page, frames);
     let mut frame = frame_at(frames, f);
@@ -55,12 +53,18 @@ pub fn write(
     let charged = is_charged(i, frame.modified, addresses, states);
     let payer = slot_payer(parents, limits, accounts, slot);
     if pay(charged, payer, limits, used) {} else {
-        return answered(frames, AT_LIMIT, 0);
+        return Answer {
+            refusal: AT_LIMIT,
+            result: 0,
+        };
     }
     frame.used = 1;
     frame.modified = 1;
-    let frames = with_frame(frames, f, frame);
+    put_frame(frames, f, frame);
     let k = word_of(sizes, f, word);
     put32(words, k, value);
-    answered(frames, 0, 0)
+    Answer {
+        refusal: 0,
+        result: 0,
+    }
 }

@@ -98,7 +98,7 @@ pub fn carry(
             used,
         );
     }
-    let out = calls::apply_core(
+    let out = batch::apply_one::apply_one(
         sizes(),
         asked,
         2,

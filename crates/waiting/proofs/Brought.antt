@@ -1,6 +1,6 @@
 -- A turn whose page is in no frame, by what its fault and its claim ensure of the tables that they see.
 use mathlib.Core.Path.{_≡_, refl, ap, sym, _∙_, subst}
-use mathlib.Core.List.{List, []}
+use mathlib.Core.List.{List}
 use Prim.Native.Nat.{ℕ, _%_}
 use lib.Dec.{eqb}
 use Rattle.tables.specs.Base.{if}
@@ -13,15 +13,15 @@ use Rattle.model.specs.declared.event.Event.the-variants as Event
 use Rattle.model.specs.declared.event.Page.the-variants.{Fault}
 use Rattle.model.specs.declared.event.Waiting.the-variants.{Turn}
 use Rattle.model.specs.State.{Disk, Core, Held, Slots, State, slotOf}
-use Rattle.model.specs.Setters.{onCore, onHeld, setFrames, setHand, setFree}
+use Rattle.model.specs.Setters.{onHeld, setHand, setFree}
 use Rattle.model.specs.Questions.{nextPage, nextFault}
 use Rattle.model.specs.LineLaws.{Waiting, InFrame}
-use Rattle.model.specs.Lent.{stateIn, stateOf, noPool}
+use Rattle.model.specs.Lent.{stateIn}
 use Rattle.model.specs.Own.{own, leaves}
 use Rattle.pages.specs.Seen.{seenFault}
 use Rattle.pages.specs.Faults.{FaultLeft}
 use Rattle.writeback.specs.Needs.{Queues, Claimable}
-use Rattle.writeback.specs.Seen.{claim}
+use Rattle.writeback.specs.Seen.{claim, seenClaim}
 use Rattle.writeback.proofs.ClaimWork.{Said}
 use Rattle.writeback.proofs.ClaimLaws.{claim-ready}
 use Rattle.dispatch.specs.Kept.{Kept}
@@ -64,17 +64,17 @@ module _ (z : Sizes) (st : State) (k : Kept z st) (w : Waiting z st) (away : ¬ 
     -- no frame is free: all is as it was, and the claim's outcome is the turn's
     module _ (h : a .refusal ≡ 20) where
       abbrev again : State
-      again = after (st .memory .line) (core .frames) (held .pool) ws fq rl ads ss os fm (st .memory .used)
+      again = after (st .memory .line) fs (held .pool) ws fq rl ads ss os fm (st .memory .used)
 
       same : again ≡ st
-      same = λ x. onCore (setFrames (core .frames)) (onHeld (λ o. setHand (held .pool .hand) (setFree (held .pool .free) o)) (as-it-was z st w away faulted h x))
+      same = λ x. onHeld (λ o. setHand (held .pool .hand) (setFree (held .pool .free) o)) (as-it-was z st w away faulted h x)
 
       kept-again : Kept z again
       kept-again = subst (Kept z) (sym same) k
 
-      pub claim-asked : Queues (z .frames) fq rl × Claimable z (core .frames) (disk .accounts) (disk .limits) (disk .parents) ws fq rl ads ss (st .memory .used)
+      pub claim-asked : Queues (z .frames) fq rl × Claimable z fs (disk .accounts) (disk .limits) (disk .parents) ws fq rl ads ss (st .memory .used)
       claim-asked = claim-ready z again (kept-again .fits) (kept-again .rules)
 
-      pub brought-by-claim : {gs : List Frame} {b : Answer} {fq′ rl′ ss′ us′ : List ℕ} → Said z (stateOf (core .frames) noPool [] [] (disk .accounts) [] (disk .limits) (disk .parents) ws fq rl ads ss [] [] [] [] [] (st .memory .used)) gs b fq′ rl′ ss′ us′
+      pub brought-by-claim : {gs : List Frame} {b : Answer} {fq′ rl′ ss′ us′ : List ℕ} → Said z (seenClaim fs (disk .accounts) (disk .limits) (disk .parents) ws fq rl ads ss (st .memory .used)) gs b fq′ rl′ ss′ us′
           → leaves (record { refusal = b .refusal; result = 0 }) (after (st .memory .line) gs (held .pool) ws fq′ rl′ ads ss′ os fm us′) ≡ own z st (Event.Waiting Turn)
       brought-by-claim d = claimed-own z st w away faulted h _ (claim-own z again kept-again d ∙ ap (λ (x : State). own z x claim) same)

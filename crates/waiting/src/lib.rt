@@ -1,16 +1,15 @@
 // The events of the waiting line, over all tables: joining it, and a turn, which treats the first request.
 ghost use mathlib.Core.Path.{_≡_};
-ghost use lib.ListN.{take};
 ghost use Rattle.model.specs.declared.event.Event.the-variants as Event;
 ghost use Rattle.model.specs.Lent.{allGiven, allEntered, allLeft};
 ghost use Rattle.model.specs.Own.{own, leaves};
 ghost use Rattle.model.specs.Pool.{taken, deposited};
+ghost use Rattle.leaves.specs.Packed.{framesGiven, framesEntered, framesLeft};
 ghost use Rattle.dispatch.specs.Kept.{Kept};
 use crate::join::join;
 use crate::turn::turn;
-use model::applied::Applied;
+use model::applied::Worked;
 use model::event::Waiting;
-use model::frame::Frame;
 use model::frame::Pool;
 use model::sizes::Sizes;
 
@@ -21,7 +20,7 @@ pub mod turn; // the first request is treated
 pub fn waiting_event(
     sizes: Sizes,
     event: Waiting,
-    frames: [Frame; 64],
+    frames: &mut [u64],
     pool: Pool,
     records: &[u32],
     numbers: &[u32],
@@ -41,23 +40,22 @@ pub fn waiting_event(
     images: &[u16],
     line: &mut [u16],
     used: &mut [u16],
-) -> Applied
+) -> Worked
     requires { ⌜ Kept sizes
-        (allGiven (take (sizes .frames) frames) pool records numbers accounts maps limits parents
+        (allGiven (framesGiven sizes frames) pool records numbers accounts maps limits parents
         «frame_words» «free_queue» «removal_list» addresses states owners «free_map» active updating images line used) ⌝ }
     ensures { λ r. ⌜ leaves (r .answer)
-        (allLeft (take (sizes .frames) (r .frames)) (deposited (r .deposited) (taken sizes (r .taken) pool)) records numbers accounts maps limits parents
+        (allLeft (framesLeft sizes frames) (deposited (r .deposited) (taken sizes (r .taken) pool)) records numbers accounts maps limits parents
         «frame_words» «free_queue» «removal_list» addresses states owners «free_map» active updating images line used)
         ≡ own sizes
-        (allEntered (take (sizes .frames) frames) pool records numbers accounts maps limits parents
+        (allEntered (framesEntered sizes frames) pool records numbers accounts maps limits parents
         «frame_words» «free_queue» «removal_list» addresses states owners «free_map» active updating images line used)
         (Event.Waiting event) ⌝ }
 {
     match event {
         Waiting::Join { slot, page } => {
             let answer = join(sizes, slot, page, line);
-            Applied {
-                frames,
+            Worked {
                 taken: 0,
                 deposited: 0,
                 answer,

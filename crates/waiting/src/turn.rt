@@ -2,7 +2,7 @@
 ghost use mathlib.Core.Path.{_≡_};
 ghost use Prim.Native.Nat.{ℕ, _<_};
 ghost use lib.Dec.{eqb};
-ghost use lib.ListN.{length, take};
+ghost use lib.ListN.{length};
 ghost use Rattle.tables.specs.Base.{if};
 ghost use Rattle.tables.specs.Queue.{queueOf, size, first, pop, push-back};
 ghost use Rattle.tables.specs.Rule.{Holds};
@@ -13,15 +13,15 @@ ghost use Rattle.model.specs.Lent.{allGiven, allEntered, allLeft};
 ghost use Rattle.model.specs.Own.{own, leaves};
 ghost use Rattle.model.specs.Pool.{taken, deposited};
 ghost use Rattle.leaves.specs.FrameLaws.{frameIn};
+ghost use Rattle.leaves.specs.Packed.{unpacked, framesGiven, framesEntered, framesLeft};
 ghost use Rattle.dispatch.specs.Kept.{Kept};
 use leaves::cells::at16;
-use leaves::frames::frame_at;
-use leaves::frames::frame_of;
+use leaves::packed::frame_at;
+use leaves::packed::frame_of;
 use leaves::queue::first;
 use leaves::queue::pop;
 use leaves::queue::rotate;
-use model::applied::Applied;
-use model::applied::Framed;
+use model::applied::Worked;
 use model::event::Answer;
 use model::frame::Frame;
 use model::frame::NONE;
@@ -46,19 +46,17 @@ fn meet(frame: Frame, line: &mut [u16]) -> u32
 }
 
 // Whatever the fault said but 20: accepted, the request stays first; any number sends it away and is the result.
-fn settle(done: Applied, waiting: &mut [u16]) -> Applied
+fn settle(done: Worked, waiting: &mut [u16]) -> Worked
     requires { ⌜ ((m : ℕ) × Holds (queueOf (length (now waiting)) m (now waiting))) ⌝ }
-    ensures done { λ r. ⌜ r ≡ record { frames = done .frames; taken = done .taken; deposited = done .deposited; answer = record { refusal = 0; result = done .answer .refusal } } ⌝ }
+    ensures done { λ r. ⌜ r ≡ record { taken = done .taken; deposited = done .deposited; answer = record { refusal = 0; result = done .answer .refusal } } ⌝ }
     ensures waiting { λ r. ⌜ now (waiting .exit) ≡ if (eqb (done .answer .refusal) 0) (now (waiting .entry)) (pop (now (waiting .entry))) ⌝ }
 {
-    let frames = done.frames;
     let answer = done.answer;
     let no = answer.refusal;
     if no != 0 {
         pop(waiting);
     }
-    Applied {
-        frames,
+    Worked {
         taken: done.taken,
         deposited: done.deposited,
         answer: Answer {
@@ -69,13 +67,10 @@ fn settle(done: Applied, waiting: &mut [u16]) -> Applied
 }
 
 // A refused claim refuses the turn; the looks of another are not handed on.
-fn claimed(done: Framed) -> Applied
-    ensures { λ r. ⌜ r ≡ record { frames = done .frames; taken = 0; deposited = 0; answer = record { refusal = done .answer .refusal; result = 0 } } ⌝ }
+fn claimed(answer: Answer) -> Worked
+    ensures { λ r. ⌜ r ≡ record { taken = 0; deposited = 0; answer = record { refusal = answer .refusal; result = 0 } } ⌝ }
 {
-    let frames = done.frames;
-    let answer = done.answer;
-    Applied {
-        frames,
+    Worked {
         taken: 0,
         deposited: 0,
         answer: Answer {
@@ -85,12 +80,11 @@ fn claimed(done: Framed) -> Applied
     }
 }
 
-// A turn that leaves frames and pool as they were.
-fn told(frames: [Frame; 64], result: u32) -> Applied
-    ensures { λ r. ⌜ r ≡ record { frames = frames; taken = 0; deposited = 0; answer = record { refusal = 0; result = result } } ⌝ }
+// A turn that leaves the pool as it was.
+fn told(result: u32) -> Worked
+    ensures { λ r. ⌜ r ≡ record { taken = 0; deposited = 0; answer = record { refusal = 0; result = result } } ⌝ }
 {
-    Applied {
-        frames,
+    Worked {
         taken: 0,
         deposited: 0,
         answer: Answer { refusal: 0, result },
@@ -101,7 +95,7 @@ fn told(frames: [Frame; 64], result: u32) -> Applied
 fn fetch(
     sizes: Sizes,
     i: usize,
-    frames: [Frame; 64],
+    frames: &mut [u64],
     pool: Pool,
     records: &[u32],
     numbers: &[u32],
@@ -121,16 +115,16 @@ fn fetch(
     images: &[u16],
     line: &mut [u16],
     used: &mut [u16],
-) -> Applied
+) -> Worked
     requires { ⌜ Kept sizes
-        (allGiven (take (sizes .frames) frames) pool records numbers accounts maps limits parents
+        (allGiven (framesGiven sizes frames) pool records numbers accounts maps limits parents
         «frame_words» «free_queue» «removal_list» addresses states owners «free_map» active updating images line used)
-        × (0 < size (now line)) × (i ≡ first (now line)) × ¬ (frameIn (sizes .frames) frames i < sizes .frames) ⌝ }
+        × (0 < size (now line)) × (i ≡ first (now line)) × ¬ (frameIn (sizes .frames) (unpacked (now frames)) i < sizes .frames) ⌝ }
     ensures { λ r. ⌜ leaves (r .answer)
-        (allLeft (take (sizes .frames) (r .frames)) (deposited (r .deposited) (taken sizes (r .taken) pool)) records numbers accounts maps limits parents
+        (allLeft (framesLeft sizes frames) (deposited (r .deposited) (taken sizes (r .taken) pool)) records numbers accounts maps limits parents
         «frame_words» «free_queue» «removal_list» addresses states owners «free_map» active updating images line used)
         ≡ own sizes
-        (allEntered (take (sizes .frames) frames) pool records numbers accounts maps limits parents
+        (allEntered (framesEntered sizes frames) pool records numbers accounts maps limits parents
         «frame_words» «free_queue» «removal_list» addresses states owners «free_map» active updating images line used)
         (Event.Waiting Waiting.Turn) ⌝ }
 {
@@ -172,7 +166,7 @@ fn fetch(
 // With nobody waiting nothing changes.
 pub fn turn(
     sizes: Sizes,
-    frames: [Frame; 64],
+    frames: &mut [u64],
     pool: Pool,
     records: &[u32],
     numbers: &[u32],
@@ -192,26 +186,26 @@ pub fn turn(
     images: &[u16],
     line: &mut [u16],
     used: &mut [u16],
-) -> Applied
+) -> Worked
     requires { ⌜ Kept sizes
-        (allGiven (take (sizes .frames) frames) pool records numbers accounts maps limits parents
+        (allGiven (framesGiven sizes frames) pool records numbers accounts maps limits parents
         «frame_words» «free_queue» «removal_list» addresses states owners «free_map» active updating images line used) ⌝ }
     ensures { λ r. ⌜ leaves (r .answer)
-        (allLeft (take (sizes .frames) (r .frames)) (deposited (r .deposited) (taken sizes (r .taken) pool)) records numbers accounts maps limits parents
+        (allLeft (framesLeft sizes frames) (deposited (r .deposited) (taken sizes (r .taken) pool)) records numbers accounts maps limits parents
         «frame_words» «free_queue» «removal_list» addresses states owners «free_map» active updating images line used)
         ≡ own sizes
-        (allEntered (take (sizes .frames) frames) pool records numbers accounts maps limits parents
+        (allEntered (framesEntered sizes frames) pool records numbers accounts maps limits parents
         «frame_words» «free_queue» «removal_list» addresses states owners «free_map» active updating images line used)
         (Event.Waiting Waiting.Turn) ⌝ }
 {
     if at16(line, 0) == 0 {
-        return told(frames, 0);
+        return told(0);
     }
     let i = first(line);
     let f = frame_of(frames, sizes.frames, i);
     if f < sizes.frames {
         let result = meet(frame_at(frames, f), line);
-        return told(frames, result);
+        return told(result);
     }
     fetch(
         sizes,

@@ -1,6 +1,5 @@
 -- The table of the frames of one slot's pages: one pass over the frames, and what its entries say.
-use mathlib.Core.Path.{_≡_, sym, _∙_}
-use mathlib.Core.Bool.{Bool, true}
+use mathlib.Core.Path.{_≡_, ap, sym, _∙_}
 use mathlib.Core.Logic.{inl, inr}
 use mathlib.Core.List.{List}
 use Prim.Native.Nat.{ℕ, suc, _+_, _-_, _*_, _<_, _≤_}
@@ -12,24 +11,23 @@ use Rattle.tables.specs.Base.{at}
 use Rattle.tables.specs.Rule.{Holds, same, each, test, alike}
 use Rattle.model.specs.declared.frame.Frame.{Frame}
 use Rattle.model.specs.State.{frameAt}
-use Rattle.model.specs.Woven.{woven-is, is-woven}
-use Rattle.writeback.specs.ByPage.{pageIn, ByPage, chargedEntry}
+use Rattle.writeback.specs.ByPage.{ByPage, chargedEntry}
 use Rattle.writeback.specs.Pages.{charged}
 
-module _ (only : Bool) (pages s : ℕ) (fs : List Frame) where
+module _ (pages s : ℕ) (fs : List Frame) where
   abbrev pageAt : ℕ → ℕ
-  pageAt f = pageIn only (frameAt fs f)
+  pageAt f = frameAt fs f .page
 
-  pub begun : (table : List ℕ) → length table ≡ 256 → Holds (each 256 λ p. same (at table p) 0) → pages < 257 → ByPage only 0 pages s fs table
+  pub begun : (table : List ℕ) → length table ≡ 256 → Holds (each 256 λ p. same (at table p) 0) → pages < 257 → ByPage 0 pages s fs table
   begun table l z most = record {
     long = l;
     in-one = λ p f b e. absurd (omega (arith, e, z p (omega arith)));
     in-none = λ p b e h. omega (arith, h .1);
   }
 
-  module _ {table : List ℕ} (f : ℕ) (t : ByPage only f pages s fs table) where
+  module _ {table : List ℕ} (f : ℕ) (t : ByPage f pages s fs table) where
     -- frame f has another page, or none
-    pub passed : ((s * pages < pageAt f) → (pageAt f ≤ s * pages + pages) → ⊥) → {table' : List ℕ} → table' ≡ table → ByPage only (f + 1) pages s fs table'
+    pub passed : ((s * pages < pageAt f) → (pageAt f ≤ s * pages + pages) → ⊥) → {table' : List ℕ} → table' ≡ table → ByPage (f + 1) pages s fs table'
     passed d e = rw e (record {
       long = t .long;
       in-one = λ p g b q. let x = t .in-one p g b q in (omega (arith, x .0), x .1);
@@ -47,7 +45,7 @@ module _ (only : Bool) (pages s : ℕ) (fs : List Frame) where
       here = getD-set-same table j (f + 1) 0 (omega (arith, t .long))
 
       -- frame f has one of the pages
-      pub stored : {table' : List ℕ} → table' ≡ set table j (f + 1) → ByPage only (f + 1) pages s fs table'
+      pub stored : {table' : List ℕ} → table' ≡ set table j (f + 1) → ByPage (f + 1) pages s fs table'
       stored e = rw e (record {
         long = length-set table j (f + 1) ∙ t .long;
         in-one = λ p g b q. elim (ℕ-discrete p j) [
@@ -63,9 +61,16 @@ module _ (only : Bool) (pages s : ℕ) (fs : List Frame) where
         ];
       })
 
--- an entry says whether its page is charged
-pub charged-entry : (pages s : ℕ) (fs : List Frame) {n : ℕ} {table : List ℕ} → ByPage true n pages s fs table → (addresses states : List ℕ) (p : ℕ) → p < pages
-    → test (chargedEntry (at table p) addresses states (s * pages + p)) ≡ test (charged n fs addresses states (s * pages + p))
-charged-entry pages s fs {n = n} {table = table} t addresses states p b = alike (chargedEntry (at table p) addresses states (s * pages + p)) (charged n fs addresses states (s * pages + p))
-    (λ h. elim h [ inl l ↦ inl l | inr d ↦ let x = t .in-one p (at table p - 1) b (omega (arith, d)) in inr (at table p - 1, x .0, woven-is (frameAt fs (at table p - 1)) (s * pages + p) (x .1)) ])
-    (λ h. elim h [ inl l ↦ inl l | inr x ↦ inr (λ e. t .in-none p b e (x .0, x .1, is-woven (frameAt fs (x .0)) (s * pages + p) (x .2 .0) (x .2 .1))) ])
+-- an entry says whether its page is charged, where no page is in two frames
+pub charged-entry : (pages s : ℕ) (fs : List Frame) {n : ℕ} {table : List ℕ} → ByPage n pages s fs table
+    → ((f g : ℕ) → f < n → g < n → 0 < frameAt fs f .page → frameAt fs g .page ≡ frameAt fs f .page → f ≡ g) → (addresses states : List ℕ) (p : ℕ) → p < pages
+    → test (chargedEntry (at table p) fs addresses states (s * pages + p)) ≡ test (charged n fs addresses states (s * pages + p))
+charged-entry pages s fs {n = n} {table = table} t seated addresses states p b = alike (chargedEntry (at table p) fs addresses states (s * pages + p)) (charged n fs addresses states (s * pages + p))
+    (λ h. elim h [ inl l ↦ inl l | inr d ↦ let x = t .in-one p (at table p - 1) b (omega (arith, d .0)) in inr (at table p - 1, x .0, (x .1, d .1)) ])
+    (λ h. elim h [
+      | inl l ↦ inl l
+      | inr x ↦ let d : ¬ (at table p ≡ 0) = λ e. t .in-none p b e (x .0, x .1, x .2 .0) in
+          let y = t .in-one p (at table p - 1) b (omega (arith, d)) in
+          let q = seated (x .0) (at table p - 1) (x .1) (y .0) (omega (arith, x .2 .0)) (y .1 ∙ sym (x .2 .0)) in
+          inr (d, ap (λ (f : ℕ). frameAt fs f .modified) (sym q) ∙ x .2 .1)
+    ])

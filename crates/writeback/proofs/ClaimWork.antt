@@ -1,5 +1,5 @@
 -- Claim: each of the code's ways out leaves what the definition says.
-use mathlib.Core.Path.{_≡_, refl, ap, sym, _∙_, subst}
+use mathlib.Core.Path.{_≡_, refl, ap, sym, _∙_}
 use mathlib.Core.Bool.{Bool, true, false, not}
 use mathlib.Core.List.{List}
 use mathlib.Core.Logic.{_⊎_}
@@ -17,7 +17,6 @@ use Rattle.tables.specs.Questions.{firstNo, yes-all}
 use Rattle.tables.specs.Rule.{Holds}
 use Rattle.model.specs.declared.sizes.Sizes.{Sizes}
 use Rattle.model.specs.declared.frame.Frame.{Frame}
-use Rattle.model.specs.declared.applied.Framed.{Framed}
 use Rattle.model.specs.declared.event.Answer.{Answer}
 use Rattle.model.specs.Lines.{NULLED, LIVE}
 use Rattle.model.specs.State.{State, WRITING, frameAt, noFrame, payer}
@@ -34,8 +33,7 @@ use Rattle.leaves.specs.Payers.{whoPays}
 use Rattle.writeback.specs.Claim.{payerOf, usedThen, usedLeft, LooksEnded}
 use Rattle.writeback.specs.Needs.{Queues, Listed, Claimable}
 use Rattle.writeback.specs.Seen.{claim, seenClaim}
-use Rattle.writeback.proofs.DoneWork.{answered}
-use Rattle.writeback.proofs.Looks.{cut, look-take, taken-in}
+use Rattle.writeback.proofs.Looks.{Like, cut, look-take, look-like, taken-in}
 use Rattle.tables.specs.StoreLoops.{part-fits}
 
 -- what the contract says of the answer, the frames, both queues, the states and the used counts
@@ -46,24 +44,25 @@ Said z st fs a fq rl ss us =
     × ((rl ≡ o .left .memory .core .removal-list) × ((ss ≡ o .left .memory .held .states) × (us ≡ usedLeft z st)))))
 
 -- the frame that the looks end at, as the calls after them ask it
-pub record Taken (z : Sizes) (fs : List Frame) (ac ls ps ws fq ads ss us : List ℕ) (f : ℕ) : Type 0 where
+pub record Taken (z : Sizes) (g : Frame) (ac ls ps ws fq ads ss us : List ℕ) (f : ℕ) : Type 0 where
   pub words-fit : f * z .words + z .words ≤ length ws
   pub room : (f < 65535) × ((m : ℕ) × Holds (queueOf (length fq) m fq)) × (size fq < length fq)
-  pub pays : frameAt fs f .modified ≡ 1 → 0 < at us (whoPays ac ls ps (pred (frameAt fs f .page) / z .pages))
-  pub moves : (r : ℕ) → r ≡ pred (at ads (pred (frameAt fs f .page))) → (at ss r ≡ NULLED) ⊎ (at ss r ≡ LIVE)
+  pub pays : g .modified ≡ 1 → 0 < at us (whoPays ac ls ps (pred (g .page) / z .pages))
+  pub moves : (r : ℕ) → r ≡ pred (at ads (pred (g .page))) → (at ss r ≡ NULLED) ⊎ (at ss r ≡ LIVE)
 
 module _ (z : Sizes) (fs : List Frame) (ac ls ps ws fq rl ads ss us : List ℕ) where
   abbrev st : State
   st = seenClaim (take (z .frames) fs) ac ls ps ws fq rl ads ss us
 
-  abbrev Left : Framed → List ℕ → List ℕ → List ℕ → List ℕ → Type 0
-  Left x fq' rl' ss' us' = Said z st (take (z .frames) (x .frames)) (x .answer) fq' rl' ss' us'
+  -- the answer with so many looks, and the tables left
+  abbrev Left : ℕ → List Frame → List ℕ → List ℕ → List ℕ → List ℕ → Type 0
+  Left n fs' fq' rl' ss' us' = Said z st (take (z .frames) fs') (record { refusal = 0; result = n }) fq' rl' ss' us'
 
-  pub refused : {e : ℕ} → e ≡ at rl 0 → e ≡ 0 → {x : Framed} → x ≡ answered fs 21 0 → Left x fq rl ss us
-  refused a b {x} y = (
-    ap (λ (v : Framed). v .answer) y ∙ sym (ap (λ (o : Outcome State). o .answer) no),
+  pub refused : {e : ℕ} → e ≡ at rl 0 → e ≡ 0 → Said z st (take (z .frames) fs) (record { refusal = 21; result = 0 }) fq rl ss us
+  refused a b = (
+    sym (ap (λ (o : Outcome State). o .answer) no),
     (
-      ap (λ (v : Framed). take (z .frames) (v .frames)) y ∙ sym (ap (λ (o : Outcome State). o .left .memory .core .frames) no),
+      sym (ap (λ (o : Outcome State). o .left .memory .core .frames) no),
       (
         sym (ap (λ (o : Outcome State). o .left .memory .core .free-queue) no),
         (
@@ -90,7 +89,8 @@ module _ (z : Sizes) (fs : List Frame) (ac ls ps ws fq rl ads ss us : List ℕ) 
     says : firstNo (questions z st claim) ≡ 0
     says = yes-all (questions z st claim) (some, tt)
 
-    module _ (ready : Queues (z .frames) fq rl × Claimable z (take (z .frames) fs) ac ls ps ws fq rl ads ss us) {kept : List Frame} {looks f : ℕ} {list : List ℕ} (t : LooksEnded fs rl kept looks list) (here : f ≡ first list) where
+    module _ (ready : Queues (z .frames) fq rl × Claimable z (take (z .frames) fs) ac ls ps ws fq rl ads ss us) {kept : List Frame} {looks f : ℕ} {list : List ℕ} {g : Frame}
+        (t : LooksEnded fs rl kept looks list) (here : f ≡ first list) (seen : g ≡ frameAt kept f) where
       looked-is : looking z st ≡ cut (z .frames) (look (suc (size rl)) 0 fs (members rl))
       unfolding looking
       looked-is = ap (λ (n : ℕ). look (suc n) 0 (take (z .frames) fs) (members rl)) (sym (size-members rl)) ∙ look-take (z .frames) (suc (size rl)) 0 fs (members rl) (members-within rl (ready .0 .list-long) (ready .0 .list-packed))
@@ -113,23 +113,30 @@ module _ (z : Sizes) (fs : List Frame) (ac ls ps ws fq rl ads ss us : List ℕ) 
       below : f < z .frames
       below = members-within rl (ready .0 .list-long) (ready .0 .list-packed) f in-list
 
-      abbrev old : Frame
-      old = frameAt fs f
+      -- the looks leave it its page and its modified switch
+      alike : Like (frameAt kept f) (frameAt fs f)
+      alike = rw (t .the-frames) (look-like (suc (size rl)) 0 fs (members rl) f)
 
-      same-frame : frameAt (take (z .frames) fs) f ≡ old
+      same-frame : frameAt (take (z .frames) fs) f ≡ frameAt fs f
       same-frame = frame-take (z .frames) fs f below
 
-      held : Listed z (old .page) (old .modified) ac ls ps fq ads ss us
-      held = subst (λ (g : Frame). Listed z (g .page) (g .modified) ac ls ps fq ads ss us) same-frame (ready .1 .listed f below in-list)
+      same-page : frameAt (take (z .frames) fs) f .page ≡ g .page
+      same-page = ap (λ (x : Frame). x .page) same-frame ∙ sym (alike .0) ∙ ap (λ (x : Frame). x .page) (sym seen)
 
-      module _ {r : ℕ} (found : r ≡ pred (at ads (pred (old .page)))) where
+      same-modified : frameAt (take (z .frames) fs) f .modified ≡ g .modified
+      same-modified = ap (λ (x : Frame). x .modified) same-frame ∙ sym (alike .1) ∙ ap (λ (x : Frame). x .modified) (sym seen)
+
+      held : Listed z (g .page) (g .modified) ac ls ps fq ads ss us
+      held = rw (← same-page, ← same-modified) (ready .1 .listed f below in-list)
+
+      module _ {r : ℕ} (found : r ≡ pred (at ads (pred (g .page)))) where
         item-is : r ≡ held .item
         item-is = found ∙ ap pred (held .holds)
 
         record-is : recordIn z st (looking z st .taken) ≡ r
-        record-is = rw (taken-is, same-frame) (sym found)
+        record-is = rw (taken-is, same-page) (sym found)
 
-      pub taken : Taken z fs ac ls ps ws fq ads ss us f
+      pub taken : Taken z g ac ls ps ws fq ads ss us f
       taken = record {
         words-fit = rw (ready .1 .words-long) (part-fits (z .frames) (z .words) f below);
         room = (omega (arith, below, ready .1 .frames-most), (z .frames, rw (ready .0 .free-long) (ready .0 .free-packed)), omega (arith, held .room, ready .0 .free-long));
@@ -138,28 +145,28 @@ module _ (z : Sizes) (fs : List Frame) (ac ls ps ws fq rl ads ss us : List ℕ) 
       }
 
       -- ── a write begins, or not ──
-      module _ {b : Bool} (w : b ≡ if (eqb (old .modified) 1) (not (all (z .words) (λ k. eqb (at ws (f * z .words + k)) 0))) false) where
+      module _ {b : Bool} (w : b ≡ if (eqb (g .modified) 1) (not (all (z .words) (λ k. eqb (at ws (f * z .words + k)) 0))) false) where
         begins : beginsWrite z st ≡ b
         unfolding beginsWrite zeros
-        begins = rw (taken-is, same-frame) (sym w)
+        begins = rw (taken-is, same-modified) (sym w)
 
         by-way : (st' : State) → carried z st claim ≡ counted z st' → own z st claim ≡ completed (looking z st .looks) (counted z st')
         unfolding result
         by-way st' c = sym (own-yes z st claim _ (sym says) refl) ∙ ap (completed (looking z st .looks)) c
 
         -- what every way leaves: the answer, the list and the used counts
-        the-answer : {st' : State} {x : Framed} {gs : List Frame} → own z st claim ≡ completed (looking z st .looks) st' → x ≡ answered gs 0 looks → x .answer ≡ own z st claim .answer
-        the-answer c y = ap (λ (v : Framed). v .answer) y ∙ ap (λ (n : ℕ). record { refusal = 0; result = n }) (sym looks-are) ∙ sym (ap (λ (o : Outcome State). o .answer) c)
+        the-answer : {st' : State} → own z st claim ≡ completed (looking z st .looks) st' → record { refusal = 0; result = looks } ≡ own z st claim .answer
+        the-answer c = ap (λ (n : ℕ). record { refusal = 0; result = n }) (sym looks-are) ∙ sym (ap (λ (o : Outcome State). o .answer) c)
 
         used-by : {us' : List ℕ} → us' ≡ usedThen z st → us' ≡ usedLeft z st
         used-by u = u ∙ sym (ap (λ (n : ℕ). outcome n 0 us (usedThen z st) .left) says)
 
-        pub write-begins : b ≡ true → {rl' : List ℕ} {g : Frame} {x : Framed} → rl' ≡ pop list → g ≡ frameAt kept f → x ≡ answered (set kept f (setTransfer WRITING g)) 0 looks → Left x fq rl' ss us
+        pub write-begins : b ≡ true → {rl' : List ℕ} {h : Frame} {fs' : List Frame} → rl' ≡ pop list → h ≡ setTransfer WRITING g → fs' ≡ set kept f h → Left looks fs' fq rl' ss us
         unfolding carried Writeback.claim counted usedThen
-        write-begins v {x = x} p q y = (
-          the-answer {x = x} way y,
+        write-begins v p q y = (
+          the-answer way,
           (
-            ap (λ (k : Framed). take (z .frames) (k .frames)) y ∙ take-frame (z .frames) kept f _ ∙ ap (λ (k : Frame). set (take (z .frames) kept) f (setTransfer WRITING k)) (q ∙ sym (frame-take (z .frames) kept f below)) ∙ rw (← frames-are, ← taken-is) (sym (ap (λ (o : Outcome State). o .left .memory .core .frames) way)),
+            ap (take (z .frames)) y ∙ take-frame (z .frames) kept f _ ∙ ap (set (take (z .frames) kept) f) (q ∙ ap (setTransfer WRITING) (seen ∙ sym (frame-take (z .frames) kept f below))) ∙ rw (← frames-are, ← taken-is) (sym (ap (λ (o : Outcome State). o .left .memory .core .frames) way)),
             (
               sym (ap (λ (o : Outcome State). o .left .memory .core .free-queue) way),
               (
@@ -176,51 +183,51 @@ module _ (z : Sizes) (fs : List Frame) (ac ls ps ws fq rl ads ss us : List ℕ) 
             way : own z st claim ≡ completed (looking z st .looks) (counted z (onCore (λ c. onFrame (looking z st .taken) (setTransfer WRITING) c) (looked z st)))
             way = by-way (onCore (λ c. onFrame (looking z st .taken) (setTransfer WRITING) c) (looked z st)) (rw (begins ∙ v))
 
-        module _ (v : b ≡ false) {r : ℕ} (found : r ≡ pred (at ads (pred (old .page)))) where
-          mod-is : frameAt (take (z .frames) fs) (looking z st .taken) .modified ≡ old .modified
-          mod-is = rw (taken-is, same-frame)
+        module _ (v : b ≡ false) {r i : ℕ} (found : r ≡ pred (at ads (pred (g .page)))) (named : i ≡ pred (g .page)) where
+          mod-is : frameAt (take (z .frames) fs) (looking z st .taken) .modified ≡ g .modified
+          mod-is = rw taken-is same-modified
 
           abbrev payer-at : ℕ
-          payer-at = whoPays ac ls ps (pred (old .page) / z .pages)
+          payer-at = whoPays ac ls ps (i / z .pages)
 
           abbrev less : List ℕ
           less = set us payer-at (at us payer-at - 1)
 
           payer-is : payerOf z st (looking z st .taken) ≡ payer-at
           unfolding payer
-          payer-is = rw (taken-is, same-frame)
+          payer-is = rw (taken-is, same-page, named)
 
           -- the used counts, by whether the frame was modified
-          used-nulled : old .modified ≡ 1 → less ≡ usedThen z st
+          used-nulled : g .modified ≡ 1 → less ≡ usedThen z st
           unfolding usedThen
           used-nulled m = rw (begins ∙ v, eq-eqb _ _ (mod-is ∙ m), payer-is)
 
-          used-kept : ¬ (old .modified ≡ 1) → us ≡ usedThen z st
+          used-kept : ¬ (g .modified ≡ 1) → us ≡ usedThen z st
           unfolding usedThen
           used-kept m = rw (begins ∙ v, ne-eqb _ _ (λ h. m (sym mod-is ∙ h)))
 
-          freed-frames : {x : Framed} → x ≡ answered (set kept f noFrame) 0 looks → take (z .frames) (x .frames) ≡ set (looking z st .frames) (looking z st .taken) noFrame
-          freed-frames y = ap (λ (k : Framed). take (z .frames) (k .frames)) y ∙ take-frame (z .frames) kept f noFrame ∙ rw (frames-are, taken-is)
+          freed-frames : {h : Frame} {fs' : List Frame} → h ≡ noFrame → fs' ≡ set kept f h → take (z .frames) fs' ≡ set (looking z st .frames) (looking z st .taken) noFrame
+          freed-frames n y = ap (take (z .frames)) (y ∙ ap (set kept f) n) ∙ take-frame (z .frames) kept f noFrame ∙ rw (frames-are, taken-is)
 
           abbrev nulledSt : State
           nulledSt = onHeld (λ h. setStates (set (h .states) (recordIn z st (looking z st .taken)) NULLED) h) (looked z st)
 
-          way-nulled : old .modified ≡ 1 → own z st claim ≡ completed (looking z st .looks) (counted z (freeFrame (looking z st .taken) nulledSt))
+          way-nulled : g .modified ≡ 1 → own z st claim ≡ completed (looking z st .looks) (counted z (freeFrame (looking z st .taken) nulledSt))
           unfolding carried Writeback.claim
           way-nulled m = by-way (freeFrame (looking z st .taken) nulledSt) (rw (begins ∙ v, eq-eqb _ _ (mod-is ∙ m)))
 
-          way-kept : ¬ (old .modified ≡ 1) → own z st claim ≡ completed (looking z st .looks) (counted z (freeFrame (looking z st .taken) (looked z st)))
+          way-kept : ¬ (g .modified ≡ 1) → own z st claim ≡ completed (looking z st .looks) (counted z (freeFrame (looking z st .taken) (looked z st)))
           unfolding carried Writeback.claim
           way-kept m = by-way (freeFrame (looking z st .taken) (looked z st)) (rw (begins ∙ v, ne-eqb _ _ (λ h. m (sym mod-is ∙ h))))
 
-          module _ {fq' rl' ss' us' : List ℕ} {x : Framed} (p : rl' ≡ pop list) (q : fq' ≡ push-back fq f)
-              (u : us' ≡ if (eqb (old .modified) 1) less us) (y : x ≡ answered (set kept f noFrame) 0 looks) where
-            free-nulled : old .modified ≡ 1 → ss' ≡ set ss r NULLED → Left x fq' rl' ss' us'
+          module _ {h : Frame} {fs' : List Frame} {fq' rl' ss' us' : List ℕ} (p : rl' ≡ pop list) (q : fq' ≡ push-back fq f)
+              (u : us' ≡ if (eqb (g .modified) 1) less us) (n : h ≡ noFrame) (y : fs' ≡ set kept f h) where
+            free-nulled : g .modified ≡ 1 → ss' ≡ set ss r NULLED → Left looks fs' fq' rl' ss' us'
             unfolding counted freeFrame
             free-nulled m s = (
-              the-answer {x = x} (way-nulled m) y,
+              the-answer (way-nulled m),
               (
-                freed-frames y ∙ sym (ap (λ (o : Outcome State). o .left .memory .core .frames) (way-nulled m)),
+                freed-frames n y ∙ sym (ap (λ (o : Outcome State). o .left .memory .core .frames) (way-nulled m)),
                 (
                   q ∙ ap (push-back fq) (sym taken-is) ∙ sym (ap (λ (o : Outcome State). o .left .memory .core .free-queue) (way-nulled m)),
                   (
@@ -234,12 +241,12 @@ module _ (z : Sizes) (fs : List Frame) (ac ls ps ws fq rl ads ss us : List ℕ) 
               ),
             )
 
-            free-kept : ¬ (old .modified ≡ 1) → ss' ≡ ss → Left x fq' rl' ss' us'
+            free-kept : ¬ (g .modified ≡ 1) → ss' ≡ ss → Left looks fs' fq' rl' ss' us'
             unfolding counted freeFrame
             free-kept m s = (
-              the-answer {x = x} (way-kept m) y,
+              the-answer (way-kept m),
               (
-                freed-frames y ∙ sym (ap (λ (o : Outcome State). o .left .memory .core .frames) (way-kept m)),
+                freed-frames n y ∙ sym (ap (λ (o : Outcome State). o .left .memory .core .frames) (way-kept m)),
                 (
                   q ∙ ap (push-back fq) (sym taken-is) ∙ sym (ap (λ (o : Outcome State). o .left .memory .core .free-queue) (way-kept m)),
                   (
@@ -253,8 +260,8 @@ module _ (z : Sizes) (fs : List Frame) (ac ls ps ws fq rl ads ss us : List ℕ) 
               ),
             )
 
-            pub freed : ss' ≡ if (eqb (old .modified) 1) (set ss r NULLED) ss → Left x fq' rl' ss' us'
-            freed s = elim (ℕ-discrete (old .modified) 1) [
+            pub freed : ss' ≡ if (eqb (g .modified) 1) (set ss r NULLED) ss → Left looks fs' fq' rl' ss' us'
+            freed s = elim (ℕ-discrete (g .modified) 1) [
               | yes m ↦ free-nulled m (s ∙ rw (eq-eqb _ _ m))
               | no m ↦ free-kept m (s ∙ rw (ne-eqb _ _ m))
             ]

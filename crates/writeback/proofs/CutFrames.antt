@@ -1,6 +1,6 @@
 -- Truncate's pass over the pages: the frames freed so far, in page order, and what is left of the removal list.
 use mathlib.Core.Path.{_≡_, refl, ap, sym, _∙_}
-use mathlib.Core.Bool.{Bool, false, _&&_, _||_}
+use mathlib.Core.Bool.{Bool, _&&_, _||_}
 use mathlib.Core.List.{List, [], _∷_, _++_, map, map-append, append-nil}
 use mathlib.Core.Logic.{inl, inr}
 use Prim.Native.Nat.{ℕ, suc, _+_, _-_, _*_, _<_, _≤_}
@@ -186,7 +186,7 @@ module _ (n pages s k : ℕ) (fs : List Frame) (fq rl : List ℕ) (ready : Cutti
     }
 
 -- a page's frame by the table of the slot's frames
-module _ (n pages s k : ℕ) (fs : List Frame) (fq rl : List ℕ) (ready : Cutting n pages s k fs fq rl) {table : List ℕ} (t : ByPage false n pages s fs table) (p : ℕ) (b : p < pages) {e : ℕ} (q : e ≡ at table p) where
+module _ (n pages s k : ℕ) (fs : List Frame) (fq rl : List ℕ) (ready : Cutting n pages s k fs fq rl) {table : List ℕ} (t : ByPage n pages s fs table) (p : ℕ) (b : p < pages) {e : ℕ} (q : e ≡ at table p) where
   module _ (d : ¬ (e ≡ 0)) where
     pub in-entry : Holds (some n λ f. same (frameAt fs f .page) (suc (s * pages + p)))
     in-entry = let x = t .in-one p (e - 1) b (omega (arith, q, d)) in (e - 1, x .0, x .1)

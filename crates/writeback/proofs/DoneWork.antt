@@ -13,7 +13,6 @@ use Rattle.tables.specs.Rule.{Holds, same}
 use Rattle.tables.specs.Store.{store}
 use Rattle.model.specs.declared.sizes.Sizes.{Sizes}
 use Rattle.model.specs.declared.frame.Frame.{Frame}
-use Rattle.model.specs.declared.applied.Framed.{Framed}
 use Rattle.model.specs.declared.event.Answer.{Answer}
 use Rattle.model.specs.Lines.{NULLED, LIVE}
 use Rattle.model.specs.State.{State, NONE, READING, frameAt, noFrame}
@@ -29,8 +28,9 @@ use Rattle.writeback.specs.Seen.{pageDone, seenPageDone}
 use Rattle.leaves.specs.FrameLaws.{frame-take, take-frame}
 use Rattle.tables.specs.StoreLoops.{part-fits}
 
-abbrev pub answered : List Frame → ℕ → ℕ → Framed
-answered fs n m = record { frames = fs; answer = record { refusal = n; result = m } }
+-- an answer without a result
+abbrev pub answer : ℕ → Answer
+answer n = record { refusal = n; result = 0 }
 
 -- a frame whose write has failed
 abbrev pub unwritten : Frame → Frame
@@ -61,17 +61,16 @@ module _ (z : Sizes) (fs : List Frame) (rs ws fq rl ads ss : List ℕ) (f good :
   abbrev out : Outcome State
   out = own z st (pageDone f good)
 
-  abbrev Left : Framed → List ℕ → List ℕ → List ℕ → List ℕ → List ℕ → Type 0
-  Left x rs' ws' fq' rl' ss' = Said out (take (z .frames) (x .frames)) (x .answer) rs' ws' fq' rl' ss'
+  abbrev Left : Answer → List Frame → List ℕ → List ℕ → List ℕ → List ℕ → List ℕ → Type 0
+  Left a gs rs' ws' fq' rl' ss' = Said out (take (z .frames) gs) a rs' ws' fq' rl' ss'
 
   -- the outcome by another name
-  left-by : {p : Outcome State} (x : Framed) {rs' ws' fq' rl' ss' : List ℕ} → out ≡ p → Said p (take (z .frames) (x .frames)) (x .answer) rs' ws' fq' rl' ss' → Left x rs' ws' fq' rl' ss'
-  left-by x {rs' = rs'} {ws' = ws'} {fq' = fq'} {rl' = rl'} {ss' = ss'} e h = subst (λ (o : Outcome State). Said o (take (z .frames) (x .frames)) (x .answer) rs' ws' fq' rl' ss') (sym e) h
+  left-by : {p : Outcome State} (a : Answer) (gs : List Frame) {rs' ws' fq' rl' ss' : List ℕ} → out ≡ p → Said p (take (z .frames) gs) a rs' ws' fq' rl' ss' → Left a gs rs' ws' fq' rl' ss'
+  left-by a gs {rs' = rs'} {ws' = ws'} {fq' = fq'} {rl' = rl'} {ss' = ss'} e h = subst (λ (o : Outcome State). Said o (take (z .frames) gs) a rs' ws' fq' rl' ss') (sym e) h
 
   module _ {n : ℕ} (e : n ≡ firstNo (questions z st (pageDone f good))) where
-    pub refused : ¬ (n ≡ 0) → {x : Framed} → x ≡ answered fs n 0 → Left x rs ws fq rl ss
-    refused d {x} y = left-by x (sym (own-no z st (pageDone f good) _ e d))
-        (ap (λ (a : Framed). a .answer) y, (ap (λ (a : Framed). take (z .frames) (a .frames)) y, (refl, (refl, (refl, (refl, refl))))))
+    pub refused : ¬ (n ≡ 0) → Left (answer n) fs rs ws fq rl ss
+    refused d = left-by (answer n) fs (sym (own-no z st (pageDone f good) _ e d)) (refl, (refl, (refl, (refl, (refl, (refl, refl))))))
 
     module _ (yes : n ≡ 0) where
       asked : Asked (questions z st (pageDone f good))
@@ -108,8 +107,8 @@ module _ (z : Sizes) (fs : List Frame) (rs ws fq rl ads ss : List ℕ) (f good :
         }
 
       -- the frames with one stored anew, as the model has them
-      stored : (g h : Frame) → g ≡ h → {x : Framed} → x ≡ answered (set fs f g) 0 0 → take (z .frames) (x .frames) ≡ set (take (z .frames) fs) f h
-      stored g h a y = ap (λ (b : Framed). take (z .frames) (b .frames)) y ∙ take-frame (z .frames) fs f g ∙ ap (set (take (z .frames) fs) f) a
+      stored : (g h : Frame) → g ≡ h → {gs : List Frame} → gs ≡ set fs f g → take (z .frames) gs ≡ set (take (z .frames) fs) f h
+      stored g h a y = ap (take (z .frames)) y ∙ take-frame (z .frames) fs f g ∙ ap (set (take (z .frames) fs) f) a
 
       abbrev Way : State → Type 0
       Way st' = carried z st (pageDone f good) ≡ counted z st'
@@ -122,18 +121,18 @@ module _ (z : Sizes) (fs : List Frame) (rs ws fq rl ads ss : List ℕ) (f good :
         t : frameAt (take (z .frames) fs) f .transfer ≡ READING
         t = ap (λ (g : Frame). g .transfer) same-frame ∙ reads
 
-        pub read-good : good ≡ 1 → {ws' rl' : List ℕ} {x : Framed} → ws' ≡ store ws (λ k. same (k / z .words) f) (λ k. at rs (pred (at ads (pred (old .page))) * z .words + k % z .words))
-            → rl' ≡ push-front rl f → x ≡ answered (set fs f (fresh (pred (old .page)))) 0 0 → Left x rs ws' fq rl' ss
+        pub read-good : good ≡ 1 → {r : ℕ} {ws' rl' : List ℕ} {gs : List Frame} → r ≡ pred (at ads (pred (old .page)))
+            → ws' ≡ store ws (λ k. same (k / z .words) f) (λ k. at rs (r * z .words + k % z .words)) → rl' ≡ push-front rl f → gs ≡ set fs f (fresh (pred (old .page))) → Left (answer n) gs rs ws' fq rl' ss
         unfolding carried Writeback.pageDone Writeback.readGood counted
-        read-good g {x = x} a b y = left-by x (by-way (Writeback.readGood z st f) (rw (eq-eqb _ _ t, eq-eqb _ _ g))) (
-          ap (λ (v : Framed). v .answer) y,
-          (stored (fresh (pred (old .page))) (fresh (pred (frameAt (take (z .frames) fs) f .page))) (ap (λ (v : Frame). fresh (pred (v .page))) (sym same-frame)) y, (refl, (a ∙ rw same-frame, (refl, (b, refl))))),
+        read-good g {gs = gs} found a b y = left-by (answer n) gs (by-way (Writeback.readGood z st f) (rw (eq-eqb _ _ t, eq-eqb _ _ g))) (
+          ap answer yes,
+          (stored (fresh (pred (old .page))) (fresh (pred (frameAt (take (z .frames) fs) f .page))) (ap (λ (v : Frame). fresh (pred (v .page))) (sym same-frame)) y, (refl, (a ∙ rw (found, same-frame), (refl, (b, refl))))),
         )
 
-        pub read-failed : ¬ (good ≡ 1) → {fq' : List ℕ} {x : Framed} → fq' ≡ push-back fq f → x ≡ answered (set fs f noFrame) 0 0 → Left x rs ws fq' rl ss
+        pub read-failed : ¬ (good ≡ 1) → {fq' : List ℕ} {gs : List Frame} → fq' ≡ push-back fq f → gs ≡ set fs f noFrame → Left (answer n) gs rs ws fq' rl ss
         unfolding carried Writeback.pageDone Writeback.readFailed Writeback.freeFrame counted
-        read-failed g {x = x} a y = left-by x (by-way (Writeback.readFailed z st f) (rw (eq-eqb _ _ t, ne-eqb _ _ g))) (
-          ap (λ (v : Framed). v .answer) y,
+        read-failed g {gs = gs} a y = left-by (answer n) gs (by-way (Writeback.readFailed z st f) (rw (eq-eqb _ _ t, ne-eqb _ _ g))) (
+          ap answer yes,
           (stored noFrame noFrame refl y, (refl, (refl, (a, (refl, refl))))),
         )
 
@@ -141,18 +140,17 @@ module _ (z : Sizes) (fs : List Frame) (rs ws fq rl ads ss : List ℕ) (f good :
         u : ¬ (frameAt (take (z .frames) fs) f .transfer ≡ READING)
         u h = writes (ap (λ (g : Frame). g .transfer) (sym same-frame) ∙ h)
 
-        pub write-good : good ≡ 1 → {rs' fq' ss' : List ℕ} {x : Framed}
-            → rs' ≡ store rs (λ k. same (k / z .words) (pred (at ads (pred (old .page))))) (λ k. at ws (f * z .words + k % z .words))
-            → ss' ≡ set ss (pred (at ads (pred (old .page)))) LIVE → fq' ≡ push-back fq f → x ≡ answered (set fs f noFrame) 0 0 → Left x rs' ws fq' rl ss'
+        pub write-good : good ≡ 1 → {r : ℕ} {rs' fq' ss' : List ℕ} {gs : List Frame} → r ≡ pred (at ads (pred (old .page)))
+            → rs' ≡ store rs (λ k. same (k / z .words) r) (λ k. at ws (f * z .words + k % z .words)) → ss' ≡ set ss r LIVE → fq' ≡ push-back fq f → gs ≡ set fs f noFrame → Left (answer n) gs rs' ws fq' rl ss'
         unfolding carried Writeback.pageDone Writeback.writeGood Writeback.storeFrame Writeback.freeFrame counted
-        write-good g {x = x} a b d y = left-by x (by-way (Writeback.writeGood z st f) (rw (ne-eqb _ _ u, eq-eqb _ _ g))) (
-          ap (λ (v : Framed). v .answer) y,
-          (stored noFrame noFrame refl y, (a ∙ rw same-frame, (refl, (d, (refl, b ∙ rw same-frame))))),
+        write-good g {gs = gs} found a b d y = left-by (answer n) gs (by-way (Writeback.writeGood z st f) (rw (ne-eqb _ _ u, eq-eqb _ _ g))) (
+          ap answer yes,
+          (stored noFrame noFrame refl y, (a ∙ rw (found, same-frame), (refl, (d, (refl, b ∙ rw (found, same-frame)))))),
         )
 
-        pub write-failed : ¬ (good ≡ 1) → {rl' : List ℕ} {x : Framed} → rl' ≡ push-back rl f → x ≡ answered (set fs f (unwritten old)) 0 0 → Left x rs ws fq rl' ss
+        pub write-failed : ¬ (good ≡ 1) → {rl' : List ℕ} {gs : List Frame} → rl' ≡ push-back rl f → gs ≡ set fs f (unwritten old) → Left (answer n) gs rs ws fq rl' ss
         unfolding carried Writeback.pageDone Writeback.writeFailed counted
-        write-failed g {x = x} a y = left-by x (by-way (Writeback.writeFailed z st f) (rw (ne-eqb _ _ u, ne-eqb _ _ g))) (
-          ap (λ (v : Framed). v .answer) y,
+        write-failed g {gs = gs} a y = left-by (answer n) gs (by-way (Writeback.writeFailed z st f) (rw (ne-eqb _ _ u, ne-eqb _ _ g))) (
+          ap answer yes,
           (stored (unwritten old) (unwritten (frameAt (take (z .frames) fs) f)) (ap unwritten (sym same-frame)) y, (refl, (refl, (refl, (a, refl))))),
         )

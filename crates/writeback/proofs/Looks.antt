@@ -137,8 +137,8 @@ module _ {fs₀ : List Frame} {list₀ : List ℕ} {kept : List Frame} {looks f 
   listed : members list ≡ f ∷ tail (members list)
   listed = members-first list (r .entries) ∙ ap (λ (x : ℕ). x ∷ tail (members list)) (sym (r .here))
 
-  pub entry-below : f < length list₀
-  entry-below = rw (r .here) (first-below list (r .long) (r .ruled) (r .entries))
+  pub frames-long : length kept ≡ length fs₀
+  frames-long = sym (look-long (suc (r .fuel)) (r .so-far) kept (members list)) ∙ ap (λ (l : Looked). length (l .frames)) (r .rest) ∙ look-long (suc (size list₀)) 0 fs₀ (members list₀)
 
   pub looks-most : looks ≤ suc (size list₀)
   looks-most = omega (arith, r .counted, r .sum)
@@ -160,8 +160,8 @@ module _ {fs₀ : List Frame} {list₀ : List ℕ} {kept : List Frame} {looks f 
     members-next : members (push-back (pop list) (first list)) ≡ tail (members list) ++ f ∷ []
     members-next = members-push-back (pop list) (first list) room ∙ ap (λ (l : List ℕ). l ++ first list ∷ []) (members-pop list) ∙ ap (λ (x : ℕ). tail (members list) ++ x ∷ []) (sym (r .here))
 
-    pub round-again : {cold : Frame} {list' : List ℕ} {f' : ℕ} {g' : Frame} → cold ≡ cooled g → list' ≡ push-back (pop list) (first list) → f' ≡ first list' → g' ≡ frameAt (set kept f cold) f' → Round fs₀ list₀ (set kept f cold) (looks + 1) f' g' list'
-    round-again {cold} {list'} e d a b = record {
+    pub round-again : {cold : Frame} {kept' : List Frame} {list' : List ℕ} {f' : ℕ} {g' : Frame} → cold ≡ cooled g → kept' ≡ set kept f cold → list' ≡ push-back (pop list) (first list) → f' ≡ first list' → g' ≡ frameAt kept' f' → Round fs₀ list₀ kept' (looks + 1) f' g' list'
+    round-again {cold} {kept'} {list'} e k d a b = record {
       fuel = r .fuel - 1;
       so-far = suc (r .so-far);
       counted = omega (arith, r .counted);
@@ -175,8 +175,8 @@ module _ {fs₀ : List Frame} {list₀ : List ℕ} {kept : List Frame} {looks f 
       the-frame = b;
     }
       where
-        same : set kept f cold ≡ cool kept f
-        same = ap (set kept f) (e ∙ ap cooled (r .the-frame))
+        same : kept' ≡ cool kept f
+        same = k ∙ ap (set kept f) (e ∙ ap cooled (r .the-frame))
 
         one : suc (r .fuel - 1) ≡ r .fuel
         one = omega (arith, hot-fuel)

@@ -19,7 +19,6 @@ use Rattle.tables.specs.StoreLoops.{from-inside, inside-from}
 use Rattle.tables.specs.ThoseLaws.{those-same}
 use Rattle.model.specs.declared.sizes.Sizes.{Sizes}
 use Rattle.model.specs.declared.frame.Frame.{Frame}
-use Rattle.model.specs.declared.applied.Framed.{Framed}
 use Rattle.model.specs.declared.event.Answer.{Answer}
 use Rattle.model.specs.Lines.{RELEASED}
 use Rattle.model.specs.State.{State, frames, frameAt, noFrame, pageOf, allPages, payer}
@@ -37,9 +36,9 @@ use Rattle.leaves.specs.Payers.{whoPays}
 use Rattle.writeback.specs.Needs.{Sized, Queues, Placed, Addressed, Releasable, Paid}
 use Rattle.writeback.specs.Pages.{framed, charged, chargesFrom}
 use Rattle.writeback.specs.Seen.{truncate, seenTruncate}
-use Rattle.writeback.specs.Truncate.{quiet, allQuiet, cutFrame, cutFrames, CutGiven, Cutting, ClearedLeft, usedThen, usedLeft}
+use Rattle.writeback.specs.Truncate.{quiet, allQuiet, askFrames, cutFrame, cutFrames, CutGiven, Cutting, ClearedLeft, usedThen, usedLeft}
 use Rattle.writeback.proofs.CutFrames.{without-alike}
-use Rattle.writeback.proofs.DoneWork.{answered}
+use Rattle.writeback.proofs.UpdateWork.{answer}
 use Rattle.tables.specs.StoreLoops.{part-fits}
 
 -- ── the code's frames and the model's, which are the first n of them ──
@@ -50,11 +49,18 @@ module _ (n : ℕ) (fs : List Frame) where
   same-page : (f : ℕ) → f < n → frameAt fs f .page ≡ frameAt (take n fs) f .page
   same-page f h = ap page-of (sym (frame-take n fs f h))
 
-  pub quiet-model : (w pages s k : ℕ) → Holds (allQuiet w n pages s k fs) → Holds (allQuiet w n pages s k (take n fs))
+  quiet-model : (w pages s k : ℕ) → Holds (allQuiet w n pages s k fs) → Holds (allQuiet w n pages s k (take n fs))
   quiet-model w pages s k h p b d f c e = subst (λ (g : Frame). Holds (quiet w g)) (sym (frame-take n fs f c)) (h p b d f c (same-page f c ∙ e))
 
-  pub model-quiet : (w pages s k : ℕ) → Holds (allQuiet w n pages s k (take n fs)) → Holds (allQuiet w n pages s k fs)
+  model-quiet : (w pages s k : ℕ) → Holds (allQuiet w n pages s k (take n fs)) → Holds (allQuiet w n pages s k fs)
   model-quiet w pages s k h p b d f c e = subst (λ (g : Frame). Holds (quiet w g)) (frame-take n fs f c) (h p b d f c (sym (same-page f c) ∙ e))
+
+  quiet-alike : (w pages s k : ℕ) → test (allQuiet w n pages s k fs) ≡ test (allQuiet w n pages s k (take n fs))
+  quiet-alike w pages s k = alike (allQuiet w n pages s k fs) (allQuiet w n pages s k (take n fs)) (quiet-model w pages s k) (model-quiet w pages s k)
+
+  pub asked-alike : (pages s k : ℕ) → firstNo (askFrames n pages s k fs) ≡ firstNo (askFrames n pages s k (take n fs))
+  unfolding firstNo
+  asked-alike pages s k = λ j. if (quiet-alike 0 pages s k j) (if (quiet-alike 1 pages s k j) 0 16) 14
 
   framed-alike : (i : ℕ) → test (framed n fs i) ≡ test (framed n (take n fs) i)
   framed-alike i = alike (framed n fs i) (framed n (take n fs) i) (λ h. (h .0, h .1, sym (same-page (h .0) (h .1)) ∙ h .2)) (λ h. (h .0, h .1, same-page (h .0) (h .1) ∙ h .2))
@@ -86,15 +92,15 @@ module _ (z : Sizes) (fs : List Frame) (ns ac ls ps fq rl ds ss act us : List �
   abbrev out : Outcome State
   out = own z st (truncate s k)
 
-  abbrev Left : Framed → List ℕ → List ℕ → List ℕ → List ℕ → List ℕ → Type 0
-  Left x fq' rl' ds' ss' us' = Said z st s k (take (z .frames) (x .frames)) (x .answer) fq' rl' ds' ss' us'
+  abbrev Left : ℕ → List Frame → List ℕ → List ℕ → List ℕ → List ℕ → List ℕ → Type 0
+  Left n gs fq' rl' ds' ss' us' = Said z st s k (take (z .frames) gs) (answer n) fq' rl' ds' ss' us'
 
   module _ {n : ℕ} (e : n ≡ firstNo (questions z st (truncate s k))) where
-    pub refused : ¬ (n ≡ 0) → {x : Framed} → x ≡ answered fs n 0 → Left x fq rl ds ss us
-    refused d {x} y = (
-      ap (λ (v : Framed). v .answer) y ∙ sym (ap (λ (o : Outcome State). o .answer) no),
+    pub refused : ¬ (n ≡ 0) → Left n fs fq rl ds ss us
+    refused d = (
+      sym (ap (λ (o : Outcome State). o .answer) no),
       (
-        ap (λ (v : Framed). take (z .frames) (v .frames)) y ∙ sym (ap (λ (o : Outcome State). o .left .memory .core .frames) no),
+        sym (ap (λ (o : Outcome State). o .left .memory .core .frames) no),
         (
           sym (ap (λ (o : Outcome State). o .left .memory .core .free-queue) no),
           (
@@ -111,7 +117,7 @@ module _ (z : Sizes) (fs : List Frame) (ns ac ls ps fq rl ds ss act us : List �
       ),
     )
       where
-        no : out ≡ record { answer = record { refusal = n; result = 0 }; left = st }
+        no : out ≡ record { answer = answer n; left = st }
         no = sym (own-no z st (truncate s k) _ e d)
 
         stays : (m : ℕ) → ¬ (m ≡ 0) → us ≡ outcome m 0 us (usedThen z st s k) .left
@@ -179,19 +185,19 @@ module _ (z : Sizes) (fs : List Frame) (ns ac ls ps fq rl ds ss act us : List �
       cut-alike : (f : ℕ) → f < z .frames → test (cutFrame (z .pages) s k (z .pages) (frameAt fs f)) ≡ test (Writeback.cutFrame z st s k f)
       cut-alike f h = alike (cutFrame (z .pages) s k (z .pages) (frameAt fs f)) (Writeback.cutFrame z st s k f) (to-cut f h) (from-cut f h)
 
-      frames-are : (gs : List Frame) → length fs ≡ 64 → length gs ≡ length fs → ((f : ℕ) → f < z .frames → Split (Holds (cutFrame (z .pages) s k (z .pages) (frameAt fs f))) (frameAt gs f) noFrame (frameAt fs f))
+      frames-are : (gs : List Frame) → length gs ≡ length fs → ((f : ℕ) → f < z .frames → Split (Holds (cutFrame (z .pages) s k (z .pages) (frameAt fs f))) (frameAt gs f) noFrame (frameAt fs f))
           → take (z .frames) gs ≡ tab (length (take (z .frames) fs)) (λ f. if (test (Writeback.cutFrame z st s k f)) noFrame (frameAt (take (z .frames) fs) f)) 0
-      frames-are gs l m t = ext-getD noFrame (take (z .frames) gs) (tab (length (take (z .frames) fs)) then 0) (long gs m ∙ sym (length-tab (length (take (z .frames) fs)) then 0 ∙ long fs refl))
-          (λ f h. let b : f < z .frames = omega (arith, long gs m) in frame-take (z .frames) gs f b ∙ elim (t f b) [
-            | inl y ↦ y .1 ∙ sym (at-tab0 (length (take (z .frames) fs)) then f noFrame (omega (arith, long fs refl)) ∙ if-true (test (Writeback.cutFrame z st s k f)) noFrame (frameAt (take (z .frames) fs) f) (complete (Writeback.cutFrame z st s k f) (to-cut f b (y .0))))
-            | inr y ↦ y .1 ∙ sym (frame-take (z .frames) fs f b) ∙ sym (at-tab0 (length (take (z .frames) fs)) then f noFrame (omega (arith, long fs refl)) ∙ if-false (test (Writeback.cutFrame z st s k f)) noFrame (frameAt (take (z .frames) fs) f) (λ q. y .0 (from-cut f b (sound (Writeback.cutFrame z st s k f) q))))
+      frames-are gs m t = ext-getD noFrame (take (z .frames) gs) (tab (length (take (z .frames) fs)) then 0) (long ∙ sym (length-tab (length (take (z .frames) fs)) then 0))
+          (λ f h. let b : f < z .frames = omega (arith, length-take (z .frames) gs) in let i : f < length (take (z .frames) fs) = omega (arith, long) in frame-take (z .frames) gs f b ∙ elim (t f b) [
+            | inl y ↦ y .1 ∙ sym (at-tab0 (length (take (z .frames) fs)) then f noFrame i ∙ if-true (test (Writeback.cutFrame z st s k f)) noFrame (frameAt (take (z .frames) fs) f) (complete (Writeback.cutFrame z st s k f) (to-cut f b (y .0))))
+            | inr y ↦ y .1 ∙ sym (frame-take (z .frames) fs f b) ∙ sym (at-tab0 (length (take (z .frames) fs)) then f noFrame i ∙ if-false (test (Writeback.cutFrame z st s k f)) noFrame (frameAt (take (z .frames) fs) f) (λ q. y .0 (from-cut f b (sound (Writeback.cutFrame z st s k f) q))))
           ])
         where
           then : ℕ → Frame
           then f = if (test (Writeback.cutFrame z st s k f)) noFrame (frameAt (take (z .frames) fs) f)
 
-          long : (xs : List Frame) → length xs ≡ length fs → length (take (z .frames) xs) ≡ z .frames
-          long xs q = simp length-take (omega (arith, q, l, ready .0 .frames-most))
+          long : length (take (z .frames) gs) ≡ length (take (z .frames) fs)
+          long = omega (arith, length-take (z .frames) gs, length-take (z .frames) fs)
 
       queue-is : cutFrames (z .frames) (z .pages) s k fs (z .pages) ≡ Writeback.cutFrames z st s k
       unfolding Writeback.cutFrames
@@ -205,17 +211,16 @@ module _ (z : Sizes) (fs : List Frame) (ns ac ls ps fq rl ds ss act us : List �
       unfolding usedThen payer Model.charged
       used-is q = ap (λ (m : ℕ). set us (whoPays ac ls ps s) (at us (whoPays ac ls ps s) - m)) (q ∙ charges-are)
 
-      pub cut-off : {m : ℕ} {gs : List Frame} {fq' rl' ds' ss' us' : List ℕ} {x : Framed} → length fs ≡ 64 → m ≡ chargesFrom (z .frames) (z .pages) s k fs ds ss
+      pub cut-off : (gs : List Frame) {m : ℕ} {fq' rl' ds' ss' us' : List ℕ} → m ≡ chargesFrom (z .frames) (z .pages) s k fs ds ss
           → us' ≡ set us (whoPays ac ls ps s) (at us (whoPays ac ls ps s) - m) → fq' ≡ packed (length fq) (members fq ++ cutFrames (z .frames) (z .pages) s k fs (z .pages))
           → rl' ≡ packed (length rl) (without (λ f. test (cutFrame (z .pages) s k (z .pages) (frameAt fs f))) (members rl))
           → ss' ≡ store ss (λ r. some (allPages z) λ i. fromPage z s k i and same (at ds i) (suc r)) (λ r. RELEASED) → ds' ≡ store ds (fromPage z s k) (λ i. 0)
-          → ClearedLeft (z .frames) (z .pages) s k fs gs
-          → x ≡ answered gs 0 0 → Left x fq' rl' ds' ss' us'
+          → ClearedLeft (z .frames) (z .pages) s k fs gs → Left n gs fq' rl' ds' ss' us'
       unfolding carried result Writeback.truncate counted
-      cut-off {gs = gs} l q u a b c d g y = (
-        ap (λ (v : Framed). v .answer) y ∙ sym (ap (λ (o : Outcome State). o .answer) way),
+      cut-off gs q u a b c d g = (
+        ap answer yes ∙ sym (ap (λ (o : Outcome State). o .answer) way),
         (
-          ap (λ (v : Framed). take (z .frames) (v .frames)) y ∙ frames-are gs l (g .0) (g .1) ∙ sym (ap (λ (o : Outcome State). o .left .memory .core .frames) way),
+          frames-are gs (g .0) (g .1) ∙ sym (ap (λ (o : Outcome State). o .left .memory .core .frames) way),
           (
             a ∙ ap (λ (xs : List ℕ). packed (length fq) (members fq ++ xs)) queue-is ∙ sym (ap (λ (o : Outcome State). o .left .memory .core .free-queue) way),
             (

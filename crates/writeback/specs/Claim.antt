@@ -15,6 +15,7 @@ use Rattle.model.specs.Questions.{questions}
 use Rattle.model.specs.Writeback.{look, looking, beginsWrite}
 use Rattle.model.specs.Step.{outcome}
 use Rattle.model.specs.Lent.{Ref, Table}
+use Rattle.leaves.specs.Packed.{unpacked}
 use Rattle.writeback.specs.Seen.{claim}
 
 -- who pays for the page in a frame
@@ -45,5 +46,5 @@ pub record LooksEnded (fs : List Frame) (list : List ℕ) (kept : List Frame) (l
 abbrev pub LooksGiven : Ref → Type 0
 LooksGiven list = Holds (queue (length (list .now)) (list .now)) × (0 < size (list .now)) × (length (list .now) < 65)
 
-abbrev pub LooksLeft : List Frame → Table → List Frame → ℕ → Type 0
-LooksLeft fs list kept looks = LooksEnded fs (list .entry .now) kept looks (list .exit .now)
+abbrev pub LooksLeft : Table → Table → ℕ → Type 0
+LooksLeft frames list looks = LooksEnded (unpacked (frames .entry .now)) (list .entry .now) (unpacked (frames .exit .now)) looks (list .exit .now)

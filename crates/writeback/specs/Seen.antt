@@ -1,8 +1,6 @@
 -- The events of this crate by name, and the tables that each reads, as a state: no definition of the event looks at the others.
-use mathlib.Core.List.{List, []}
+use mathlib.Core.List.{List}
 use Prim.Native.Nat.{ℕ}
-use lib.ListN.{take}
-use Rattle.model.specs.declared.sizes.Sizes.{Sizes}
 use Rattle.model.specs.declared.frame.Frame.{Frame}
 use Rattle.model.specs.declared.frame.Pool.{Pool}
 use Rattle.model.specs.declared.event.Event.{Event}
@@ -10,8 +8,8 @@ use Rattle.model.specs.declared.event.Event.the-variants as Event
 use Rattle.model.specs.declared.event.Writeback.the-variants as Writeback
 use Rattle.model.specs.State.{State}
 use Rattle.model.specs.Setters.{onDisk, onCore, onHeld, onSlots, setRecords, setNumbers, setAccounts, setLimits, setParents, setFrames, setWords, setFreeQueue, setRemovalList}
-use Rattle.model.specs.Setters.{setAddresses, setStates, setOwners, setActive, setUpdating, setImages, setUsed}
-use Rattle.model.specs.Lent.{Table, stateOf, noState, noPool}
+use Rattle.model.specs.Setters.{setMaps, setAddresses, setStates, setOwners, setFreeMap, setHand, setFree, setActive, setUpdating, setImages, setUsed}
+use Rattle.model.specs.Lent.{Table, noState}
 
 -- ── claim ──
 abbrev pub claim : Event
@@ -87,7 +85,9 @@ mapDone s good = Event.Writeback (Writeback.MapDone s good)
 
 -- the code is not passed the pool: what it leaves of it is said of any
 abbrev pub seenMapDone : Pool → List ℕ → List ℕ → List ℕ → List ℕ → List ℕ → List ℕ → List ℕ → List ℕ → State
-seenMapDone pool numbers maps states owners map active updating images = stateOf [] pool [] numbers [] maps [] [] [] [] [] [] states owners map active updating images []
+seenMapDone pool numbers maps states owners map active updating images =
+    onDisk (λ d. setNumbers numbers (setMaps maps d))
+    (onHeld (λ h. setStates states (setOwners owners (setFreeMap map (setHand (pool .hand) (setFree (pool .free) h))))) (onSlots (λ a. setActive active (setUpdating updating (setImages images a))) noState))
 
 -- .. as it is passed them, by bare names,
 abbrev pub enteredMapDone : Pool → Table → Table → Table → Table → Table → Table → Table → Table → State
@@ -96,4 +96,4 @@ enteredMapDone pool numbers maps states owners map active updating images =
 
 -- and as its questions are
 abbrev pub askedMapDone : Table → Table → Table → State
-askedMapDone numbers active updating = seenMapDone noPool (numbers .entry .now) [] [] [] [] (active .entry .now) (updating .entry .now) []
+askedMapDone numbers active updating = onDisk (setNumbers (numbers .entry .now)) (onSlots (λ a. setActive (active .entry .now) (setUpdating (updating .entry .now) a)) noState)

@@ -7,7 +7,7 @@ use lib.Dec.{leb}
 use lib.ListN.{length, set}
 use Rattle.tables.specs.Base.{at, count, those}
 use Rattle.tables.specs.Queue.{members, packed, without}
-use Rattle.tables.specs.Questions.{firstNo}
+use Rattle.tables.specs.Questions.{Questions, none, ask, firstNo}
 use Rattle.tables.specs.Rule.{Rule, Holds, same, below, non, each, _and_, _then_, test}
 use Rattle.tables.specs.Store.{Split}
 use Rattle.model.specs.declared.sizes.Sizes.{Sizes}
@@ -29,6 +29,10 @@ quiet (suc n) g = isUnwired g
 -- .. of every frame of the pages from k up
 abbrev pub allQuiet : ℕ → ℕ → ℕ → ℕ → ℕ → List Frame → Rule
 allQuiet which n pages s k fs = each pages λ p. non (below p k) then each n λ f. same (frameAt fs f .page) (suc (s * pages + p)) then quiet which (frameAt fs f)
+
+-- .. and asked
+abbrev pub askFrames : ℕ → ℕ → ℕ → ℕ → List Frame → Questions
+askFrames n pages s k fs = ask 14 (allQuiet 0 n pages s k fs) (ask 16 (allQuiet 1 n pages s k fs) none)
 
 -- a frame whose page is one of the slot's, from k up to m
 abbrev pub cutFrame : ℕ → ℕ → ℕ → ℕ → Frame → Rule

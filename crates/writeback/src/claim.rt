@@ -4,8 +4,9 @@ ghost use mathlib.Core.Bool.{false, not};
 ghost use mathlib.Core.Logic.{_⊎_};
 ghost use Prim.Native.Nat.{_+_, _-_, _*_, _<_, _≤_};
 ghost use lib.Dec.{eqb};
-ghost use lib.ListN.{length, set, take};
+ghost use lib.ListN.{length, set};
 ghost use Rattle.tables.specs.Base.{at, all, if};
+ghost use Rattle.leaves.specs.Packed.{framesGiven, framesEntered, framesLeft};
 ghost use Rattle.leaves.specs.Payers.{whoPays};
 ghost use Rattle.model.specs.Lines.{NULLED, LIVE};
 ghost use Rattle.model.specs.Writeback.{warm};
@@ -20,28 +21,21 @@ use crate::switches::cool;
 use crate::switches::writing;
 use leaves::cells::at8;
 use leaves::cells::at16;
-use leaves::frames::frame_at;
-use leaves::frames::with_frame;
+use leaves::packed::frame_at;
+use leaves::packed::put_frame;
 use leaves::queue::first;
 use leaves::queue::pop;
 use leaves::queue::push_back;
 use leaves::queue::rotate;
 use leaves::states::move_record;
 use leaves::words::all_zero;
-use model::applied::Framed;
-use model::applied::answered;
+use model::event::Answer;
 use model::frame::Frame;
 use model::frame::no_frame;
 use model::lines::LIVE;
 use model::lines::NULLED;
 use model::refusals::NOTHING_TO_CLAIM;
 use model::sizes::Sizes;
-
-// What the looks hand back by value: the frames then, and how many looks there were.
-pub struct Looks {
-    pub frames: [Frame; 64],
-    pub looks: u32,
-}
 
 // Whether initial or used is on.
 fn is_warm(frame: Frame) -> bool
@@ -54,25 +48,21 @@ fn is_warm(frame: Frame) -> bool
 }
 
 // The first entry goes to the list's end, cooled, while it is warm; then it is the one to take.
-fn turn(frames: [Frame; 64], list: &mut [u16]) -> Looks
+fn turn(frames: &mut [u64], list: &mut [u16]) -> u32
     requires { ⌜ LooksGiven list ⌝ }
-    ensures { λ r. ⌜ LooksLeft frames list (r .frames) (r .looks) ⌝ }
+    ensures { λ r. ⌜ LooksLeft frames list r ⌝ }
 {
-    let mut kept = frames;
     let mut looks = 1;
     let mut f = first(list);
-    let mut g = frame_at(kept, f);
+    let mut g = frame_at(frames, f);
     while is_warm(g) {
-        kept[f] = cool(g);
+        put_frame(frames, f, cool(g));
         rotate(list);
         f = first(list);
-        g = frame_at(kept, f);
+        g = frame_at(frames, f);
         looks += 1;
     }
-    Looks {
-        frames: kept,
-        looks,
-    }
+    looks
 }
 
 // Whether the frame is to be written: modified, and not all its words 0.
@@ -117,7 +107,7 @@ fn uncharge_modified(
 
 pub fn claim(
     sizes: Sizes,
-    frames: [Frame; 64],
+    frames: &mut [u64],
     accounts: &[u16],
     limits: &[u16],
     parents: &[u16],
@@ -127,30 +117,32 @@ pub fn claim(
     addresses: &[u16],
     states: &mut [u8],
     used: &mut [u16],
-) -> Framed
+) -> Answer
     requires { ⌜ Queues (sizes .frames) (now «free_queue») (now «removal_list»)
-        × Claimable sizes (take (sizes .frames) frames) (now accounts) (now limits) (now parents) (now words) (now «free_queue») (now «removal_list») (now addresses) (now states) (now used) ⌝ }
-    ensures answer { λ r. ⌜ r .answer ≡ own sizes (enteredClaim (take (sizes .frames) frames) accounts limits parents words «free_queue» «removal_list» addresses states used) claim .answer ⌝ }
-    ensures frames { λ r. ⌜ take (sizes .frames) (r .frames) ≡ own sizes (enteredClaim (take (sizes .frames) frames) accounts limits parents words «free_queue» «removal_list» addresses states used) claim .left .memory .core .frames ⌝ }
-    ensures free_queue { λ r. ⌜ now («free_queue» .exit) ≡ own sizes (enteredClaim (take (sizes .frames) frames) accounts limits parents words «free_queue» «removal_list» addresses states used) claim .left .memory .core .free-queue ⌝ }
-    ensures removal_list { λ r. ⌜ now («removal_list» .exit) ≡ own sizes (enteredClaim (take (sizes .frames) frames) accounts limits parents words «free_queue» «removal_list» addresses states used) claim .left .memory .core .removal-list ⌝ }
-    ensures states { λ r. ⌜ now (states .exit) ≡ own sizes (enteredClaim (take (sizes .frames) frames) accounts limits parents words «free_queue» «removal_list» addresses states used) claim .left .memory .held .states ⌝ }
-    ensures used { λ r. ⌜ now (used .exit) ≡ usedLeft sizes (enteredClaim (take (sizes .frames) frames) accounts limits parents words «free_queue» «removal_list» addresses states used) ⌝ }
+        × Claimable sizes (framesGiven sizes frames) (now accounts) (now limits) (now parents) (now words) (now «free_queue») (now «removal_list») (now addresses) (now states) (now used) ⌝ }
+    ensures answer { λ r. ⌜ r ≡ own sizes (enteredClaim (framesEntered sizes frames) accounts limits parents words «free_queue» «removal_list» addresses states used) claim .answer ⌝ }
+    ensures frames { λ r. ⌜ framesLeft sizes frames ≡ own sizes (enteredClaim (framesEntered sizes frames) accounts limits parents words «free_queue» «removal_list» addresses states used) claim .left .memory .core .frames ⌝ }
+    ensures free_queue { λ r. ⌜ now («free_queue» .exit) ≡ own sizes (enteredClaim (framesEntered sizes frames) accounts limits parents words «free_queue» «removal_list» addresses states used) claim .left .memory .core .free-queue ⌝ }
+    ensures removal_list { λ r. ⌜ now («removal_list» .exit) ≡ own sizes (enteredClaim (framesEntered sizes frames) accounts limits parents words «free_queue» «removal_list» addresses states used) claim .left .memory .core .removal-list ⌝ }
+    ensures states { λ r. ⌜ now (states .exit) ≡ own sizes (enteredClaim (framesEntered sizes frames) accounts limits parents words «free_queue» «removal_list» addresses states used) claim .left .memory .held .states ⌝ }
+    ensures used { λ r. ⌜ now (used .exit) ≡ usedLeft sizes (enteredClaim (framesEntered sizes frames) accounts limits parents words «free_queue» «removal_list» addresses states used) ⌝ }
 {
     if at16(removal_list, 0) == 0 {
-        return answered(frames, NOTHING_TO_CLAIM, 0);
+        return Answer {
+            refusal: NOTHING_TO_CLAIM,
+            result: 0,
+        };
     }
-    let looked = turn(frames, removal_list);
-    let kept = looked.frames;
+    let looks = turn(frames, removal_list);
     let f = first(removal_list);
     pop(removal_list);
     let old = frame_at(frames, f);
     if begins(sizes.words, old.modified, words, f) {
-        return answered(
-            with_frame(kept, f, writing(frame_at(kept, f))),
-            0,
-            looked.looks,
-        );
+        put_frame(frames, f, writing(old));
+        return Answer {
+            refusal: 0,
+            result: looks,
+        };
     }
     let r = record_of(addresses, old.page);
     make_nulled(states, r, old.modified);
@@ -163,5 +155,9 @@ pub fn claim(
         named(old.page) / sizes.pages,
     );
     push_back(free_queue, f);
-    answered(with_frame(kept, f, no_frame()), 0, looked.looks)
+    put_frame(frames, f, no_frame());
+    Answer {
+        refusal: 0,
+        result: looks,
+    }
 }

@@ -1,29 +1,29 @@
 // Truncate: the pages of a slot from page k up become zeros.
 ghost use mathlib.Core.Path.{_≡_};
 ghost use Prim.Native.Nat.{_<_};
-ghost use lib.ListN.{take};
 ghost use Rattle.tables.specs.Questions.{firstNo};
 ghost use Rattle.tables.specs.Rule.{test};
 ghost use Rattle.model.specs.Own.{own};
 ghost use Rattle.model.specs.Questions.{questions};
-ghost use Rattle.writeback.specs.ByPage.{chargedEntry};
+ghost use Rattle.leaves.specs.Packed.{unpacked, framesGiven, framesEntered, framesLeft};
+ghost use Rattle.writeback.specs.ByPage.{modifiedEntry, chargedEntry};
 ghost use Rattle.writeback.specs.Needs.{Sized, Queues, Placed, Addressed, Releasable, Paid};
 ghost use Rattle.writeback.specs.Pages.{chargesFrom};
 ghost use Rattle.writeback.specs.Seen.{truncate, enteredTruncate, askedTruncate};
-ghost use Rattle.writeback.specs.Truncate.{quiet, allQuiet, CutGiven, FramesGiven, FramesLeft, ClearedLeft, usedLeft};
+ghost use Rattle.writeback.specs.Truncate.{askFrames, CutGiven, FramesGiven, FramesLeft, ClearedLeft, usedLeft};
 use crate::by_page::by_page;
 use crate::by_page::wide;
 use crate::charges::uncharge;
 use leaves::asks::ask_slot;
 use leaves::cells::at8;
 use leaves::cells::at16;
+use leaves::packed::frame_at;
+use leaves::packed::put_frame;
 use leaves::queue::push_back;
 use leaves::queue::remove;
 use leaves::slots::clear_from;
 use leaves::states::release_from;
-use model::applied::Framed;
-use model::applied::answered;
-use model::frame::Frame;
+use model::event::Answer;
 use model::frame::NONE;
 use model::frame::no_frame;
 use model::lines::LIVE;
@@ -31,50 +31,48 @@ use model::refusals::IN_TRANSFER;
 use model::refusals::WIRED;
 use model::sizes::Sizes;
 
-// Whether the frame is in no transfer (which 0, question 14), or not wired (which 1, question 16).
-fn is_quiet(which: u8, frame: Frame) -> bool
-    ensures { λ r. ⌜ r ≡ test (quiet which frame) ⌝ }
-{
-    if which == 0 {
-        return frame.transfer == NONE;
-    }
-    frame.wired != 1
-}
-
-// Whether every frame of the slot's pages from k up is so.
-fn all_quiet(
-    which: u8,
-    count: usize,
-    pages: usize,
-    slot: usize,
-    k: usize,
-    frames: [Frame; 64],
-) -> bool
+// Questions 14 and 16, of the frames of the slot's pages from k up.
+fn ask_frames(count: usize, pages: usize, slot: usize, k: usize, frames: &[u64]) -> u32
     requires { ⌜ CutGiven count pages slot k ⌝ }
-    ensures { λ r. ⌜ r ≡ test (allQuiet which count pages slot k frames) ⌝ }
+    ensures { λ r. ⌜ r ≡ firstNo (askFrames count pages slot k (unpacked (now (frames .entry)))) ⌝ }
 {
     let start = slot * pages;
+    let mut no = 0;
     let mut f = 0;
     while f < count {
-        let frame = frames[f];
+        let frame = frame_at(frames, f);
         let page = frame.page as usize;
         if page > start + k {
             if page <= start + pages {
-                if is_quiet(which, frame) {} else {
-                    return false;
+                if frame.transfer != NONE {
+                    return IN_TRANSFER;
+                }
+                if frame.wired == 1 {
+                    no = WIRED;
                 }
             }
         }
         f += 1;
     }
-    true
+    no
 }
 
-// Whether the page is charged, by the entry of its modified frame.
-fn is_charged(entry: u8, addresses: &[u16], states: &[u8], i: usize) -> bool
-    ensures { λ r. ⌜ r ≡ test (chargedEntry entry (now (addresses .entry)) (now (states .entry)) i) ⌝ }
+// Whether an entry names a modified frame.
+fn is_modified(entry: usize, frames: &[u64]) -> bool
+    ensures { λ r. ⌜ r ≡ test (modifiedEntry entry (unpacked (now (frames .entry)))) ⌝ }
 {
-    if entry != 0 {
+    if entry == 0 {
+        return false;
+    }
+    let frame = frame_at(frames, entry - 1);
+    frame.modified == 1
+}
+
+// Whether the page is charged, by the entry of its frame.
+fn is_charged(entry: usize, frames: &[u64], addresses: &[u16], states: &[u8], i: usize) -> bool
+    ensures { λ r. ⌜ r ≡ test (chargedEntry entry (unpacked (now (frames .entry))) (now (addresses .entry)) (now (states .entry)) i) ⌝ }
+{
+    if is_modified(entry, frames) {
         return true;
     }
     let address = at16(addresses, i);
@@ -84,82 +82,64 @@ fn is_charged(entry: u8, addresses: &[u16], states: &[u8], i: usize) -> bool
     at8(states, address as usize - 1) == LIVE
 }
 
-// How many pages of the slot from k up are charged.
-fn charges(
-    count: usize,
-    pages: usize,
-    slot: usize,
-    k: usize,
-    frames: [Frame; 64],
-    addresses: &[u16],
-    states: &[u8],
-) -> usize
-    requires { ⌜ CutGiven count pages slot k ⌝ }
-    ensures { λ r. ⌜ r ≡ chargesFrom count pages slot k frames (now (addresses .entry)) (now (states .entry)) ⌝ }
-{
-    let start = slot * pages;
-    let entries = by_page(true, count, pages, slot, frames, [0; 256]);
-    let mut n = 0;
-    let mut p = k;
-    while p < pages {
-        if is_charged(entries[p], addresses, states, start + p) {
-            n += 1;
-        }
-        p += 1;
-    }
-    n
-}
-
 // The frames of the slot's pages from k up lose their page and switches.
-fn clear_frames(
-    count: usize,
-    pages: usize,
-    slot: usize,
-    k: usize,
-    frames: [Frame; 64],
-) -> [Frame; 64]
+fn clear_frames(count: usize, pages: usize, slot: usize, k: usize, frames: &mut [u64])
     requires { ⌜ CutGiven count pages slot k ⌝ }
-    ensures { λ r. ⌜ ClearedLeft count pages slot k frames r ⌝ }
+    ensures { λ _. ⌜ ClearedLeft count pages slot k (unpacked (now (frames .entry))) (unpacked (now (frames .exit))) ⌝ }
 {
+    if k == pages {
+        return;
+    }
     let start = slot * pages;
-    let mut kept = frames;
     let mut f = 0;
     while f < count {
-        let old = kept[f];
+        let old = frame_at(frames, f);
         let page = old.page as usize;
         if page > start + k {
             if page <= start + pages {
-                kept[f] = no_frame();
+                put_frame(frames, f, no_frame());
             }
         }
         f += 1;
     }
-    kept
 }
 
-// The frames of the slot's pages from k up join the free queue's end, in page order, and leave the removal list.
+// The frames of the slot's pages from k up join the free queue's end, in page order, and leave the removal list. How many of these pages are charged.
 fn free_frames(
-    count: usize,
-    pages: usize,
+    sizes: Sizes,
     slot: usize,
     k: usize,
-    frames: [Frame; 64],
+    frames: &[u64],
+    addresses: &[u16],
+    states: &[u8],
     free_queue: &mut [u16],
     removal_list: &mut [u16],
-)
-    requires { ⌜ FramesGiven count pages slot k frames «free_queue» «removal_list» ⌝ }
-    ensures { λ _. ⌜ FramesLeft count pages slot k frames «free_queue» «removal_list» ⌝ }
+) -> usize
+    requires { ⌜ FramesGiven (sizes .frames) (sizes .pages) slot k (unpacked (now frames)) «free_queue» «removal_list» ⌝ }
+    ensures charges { λ r. ⌜ r ≡ chargesFrom (sizes .frames) (sizes .pages) slot k (unpacked (now (frames .entry))) (now (addresses .entry)) (now (states .entry)) ⌝ }
+    ensures queues { λ _. ⌜ FramesLeft (sizes .frames) (sizes .pages) slot k (unpacked (now (frames .entry))) «free_queue» «removal_list» ⌝ }
 {
-    let entries = by_page(false, count, pages, slot, frames, [0; 256]);
+    let pages = sizes.pages;
+    if k == pages {
+        return 0;
+    }
+    let start = slot * pages;
+    let mut entries: [u8; 256] = [0; 256];
+    by_page(sizes.frames, pages, slot, frames, &mut entries);
+    let mut n = 0;
     let mut p = k;
     while p < pages {
         let entry = wide(entries[p]);
+        if is_charged(entry, frames, addresses, states, start + p) {
+            n += 1;
+        }
         if entry != 0 {
             push_back(free_queue, entry - 1);
             remove(removal_list, entry - 1);
         }
         p += 1;
     }
+    n
 }
 
 // Questions 3, 4, 8, 14 and 16.
@@ -167,32 +147,26 @@ fn ask_truncate(
     sizes: Sizes,
     slot: usize,
     k: usize,
-    frames: [Frame; 64],
+    frames: &[u64],
     numbers: &[u32],
     active: &[u8],
 ) -> u32
     requires { ⌜ (sizes .frames < 65) × (sizes .pages < 257) × (sizes .slots < 65) ⌝ }
-    ensures { λ r. ⌜ r ≡ firstNo (questions sizes (askedTruncate (take (sizes .frames) frames) numbers active) (truncate slot k)) ⌝ }
+    ensures { λ r. ⌜ r ≡ firstNo (questions sizes (askedTruncate (framesEntered sizes frames) numbers active) (truncate slot k)) ⌝ }
 {
     let in_range = (slot < sizes.slots) & (k <= sizes.pages);
     let no = ask_slot(in_range, slot, numbers, active);
     if no != 0 {
         return no;
     }
-    if all_quiet(0, sizes.frames, sizes.pages, slot, k, frames) {} else {
-        return IN_TRANSFER;
-    }
-    if all_quiet(1, sizes.frames, sizes.pages, slot, k, frames) {} else {
-        return WIRED;
-    }
-    0
+    ask_frames(sizes.frames, sizes.pages, slot, k, frames)
 }
 
 pub fn truncate(
     sizes: Sizes,
     slot: usize,
     k: usize,
-    frames: [Frame; 64],
+    frames: &mut [u64],
     numbers: &[u32],
     accounts: &[u16],
     limits: &[u16],
@@ -203,28 +177,35 @@ pub fn truncate(
     states: &mut [u8],
     active: &[u8],
     used: &mut [u16],
-) -> Framed
-    requires { ⌜ Sized sizes × Queues (sizes .frames) (now «free_queue») (now «removal_list») × Placed (sizes .frames) (take (sizes .frames) frames) (now «free_queue») (now «removal_list»)
+) -> Answer
+    requires { ⌜ Sized sizes × Queues (sizes .frames) (now «free_queue») (now «removal_list») × Placed (sizes .frames) (framesGiven sizes frames) (now «free_queue») (now «removal_list»)
         × Addressed sizes (now addresses) (now states) × Releasable sizes (now addresses) (now states)
-        × Paid sizes (take (sizes .frames) frames) (now accounts) (now limits) (now parents) (now addresses) (now states) (now used) ⌝ }
-    ensures answer { λ r. ⌜ r .answer ≡ own sizes (enteredTruncate (take (sizes .frames) frames) numbers accounts limits parents «free_queue» «removal_list» addresses states active used) (truncate slot k) .answer ⌝ }
-    ensures frames { λ r. ⌜ take (sizes .frames) (r .frames) ≡ own sizes (enteredTruncate (take (sizes .frames) frames) numbers accounts limits parents «free_queue» «removal_list» addresses states active used) (truncate slot k) .left .memory .core .frames ⌝ }
-    ensures free_queue { λ r. ⌜ now («free_queue» .exit) ≡ own sizes (enteredTruncate (take (sizes .frames) frames) numbers accounts limits parents «free_queue» «removal_list» addresses states active used) (truncate slot k) .left .memory .core .free-queue ⌝ }
-    ensures removal_list { λ r. ⌜ now («removal_list» .exit) ≡ own sizes (enteredTruncate (take (sizes .frames) frames) numbers accounts limits parents «free_queue» «removal_list» addresses states active used) (truncate slot k) .left .memory .core .removal-list ⌝ }
-    ensures addresses { λ r. ⌜ now (addresses .exit) ≡ own sizes (enteredTruncate (take (sizes .frames) frames) numbers accounts limits parents «free_queue» «removal_list» addresses states active used) (truncate slot k) .left .memory .held .addresses ⌝ }
-    ensures states { λ r. ⌜ now (states .exit) ≡ own sizes (enteredTruncate (take (sizes .frames) frames) numbers accounts limits parents «free_queue» «removal_list» addresses states active used) (truncate slot k) .left .memory .held .states ⌝ }
-    ensures used { λ r. ⌜ now (used .exit) ≡ usedLeft sizes (enteredTruncate (take (sizes .frames) frames) numbers accounts limits parents «free_queue» «removal_list» addresses states active used) slot k ⌝ }
+        × Paid sizes (framesGiven sizes frames) (now accounts) (now limits) (now parents) (now addresses) (now states) (now used) ⌝ }
+    ensures answer { λ r. ⌜ r ≡ own sizes (enteredTruncate (framesEntered sizes frames) numbers accounts limits parents «free_queue» «removal_list» addresses states active used) (truncate slot k) .answer ⌝ }
+    ensures frames { λ r. ⌜ framesLeft sizes frames ≡ own sizes (enteredTruncate (framesEntered sizes frames) numbers accounts limits parents «free_queue» «removal_list» addresses states active used) (truncate slot k) .left .memory .core .frames ⌝ }
+    ensures free_queue { λ r. ⌜ now («free_queue» .exit) ≡ own sizes (enteredTruncate (framesEntered sizes frames) numbers accounts limits parents «free_queue» «removal_list» addresses states active used) (truncate slot k) .left .memory .core .free-queue ⌝ }
+    ensures removal_list { λ r. ⌜ now («removal_list» .exit) ≡ own sizes (enteredTruncate (framesEntered sizes frames) numbers accounts limits parents «free_queue» «removal_list» addresses states active used) (truncate slot k) .left .memory .core .removal-list ⌝ }
+    ensures addresses { λ r. ⌜ now (addresses .exit) ≡ own sizes (enteredTruncate (framesEntered sizes frames) numbers accounts limits parents «free_queue» «removal_list» addresses states active used) (truncate slot k) .left .memory .held .addresses ⌝ }
+    ensures states { λ r. ⌜ now (states .exit) ≡ own sizes (enteredTruncate (framesEntered sizes frames) numbers accounts limits parents «free_queue» «removal_list» addresses states active used) (truncate slot k) .left .memory .held .states ⌝ }
+    ensures used { λ r. ⌜ now (used .exit) ≡ usedLeft sizes (enteredTruncate (framesEntered sizes frames) numbers accounts limits parents «free_queue» «removal_list» addresses states active used) slot k ⌝ }
 {
     let refusal = ask_truncate(sizes, slot, k, frames, numbers, active);
     if refusal != 0 {
-        return answered(frames, refusal, 0);
+        return Answer { refusal, result: 0 };
     }
-    let count = sizes.frames;
-    let pages = sizes.pages;
-    let n = charges(count, pages, slot, k, frames, addresses, states);
+    let n = free_frames(
+        sizes,
+        slot,
+        k,
+        frames,
+        addresses,
+        states,
+        free_queue,
+        removal_list,
+    );
     uncharge(used, accounts, limits, parents, slot, n);
-    free_frames(count, pages, slot, k, frames, free_queue, removal_list);
     release_from(sizes, states, addresses, slot, k);
-    clear_from(addresses, pages, slot, k);
-    answered(clear_frames(count, pages, slot, k, frames), 0, 0)
+    clear_from(addresses, sizes.pages, slot, k);
+    clear_frames(sizes.frames, sizes.pages, slot, k, frames);
+    Answer { refusal, result: 0 }
 }

@@ -1,7 +1,7 @@
 // Update: a slot's map image is made, and the records that its design gives up leave.
 ghost use mathlib.Core.Path.{_≡_};
 ghost use Prim.Native.Nat.{_+_, _*_, _/_, _<_, _≤_};
-ghost use lib.ListN.{length, take};
+ghost use lib.ListN.{length};
 ghost use Rattle.tables.specs.Base.{at};
 ghost use Rattle.tables.specs.Questions.{firstNo};
 ghost use Rattle.tables.specs.Rule.{Holds, same};
@@ -10,6 +10,7 @@ ghost use Rattle.model.specs.Own.{own};
 ghost use Rattle.model.specs.Questions.{questions};
 ghost use Rattle.model.specs.State.{allPages};
 ghost use Rattle.leaves.specs.Addresses.{liveAddress};
+ghost use Rattle.leaves.specs.Packed.{unpacked, framesEntered};
 ghost use Rattle.writeback.specs.Needs.{Sized, Addressed};
 ghost use Rattle.writeback.specs.Seen.{update, enteredUpdate, askedUpdate};
 ghost use Rattle.writeback.specs.Update.{leaving, PagesGiven, PagesLeft};
@@ -18,11 +19,10 @@ use leaves::asks::ask_idle;
 use leaves::cells::at8;
 use leaves::cells::at16;
 use leaves::cells::put8;
-use leaves::frames::frame_of;
+use leaves::packed::frame_of;
 use leaves::states::move_all;
 use leaves::states::move_record;
 use model::event::Answer;
-use model::frame::Frame;
 use model::lines::LEAVING;
 use model::lines::NULLED;
 use model::lines::RELEASED;
@@ -49,9 +49,9 @@ fn fill_image(pages: usize, slot: usize, addresses: &[u16], states: &[u8], image
 }
 
 // A page's address where its record is nulled and it is in no frame, else 0.
-fn leaving_of(count: usize, frames: [Frame; 64], addresses: &[u16], states: &[u8], i: usize) -> u16
+fn leaving_of(count: usize, frames: &[u64], addresses: &[u16], states: &[u8], i: usize) -> u16
     requires { ⌜ (count < 65) × (i < 65535) ⌝ }
-    ensures { λ r. ⌜ Split (Holds (leaving count frames (now (addresses .entry)) (now (states .entry)) i)) r (at (now (addresses .entry)) i) 0 ⌝ }
+    ensures { λ r. ⌜ Split (Holds (leaving count (unpacked (now (frames .entry))) (now (addresses .entry)) (now (states .entry)) i)) r (at (now (addresses .entry)) i) 0 ⌝ }
 {
     let address = at16(addresses, i);
     if address == 0 {
@@ -67,15 +67,9 @@ fn leaving_of(count: usize, frames: [Frame; 64], addresses: &[u16], states: &[u8
 }
 
 // These pages of the slot lose their address, and their records leave.
-fn leave_pages(
-    sizes: Sizes,
-    slot: usize,
-    frames: [Frame; 64],
-    addresses: &mut [u16],
-    states: &mut [u8],
-)
+fn leave_pages(sizes: Sizes, slot: usize, frames: &[u64], addresses: &mut [u16], states: &mut [u8])
     requires { ⌜ PagesGiven sizes slot addresses states ⌝ }
-    ensures { λ _. ⌜ PagesLeft sizes slot frames addresses states ⌝ }
+    ensures { λ _. ⌜ PagesLeft sizes slot (unpacked (now (frames .entry))) addresses states ⌝ }
 {
     let pages = sizes.pages;
     let end = slot * pages + pages;
@@ -93,7 +87,7 @@ fn leave_pages(
 pub fn update(
     sizes: Sizes,
     slot: usize,
-    frames: [Frame; 64],
+    frames: &[u64],
     numbers: &[u32],
     addresses: &mut [u16],
     states: &mut [u8],
@@ -103,11 +97,11 @@ pub fn update(
     images: &mut [u16],
 ) -> Answer
     requires { ⌜ Sized sizes × Addressed sizes (now addresses) (now states) × (length (now owners) ≡ length (now states)) × (length (now images) ≡ allPages sizes) ⌝ }
-    ensures answer { λ r. ⌜ r ≡ own sizes (enteredUpdate (take (sizes .frames) frames) numbers addresses states owners active updating images) (update slot) .answer ⌝ }
-    ensures addresses { λ r. ⌜ now (addresses .exit) ≡ own sizes (enteredUpdate (take (sizes .frames) frames) numbers addresses states owners active updating images) (update slot) .left .memory .held .addresses ⌝ }
-    ensures states { λ r. ⌜ now (states .exit) ≡ own sizes (enteredUpdate (take (sizes .frames) frames) numbers addresses states owners active updating images) (update slot) .left .memory .held .states ⌝ }
-    ensures updating { λ r. ⌜ now (updating .exit) ≡ own sizes (enteredUpdate (take (sizes .frames) frames) numbers addresses states owners active updating images) (update slot) .left .memory .slots .updating ⌝ }
-    ensures images { λ r. ⌜ now (images .exit) ≡ own sizes (enteredUpdate (take (sizes .frames) frames) numbers addresses states owners active updating images) (update slot) .left .memory .slots .images ⌝ }
+    ensures answer { λ r. ⌜ r ≡ own sizes (enteredUpdate (framesEntered sizes frames) numbers addresses states owners active updating images) (update slot) .answer ⌝ }
+    ensures addresses { λ r. ⌜ now (addresses .exit) ≡ own sizes (enteredUpdate (framesEntered sizes frames) numbers addresses states owners active updating images) (update slot) .left .memory .held .addresses ⌝ }
+    ensures states { λ r. ⌜ now (states .exit) ≡ own sizes (enteredUpdate (framesEntered sizes frames) numbers addresses states owners active updating images) (update slot) .left .memory .held .states ⌝ }
+    ensures updating { λ r. ⌜ now (updating .exit) ≡ own sizes (enteredUpdate (framesEntered sizes frames) numbers addresses states owners active updating images) (update slot) .left .memory .slots .updating ⌝ }
+    ensures images { λ r. ⌜ now (images .exit) ≡ own sizes (enteredUpdate (framesEntered sizes frames) numbers addresses states owners active updating images) (update slot) .left .memory .slots .images ⌝ }
 {
     let refusal = ask_update(sizes, slot, numbers, active, updating);
     if refusal != 0 {

@@ -1,10 +1,10 @@
 -- `waiting_event` meets its contract: a join's line is the whole outcome's, and a turn's outcome is the event's.
 use borrow.Author.Needs.{needs}
 use mathlib.Core.Path.{refl}
-use lib.ListN.{take}
 use Rattle.model.specs.State.{State}
 use Rattle.model.specs.Lent.{allGiven}
 use Rattle.model.specs.Pool.{taken, deposited}
+use Rattle.leaves.specs.Packed.{framesGiven}
 use Rattle.waiting.proofs.Joined.{join-own}
 use Rattle.waiting.proofs.waiting_event.Statement.{statement}
 use Rattle.waiting.proofs.waiting_event.Tie as tie
@@ -13,7 +13,7 @@ use Rattle.waiting.proofs.waiting_event.Tie as tie
 abbrev lent : tie.Start → State
 lent s =
     let a = s .args in
-    allGiven (take (a .sizes .frames) (a .frames)) (a .pool) (a .records) (a .numbers) (a .accounts) (a .maps) (a .limits) (a .parents) (a .frame-words) (a .free-queue) (a .removal-list)
+    allGiven (framesGiven (a .sizes) (a .frames)) (a .pool) (a .records) (a .numbers) (a .accounts) (a .maps) (a .limits) (a .parents) (a .frame-words) (a .free-queue) (a .removal-list)
     (a .addresses) (a .states) (a .owners) (a .free-map) (a .active) (a .updating) (a .images) (a .line) (a .used)
 
 join-requires : tie.Need-join-requires
@@ -46,6 +46,7 @@ waiting-event-spec =
     turn-requires
     (λ c. search needs)
     returns
+    (λ c. search needs)
     (λ c. search needs)
     (λ c. search needs)
     (λ c. search needs)

@@ -7,6 +7,7 @@ use native.Mathlib.Omega.{arith}
 use lib.ListN.{length-replicate}
 use Rattle.tables.specs.Laws.{at-zeros}
 use Rattle.model.specs.Bounds.{pages-most}
+use Rattle.leaves.specs.Packed.{unpacked}
 use Rattle.accounts.proofs.Counted.{payers-enough, payers-few, pages-inside, sums-few, counts}
 use Rattle.accounts.proofs.count.count_used.Statement.{statement}
 use Rattle.accounts.proofs.count.count_used.Tie as tie
@@ -27,8 +28,8 @@ count-slots-requires : tie.Need-count-slots-requires
 count-slots-requires c κs =
     let p : tie.After-fill-payers = search in
     let s = begun p in let a = s .args in let k = s .pre .0 in
-    let who = payers-few (a .z) (a .frames) (a .accounts .now) (a .maps .now) (a .limits .now) (a .parents .now) (a .addresses .now) (a .states .now) (a .active .now) k (payers p) _ (length-replicate {A = ℕ} 64 0) (p .fill-payers .ensures) in
-    let many = payers-enough (a .z) (a .frames) (a .accounts .now) (a .maps .now) (a .limits .now) (a .parents .now) (a .addresses .now) (a .states .now) (a .active .now) k (payers p) _ (length-replicate {A = ℕ} 64 0) (p .fill-payers .ensures) in (
+    let who = payers-few (a .z) (unpacked (a .frames .now)) (a .accounts .now) (a .maps .now) (a .limits .now) (a .parents .now) (a .addresses .now) (a .states .now) (a .active .now) k (payers p) _ (length-replicate {A = ℕ} 64 0) (p .fill-payers .ensures) in
+    let many = payers-enough (a .z) (unpacked (a .frames .now)) (a .accounts .now) (a .maps .now) (a .limits .now) (a .parents .now) (a .addresses .now) (a .states .now) (a .active .now) k (payers p) _ (length-replicate {A = ℕ} 64 0) (p .fill-payers .ensures) in (
       k .within .pages,
       many,
       omega (arith, k .active-long),
@@ -48,11 +49,11 @@ count-frames-requires c κs =
     let s = begun p in let a = s .args in let k = s .pre .0 in (
       omega (arith, k .within .frames-most),
       k .within .pages,
-      pages-inside (a .z) (a .frames) (a .accounts .now) (a .maps .now) (a .limits .now) (a .parents .now) (a .addresses .now) (a .states .now) (a .active .now) k (payers p) _ (length-replicate {A = ℕ} 64 0) (p .fill-payers .ensures),
+      pages-inside (a .z) (unpacked (a .frames .now)) (a .accounts .now) (a .maps .now) (a .limits .now) (a .parents .now) (a .addresses .now) (a .states .now) (a .active .now) k (payers p) _ (length-replicate {A = ℕ} 64 0) (p .fill-payers .ensures),
       rw (k .addresses-long, k .states-long) (k .address-fit),
-      payers-few (a .z) (a .frames) (a .accounts .now) (a .maps .now) (a .limits .now) (a .parents .now) (a .addresses .now) (a .states .now) (a .active .now) k (payers p) _ (length-replicate {A = ℕ} 64 0) (p .fill-payers .ensures),
+      payers-few (a .z) (unpacked (a .frames .now)) (a .accounts .now) (a .maps .now) (a .limits .now) (a .parents .now) (a .addresses .now) (a .states .now) (a .active .now) k (payers p) _ (length-replicate {A = ℕ} 64 0) (p .fill-payers .ensures),
       u .count-slots .kept .1 .1 .0 ∙ s .pre .1,
-      sums-few (a .z) (a .frames) (a .accounts .now) (a .maps .now) (a .limits .now) (a .parents .now) (a .addresses .now) (a .states .now) (a .active .now) k (payers p) _ (length-replicate {A = ℕ} 64 0) (p .fill-payers .ensures) (u .count-slots .last .1 .1 .0) (u .count-slots .ensures),
+      sums-few (a .z) (unpacked (a .frames .now)) (a .accounts .now) (a .maps .now) (a .limits .now) (a .parents .now) (a .addresses .now) (a .states .now) (a .active .now) k (payers p) _ (length-replicate {A = ℕ} 64 0) (p .fill-payers .ensures) (u .count-slots .last .1 .1 .0) (u .count-slots .ensures),
     )
 
 returns : tie.Need-returns
@@ -61,7 +62,7 @@ returns c =
     let u : tie.After-count-slots = search in
     let v : tie.After-count-frames = search in
     let s = begun p in let a = s .args in
-    counts (a .z) (a .frames) (a .accounts .now) (a .maps .now) (a .limits .now) (a .parents .now) (a .addresses .now) (a .states .now) (a .active .now) (s .pre .0) (payers p) _ (length-replicate {A = ℕ} 64 0) (p .fill-payers .ensures)
+    counts (a .z) (unpacked (a .frames .now)) (a .accounts .now) (a .maps .now) (a .limits .now) (a .parents .now) (a .addresses .now) (a .states .now) (a .active .now) (s .pre .0) (payers p) _ (length-replicate {A = ℕ} 64 0) (p .fill-payers .ensures)
     (u .count-slots .last .1 .1 .0) (v .count-frames .last .1 .1 .0) (u .count-slots .ensures) (v .count-frames .ensures)
 
 pub count-used-spec : {M : Type 1} → statement M

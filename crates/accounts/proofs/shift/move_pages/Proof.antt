@@ -20,6 +20,7 @@ use Rattle.model.specs.Setters.{counted}
 use Rattle.model.specs.Questions.{questions}
 use Rattle.model.specs.Own.{first-yes, first-no}
 use Rattle.model.specs.OwnLaws.{own-no}
+use Rattle.leaves.specs.Packed.{unpacked}
 use Rattle.accounts.specs.Seen.{seen}
 use Rattle.accounts.specs.Asks.{firstAsked, kin, enough}
 use Rattle.accounts.proofs.Carried.{carried-out, move-limits, move-used, usedThen, used-told, used-alike, at-shifted, back, first-refused, enough-alike}
@@ -27,7 +28,7 @@ use Rattle.accounts.proofs.shift.move_pages.Statement.{statement}
 use Rattle.accounts.proofs.shift.move_pages.Tie as tie
 
 abbrev state : tie.Start → State
-state s = let a = s .args in seen (take (a .sizes .frames) (a .frames)) (a .accounts .now) (a .maps .now) (a .limits .now) (a .parents .now) (a .addresses .now) (a .states .now) (a .active .now) (a .used .now)
+state s = let a = s .args in seen (take (a .sizes .frames) (unpacked (a .frames .now))) (a .accounts .now) (a .maps .now) (a .limits .now) (a .parents .now) (a .addresses .now) (a .states .now) (a .active .now) (a .used .now)
 
 abbrev event : tie.Start → Account
 event s = Move (s .args .giver) (s .args .taker) (s .args .pages)
@@ -89,8 +90,8 @@ module _ (c : tie.After-count-used) where
   -- the counts are those that the move leaves
   counted-so : tab (length (start .args .used .now)) (at totals) 0 ≡ usedThen (start .args .sizes) (state start) (shifted (start .args .limits .now) (start .args .giver) (start .args .taker) (start .args .pages))
   counted-so = let a = start .args in let z = a .sizes in
-      used-told z (take (z .frames) (a .frames)) (a .accounts .now) (a .maps .now) (a .limits .now) (a .parents .now) (a .addresses .now) (a .states .now) (a .active .now) (a .used .now) wanted totals (start .pre .used-long) few (c .count-used .ensures)
-      ∙ used-alike z (take (z .frames) (a .frames)) (a .accounts .now) (a .maps .now) (a .limits .now) (a .parents .now) (a .addresses .now) (a .states .now) (a .active .now) (a .used .now) wanted (shifted (a .limits .now) (a .giver) (a .taker) (a .pages)) wanted-at
+      used-told z (take (z .frames) (unpacked (a .frames .now))) (a .accounts .now) (a .maps .now) (a .limits .now) (a .parents .now) (a .addresses .now) (a .states .now) (a .active .now) (a .used .now) wanted totals (start .pre .used-long) few (c .count-used .ensures)
+      ∙ used-alike z (take (z .frames) (unpacked (a .frames .now))) (a .accounts .now) (a .maps .now) (a .limits .now) (a .parents .now) (a .addresses .now) (a .states .now) (a .active .now) (a .used .now) wanted (shifted (a .limits .now) (a .giver) (a .taker) (a .pages)) wanted-at
 
   -- question 26
   abbrev after : State

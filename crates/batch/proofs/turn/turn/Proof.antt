@@ -1,10 +1,10 @@
 -- `turn` meets its contract: after a yes to questions 1 and 2 the request's own questions answer it.
 use borrow.Author.Needs.{needs}
-use mathlib.Core.Path.{sym, ap, _∙_}
-use lib.ListN.{take}
+use mathlib.Core.Path.{refl, sym, ap, _∙_}
 use Rattle.model.specs.State.{State}
 use Rattle.model.specs.Lent.{allGiven}
-use Rattle.model.specs.Pool.{deposited}
+use Rattle.model.specs.Pool.{taken, deposited}
+use Rattle.leaves.specs.Packed.{framesGiven}
 use Rattle.batch.proofs.Turning.{turned-unknown, turned-known}
 use Rattle.batch.proofs.turn.turn.Statement.{statement}
 use Rattle.batch.proofs.turn.turn.Tie as tie
@@ -13,7 +13,7 @@ use Rattle.batch.proofs.turn.turn.Tie as tie
 abbrev lent : tie.Start → State
 lent s =
     let a = s .args in
-    allGiven (take (a .sizes .frames) (a .held .frames)) (a .held .pool) (a .records) (a .numbers) (a .accounts) (a .maps) (a .limits) (a .parents)
+    allGiven (framesGiven (a .sizes) (a .frames)) (a .last .pool) (a .records) (a .numbers) (a .accounts) (a .maps) (a .limits) (a .parents)
     (a .frame-words) (a .free-queue) (a .removal-list) (a .addresses) (a .states) (a .owners) (a .free-map) (a .active) (a .updating) (a .images) (a .line) (a .used)
 
 -- from the request back to the start; from the work back to the decoded event; from the end back to the work
@@ -23,26 +23,27 @@ start q = search
 abbrev known : tie.After-carry → tie.After-decoded
 known w = search
 
-abbrev over : tie.After-slice-known37 → tie.After-answer
+abbrev over : tie.After-slice-known39 → tie.After-answer
 over c = search
 
 abbrev ended : tie.After-answer → tie.After-carry
 ended c = search
 
-abbrev worked : tie.After-slice-known37 → tie.After-carry
+abbrev worked : tie.After-slice-known39 → tie.After-carry
 worked c = ended (over c)
 
 abbrev begun : tie.After-carry → tie.Start
 begun w = start (known w .before .before .before .before)
 
 returns : tie.Need-returns
+unfolding taken deposited
 returns c =
     let p : tie.After-put-answer = search in
     let e : tie.After-enum-told = search in
     let q = e .before .before .before in
     let s = start (q .before) in
     let a = s .args in
-    turned-unknown (a .sizes) (a .requests .now) (a .answers .now) (a .k) (a .held .answer) (lent s) (s .pre .2) _ (q .request-at .ensures) (sym (e .enum-told .given .1) ∙ e .before .before .decode .ensures .0) (p .put-answer .ensures)
+    (turned-unknown (a .sizes) (a .requests .now) (a .answers .now) (a .k) (a .last .answer) (lent s) (s .pre .2) _ (q .request-at .ensures) (sym (e .enum-told .given .1) ∙ e .before .before .decode .ensures .0) (p .put-answer .ensures), refl)
 
 carry-requires : tie.Need-carry-requires
 carry-requires c κs =
@@ -64,8 +65,11 @@ returns-2 c =
     let q = k .before .before .before in
     let s = start (q .before) in
     let a = s .args in
-    turned-known (a .sizes) (a .requests .now) (a .answers .now) (a .k) (a .held .answer) (lent s) (s .pre .2) _ _ _ (q .request-at .ensures) (sym (k .decoded .given .1) ∙ k .before .before .decode .ensures .0)
-    (w .carry .ensures) (d .deposit .ensures ∙ ap (deposited (w .carry .result .deposited)) (t .take .ensures)) (p .put-answer2 .ensures)
+    let e = d .deposit .ensures ∙ ap (deposited (w .carry .result .deposited)) (t .take .ensures) in (
+      turned-known (a .sizes) (a .requests .now) (a .answers .now) (a .k) (a .last .answer) (lent s) (s .pre .2) _ _ _ (q .request-at .ensures) (sym (k .decoded .given .1) ∙ k .before .before .decode .ensures .0)
+          (w .carry .ensures) e (p .put-answer2 .ensures),
+      e,
+    )
 
 pub turn-spec : {M : Type 1} → statement M
 turn-spec =
@@ -83,6 +87,7 @@ turn-spec =
     (λ c κs. search needs)
     put-answer-requires-2
     (λ c. let p : tie.After-put-answer2 = search in p .put-answer2 .kept .0)
+    (λ c. worked c .carry .kept .1 .1 .0)
     (λ c. worked c .carry .kept .1 .1 .1 .1 .0)
     (λ c. worked c .carry .kept .1 .1 .1 .1 .1 .0)
     (λ c. worked c .carry .kept .1 .1 .1 .1 .1 .1 .0)

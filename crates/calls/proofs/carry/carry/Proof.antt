@@ -1,11 +1,11 @@
 -- `carry` meets its contract: each family's outcome is the event's.
 use borrow.Author.Needs.{needs}
 use mathlib.Core.Path.{refl}
-use lib.ListN.{take}
 use Rattle.model.specs.declared.event.Event.the-variants as Event
 use Rattle.model.specs.State.{State}
 use Rattle.model.specs.Lent.{allGiven, given}
 use Rattle.model.specs.Pool.{taken, deposited}
+use Rattle.leaves.specs.Packed.{framesGiven}
 use Rattle.dispatch.specs.Beside.{kept-alone, leaves-beside}
 use Rattle.calls.proofs.carry.carry.Statement.{statement}
 use Rattle.calls.proofs.carry.carry.Tie as tie
@@ -43,13 +43,13 @@ start4 k = search
 abbrev lent : tie.Start → State
 lent s =
     let a = s .args in
-    allGiven (take (a .sizes .frames) (a .frames)) (a .pool) (a .records) (a .numbers) (a .accounts) (a .maps) (a .limits) (a .parents) (a .frame-words) (a .free-queue) (a .removal-list)
+    allGiven (framesGiven (a .sizes) (a .frames)) (a .pool) (a .records) (a .numbers) (a .accounts) (a .maps) (a .limits) (a .parents) (a .frame-words) (a .free-queue) (a .removal-list)
     (a .addresses) (a .states) (a .owners) (a .free-map) (a .active) (a .updating) (a .images) (a .line) (a .used)
 
 abbrev alone : tie.Start → State
 alone s =
     let a = s .args in
-    given (take (a .sizes .frames) (a .frames)) (a .pool) (a .records) (a .numbers) (a .accounts) (a .maps) (a .limits) (a .parents) (a .frame-words) (a .free-queue) (a .removal-list)
+    given (framesGiven (a .sizes) (a .frames)) (a .pool) (a .records) (a .numbers) (a .accounts) (a .maps) (a .limits) (a .parents) (a .frame-words) (a .free-queue) (a .removal-list)
     (a .addresses) (a .states) (a .owners) (a .free-map) (a .active) (a .updating) (a .images) (a .used)
 
 design-event-requires : tie.Need-design-event-requires
@@ -113,6 +113,7 @@ carry-spec =
     (λ c. search needs)
     waiting-event-requires
     (λ c. refl)
+    (λ c. refl)
     (λ c. let w : tie.After-design-event = search in w .design-event .kept .1 .1 .1 .1 .1 .0)
     (λ c. let w : tie.After-design-event = search in w .design-event .kept .1 .1 .1 .1 .1 .1 .0)
     (λ c. refl)
@@ -133,6 +134,7 @@ carry-spec =
     (λ c. refl)
     (λ c. refl)
     (λ c. refl)
+    (λ c. refl)
     (λ c. let w : tie.After-account-event = search in w .account-event .kept .1 .1 .1 .1 .1 .1 .1 .1 .0)
     (λ c. refl)
     (λ c. refl)
@@ -146,6 +148,7 @@ carry-spec =
     (λ c. refl)
     (λ c. let w : tie.After-account-event = search in w .account-event .kept .1 .1 .1 .1 .1 .1 .1 .1 .1 .1 .1 .1 .1 .1 .1 .1 .1 .1 .1 .1 .0)
     returns-2
+    (λ c. let w : tie.After-page-event = search in w .page-event .kept .1 .1 .0)
     (λ c. refl)
     (λ c. refl)
     (λ c. refl)
@@ -163,6 +166,7 @@ carry-spec =
     (λ c. refl)
     (λ c. let w : tie.After-page-event = search in w .page-event .kept .1 .1 .1 .1 .1 .1 .1 .1 .1 .1 .1 .1 .1 .1 .1 .1 .1 .1 .1 .1 .0)
     returns-3
+    (λ c. let w : tie.After-writeback-event = search in w .writeback-event .kept .1 .1 .0)
     (λ c. let w : tie.After-writeback-event = search in w .writeback-event .kept .1 .1 .1 .1 .0)
     (λ c. refl)
     (λ c. refl)
@@ -180,6 +184,7 @@ carry-spec =
     (λ c. let w : tie.After-writeback-event = search in w .writeback-event .kept .1 .1 .1 .1 .1 .1 .1 .1 .1 .1 .1 .1 .1 .1 .1 .1 .1 .1 .1 .0)
     (λ c. let w : tie.After-writeback-event = search in w .writeback-event .kept .1 .1 .1 .1 .1 .1 .1 .1 .1 .1 .1 .1 .1 .1 .1 .1 .1 .1 .1 .1 .0)
     returns-4
+    (λ c. let w : tie.After-waiting-event = search in w .waiting-event .kept .1 .1 .0)
     (λ c. refl)
     (λ c. refl)
     (λ c. refl)

@@ -13,6 +13,7 @@ use Rattle.model.specs.Lent.{allGiven}
 use Rattle.model.specs.Step.{allFit}
 use Rattle.model.specs.Fit.{fit}
 use Rattle.model.specs.Calls.{framesOf}
+use Rattle.leaves.specs.Packed.{unpacked}
 use Rattle.calls.specs.Frames.{lent-first}
 use Rattle.calls.specs.Common.{common-gives, unfit-part}
 use Rattle.calls.specs.Looking.{seats, placed-part}
@@ -46,22 +47,39 @@ returns c =
 passed : (c : tie.Else1) → (let s = start (c .before) in Holds (allFit (s .args .sizes) (lent s)) × Holds (allRules (s .args .sizes) (lent s)))
 passed c = let s = start (c .before) in common-gives (s .args .sizes) (lent s) (sym (c .before .common .ensures) ∙ c .if1 .left)
 
+pack-first-requires : tie.Need-pack-first-requires
+pack-first-requires c κs =
+    let k : tie.Else1 = search in
+    let s = start (k .before) in
+    omega (arith, fit (s .args .sizes) (lent s) (passed k .0) .sizes .frames-most)
+
+-- the frames that are packed are the first F
+same : (p : tie.After-pack-first) → (let k : tie.Else1 = search in let s = start (k .before) in framesOf (s .args .frames) (s .args .lent) ≡ take (s .args .sizes .frames) (unpacked (p .pack-first .result)))
+same p =
+    let k : tie.Else1 = search in
+    let s = start (k .before) in
+    first s (passed k .0) ∙ sym (p .pack-first .ensures)
+
 place-requires : tie.Need-place-requires
 place-requires c κs =
-    let s = start (c .before) in
-    let g = passed c in
-    seats (s .args .sizes) (lent s) (g .0) (g .1) (take (s .args .sizes .frames) (s .args .frames)) (first s (g .0))
+    let p : tie.After-pack-first = search in
+    let k : tie.Else1 = search in
+    let s = start (k .before) in
+    let g = passed k in
+    seats (s .args .sizes) (lent s) (g .0) (g .1) (take (s .args .sizes .frames) (unpacked (p .pack-first .result))) (same p)
 
 returns-2 : tie.Need-returns-2
 returns-2 c =
-    let k = c .before in
+    let w : tie.After-place = search in
+    let p : tie.After-pack-first = search in
+    let k : tie.Else1 = search in
     let s = start (k .before) in
     let a = s .args in
     let g = passed k in
-    let w : length (a .frame-words .now) ≡ a .sizes .frames * a .sizes .words = fit (a .sizes) (lent s) (g .0) .memory .words in (
-      placed-part (a .sizes) (lent s) (a .slot) (a .page) (take (a .sizes .frames) (a .frames)) (first s (g .0)) (sym (k .before .common .ensures) ∙ k .if1 .left) (c .place .result) (c .place .ensures .0),
-      omega (arith, w, c .place .ensures .1),
+    let l : length (a .frame-words .now) ≡ a .sizes .frames * a .sizes .words = fit (a .sizes) (lent s) (g .0) .memory .words in (
+      placed-part (a .sizes) (lent s) (a .slot) (a .page) (take (a .sizes .frames) (unpacked (p .pack-first .result))) (same p) (sym (k .before .common .ensures) ∙ k .if1 .left) (w .place .result) (w .place .ensures .0),
+      omega (arith, l, w .place .ensures .1),
     )
 
 pub place-core-spec : {M : Type 1} → statement M
-place-core-spec = tie.close (tie.spec (λ c κs. search needs) returns place-requires returns-2)
+place-core-spec = tie.close (tie.spec (λ c κs. search needs) returns pack-first-requires (λ c. search needs) place-requires returns-2)

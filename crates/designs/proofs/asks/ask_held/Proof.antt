@@ -8,6 +8,7 @@ use Rattle.tables.specs.Rule.{Rule, Holds}
 use Rattle.tables.specs.Turn.{said-yes, said-no}
 use Rattle.model.specs.Own.{first-yes, first-no}
 use Rattle.model.specs.Bounds.{slot-most}
+use Rattle.leaves.specs.Packed.{unpacked}
 use Rattle.designs.specs.Asks.{unframed, trueMap, settled}
 use Rattle.designs.proofs.Tests.{unframed-taken}
 use Rattle.designs.proofs.asks.ask_held.Statement.{statement}
@@ -15,7 +16,7 @@ use Rattle.designs.proofs.asks.ask_held.Tie as tie
 
 -- 11, and the two halves of 12
 abbrev out : tie.Start → Rule
-out s = let a = s .args in unframed (a .sizes .frames) (take (a .sizes .frames) (a .frames)) (a .sizes .pages) (a .slot)
+out s = let a = s .args in unframed (a .sizes .frames) (take (a .sizes .frames) (unpacked (a .frames .now))) (a .sizes .pages) (a .slot)
 
 abbrev true-map : tie.Start → Rule
 true-map s = let a = s .args in trueMap (a .maps .now) (a .addresses .now) (a .states .now) (a .sizes .pages) (a .slot)
@@ -25,7 +26,7 @@ at-rest s = let a = s .args in settled (a .sizes .records) (a .states .now) (a .
 
 none-framed-requires : tie.Need-none-framed-requires
 none-framed-requires c κs = let s : tie.Start = search in
-    (omega (arith, s .pre .0 .frames-most), omega (arith, slot-most (s .args .sizes) (s .pre .0) (s .args .slot) (s .pre .1)))
+    omega (arith, slot-most (s .args .sizes) (s .pre .0) (s .args .slot) (s .pre .1))
 
 map-true-requires : tie.Need-map-true-requires
 map-true-requires c κs = let s : tie.Start = search in
@@ -35,7 +36,7 @@ returns : tie.Need-returns
 returns c =
     let s : tie.Start = search in
     let a = s .args in
-    let u = c .before .none-framed .ensures ∙ unframed-taken (a .sizes .frames) (a .frames) (a .sizes .pages) (a .slot) in
+    let u = c .before .none-framed .ensures ∙ unframed-taken (a .sizes .frames) (unpacked (a .frames .now)) (a .sizes .pages) (a .slot) in
     sym (first-no 11 _ _ (said-no (out s) u (c .if1 .left)))
 
 -- no page of the slot in a frame, once the first pass is over
@@ -45,7 +46,7 @@ start t = search
 none-in : (t : tie.Then1) → Holds (out (start t))
 none-in t =
     let a = start t .args in
-    said-yes (out (start t)) (t .before .none-framed .ensures ∙ unframed-taken (a .sizes .frames) (a .frames) (a .sizes .pages) (a .slot)) (t .if1 .taken)
+    said-yes (out (start t)) (t .before .none-framed .ensures ∙ unframed-taken (a .sizes .frames) (unpacked (a .frames .now)) (a .sizes .pages) (a .slot)) (t .if1 .taken)
 
 returns-2 : tie.Need-returns-2
 returns-2 c =

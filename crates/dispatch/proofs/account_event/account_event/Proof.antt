@@ -1,7 +1,7 @@
 -- `account_event` meets its contract: each arm hands on what questions 1 and 2 give, and its event's outcome over all tables.
 use borrow.Author.Needs.{needs}
 use mathlib.Core.Path.{refl}
-use Rattle.dispatch.proofs.AccountLaws.{account-ready, limit-own, move-own}
+use Rattle.dispatch.proofs.AccountLaws.{account-ready, limit-ready, limit-own, move-own}
 use Rattle.dispatch.proofs.account_event.account_event.Statement.{statement}
 use Rattle.dispatch.proofs.account_event.account_event.Tie as tie
 
@@ -15,7 +15,7 @@ start2 m = search
 limit-requires : tie.Need-limit-requires
 limit-requires c κs =
     let s : tie.Start = search in
-    account-ready _ _ (s .pre)
+    limit-ready _ _ (s .pre)
 
 move-pages-requires : tie.Need-move-pages-requires
 move-pages-requires c κs =

@@ -44,25 +44,25 @@ returns : tie.Need-returns
 unfolding taken deposited
 returns c =
     let k : tie.After-claim = search in let m : tie.After-enum-told = search in
-    let d = k .claim .ensures in rw (m .enum-told .given .1, c .framed .ensures) (claim-own _ _ (start-told m .pre) d)
+    let d = k .claim .ensures in rw (m .enum-told .given .1, c .told .ensures) (claim-own _ _ (start-told m .pre) d)
 
 returns-2 : tie.Need-returns-2
 unfolding taken deposited
 returns-2 c =
     let k : tie.After-truncate = search in let m : tie.After-event = search in
-    let d = k .truncate .ensures in rw (m .event .given .1, c .framed2 .ensures) (truncate-own _ _ (start m .pre) _ _ d)
+    let d = k .truncate .ensures in rw (m .event .given .1, c .told2 .ensures) (truncate-own _ _ (start m .pre) _ _ d)
 
 returns-3 : tie.Need-returns-3
 unfolding taken deposited
 returns-3 c =
     let k : tie.After-update = search in let m : tie.After-event2 = search in
-    let d = k .update .ensures in rw (m .event2 .given .1, c .told .ensures) (update-own _ _ (start2 m .pre) _ d)
+    let d = k .update .ensures in rw (m .event2 .given .1, c .told3 .ensures) (update-own _ _ (start2 m .pre) _ d)
 
 returns-4 : tie.Need-returns-4
 unfolding taken deposited
 returns-4 c =
     let k : tie.After-page-done = search in let m : tie.After-event3 = search in
-    let d = k .page-done .ensures in rw (m .event3 .given .1, c .framed3 .ensures) (page-done-own _ _ (start3 m .pre) _ _ d)
+    let d = k .page-done .ensures in rw (m .event3 .given .1, c .told4 .ensures) (page-done-own _ _ (start3 m .pre) _ _ d)
 
 returns-5 : tie.Need-returns-5
 unfolding taken
@@ -89,6 +89,7 @@ writeback-event-spec =
     (λ c. search needs)
     map-done-requires
     (λ c κs. tt)
+    (λ c. search needs)
     (λ c. refl)
     (λ c. search needs)
     (λ c. search needs)
@@ -101,13 +102,16 @@ writeback-event-spec =
     (λ c. search needs)
     (λ c. search needs)
     (λ c. search needs)
+    (λ c. search needs)
     returns-2
+    (λ c. search needs)
     (λ c. search needs)
     (λ c. search needs)
     (λ c. refl)
     (λ c. search needs)
     (λ c. search needs)
     returns-3
+    (λ c. search needs)
     (λ c. search needs)
     (λ c. search needs)
     (λ c. search needs)

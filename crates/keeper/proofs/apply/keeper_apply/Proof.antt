@@ -61,10 +61,10 @@ use Rattle.keeper.proofs.Handed.{O, fs-val, taken-val, deposited-val, f
 use Rattle.keeper.proofs.Callees.{P, frames-val, pool-ptr, pool-val, typed-pool, Load, Save, Take, Deposit, to-load, to-save, to-take, to-deposit, goes-load, goes-save, goes-take, goes-deposit, load-of, save-of, take-of, deposit-of, cited-load, cited-save, cited-take, cited-deposit}
 use Rattle.keeper.proofs.frames.load as load′
 use Rattle.keeper.proofs.frames.load.Symbol.{name as #load}
-use Rattle.calls.proofs.apply_core as core
-use Rattle.calls.proofs.apply_core.Symbol as core-def
-use Rattle.calls.proofs.apply_core.Symbol.{name as #core}
-use Rattle.calls.proofs.apply_core.Met as core-thm
+use Rattle.batch.proofs.apply_one.apply_one as core
+use Rattle.batch.proofs.apply_one.apply_one.Symbol as core-def
+use Rattle.batch.proofs.apply_one.apply_one.Symbol.{name as #core}
+use Rattle.batch.proofs.apply_one.apply_one.Met as core-thm
 use Rattle.keeper.proofs.frames.save as save
 use Rattle.keeper.proofs.frames.save.Symbol.{name as #save}
 use Rattle.keeper.proofs.pool.take as take
@@ -257,7 +257,7 @@ keeper-apply-spec 𝓤 H 𝓜 𝓖 𝓡 =
     (tables 𝓤 H 𝓜 𝓡 code.env .C) (tables 𝓤 H 𝓜 𝓡 code.env .Λ) #key code.function (code.unfolded 𝓤 H 𝓜 𝓡)
     (meets 𝓤 H (𝓖 .A) (givenOf 𝓤 H 𝓜 𝓖) (𝓜 .mem) (𝓡 .run) (tablesOf 𝓤 H 𝓜 (tables 𝓤 H 𝓜 𝓡 code.env))
     (cited-load 𝓤 H 𝓜 𝓖 𝓡 code.env code.calls-keeper·frames·load)
-    (cited 𝓤 H (Core 𝓤 H (𝓖 .A) (𝓜 .mem) (𝓡 .run)) 𝓜 𝓡 code.env #core core-def.routine code.calls-calls·apply-core (core-thm.met 𝓤 H 𝓜 𝓖 𝓡))
+    (cited 𝓤 H (Core 𝓤 H (𝓖 .A) (𝓜 .mem) (𝓡 .run)) 𝓜 𝓡 code.env #core core-def.routine code.calls-batch·apply-one·apply-one (core-thm.met 𝓤 H 𝓜 𝓖 𝓡))
     (cited-save 𝓤 H 𝓜 𝓖 𝓡 code.env code.calls-keeper·frames·save)
     (cited-take 𝓤 H 𝓜 𝓖 𝓡 code.env code.calls-keeper·pool·take)
     (cited-deposit 𝓤 H 𝓜 𝓖 𝓡 code.env code.calls-keeper·pool·deposit))

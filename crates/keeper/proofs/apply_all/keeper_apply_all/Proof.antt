@@ -59,10 +59,10 @@ use Rattle.keeper.proofs.HandedAnew.{O, fs-val, new-val, fields, typed-
 use Rattle.keeper.proofs.Callees.{P, frames-val, pool-ptr, pool-val, typed-pool, Load, Save, Renew, to-load, to-save, to-renew, goes-load, goes-save, goes-renew, load-of, save-of, renew-of, cited-load, cited-save, cited-renew}
 use Rattle.keeper.proofs.frames.load as load′
 use Rattle.keeper.proofs.frames.load.Symbol.{name as #load}
-use Rattle.batch.proofs.apply_all as core
-use Rattle.batch.proofs.apply_all.Symbol as core-def
-use Rattle.batch.proofs.apply_all.Symbol.{name as #core}
-use Rattle.batch.proofs.apply_all.Met as core-thm
+use Rattle.batch.proofs.apply_all.apply_all as core
+use Rattle.batch.proofs.apply_all.apply_all.Symbol as core-def
+use Rattle.batch.proofs.apply_all.apply_all.Symbol.{name as #core}
+use Rattle.batch.proofs.apply_all.apply_all.Met as core-thm
 use Rattle.keeper.proofs.frames.save as save
 use Rattle.keeper.proofs.frames.save.Symbol.{name as #save}
 use Rattle.keeper.proofs.pool.renew as renew
@@ -249,6 +249,6 @@ keeper-apply-all-spec 𝓤 H 𝓜 𝓖 𝓡 =
     (tables 𝓤 H 𝓜 𝓡 code.env .C) (tables 𝓤 H 𝓜 𝓡 code.env .Λ) #key code.function (code.unfolded 𝓤 H 𝓜 𝓡)
     (meets 𝓤 H (𝓖 .A) (givenOf 𝓤 H 𝓜 𝓖) (𝓜 .mem) (𝓡 .run) (tablesOf 𝓤 H 𝓜 (tables 𝓤 H 𝓜 𝓡 code.env))
     (cited-load 𝓤 H 𝓜 𝓖 𝓡 code.env code.calls-keeper·frames·load)
-    (cited 𝓤 H (Core 𝓤 H (𝓖 .A) (𝓜 .mem) (𝓡 .run)) 𝓜 𝓡 code.env #core core-def.routine code.calls-batch·apply-all (core-thm.met 𝓤 H 𝓜 𝓖 𝓡))
+    (cited 𝓤 H (Core 𝓤 H (𝓖 .A) (𝓜 .mem) (𝓡 .run)) 𝓜 𝓡 code.env #core core-def.routine code.calls-batch·apply-all·apply-all (core-thm.met 𝓤 H 𝓜 𝓖 𝓡))
     (cited-save 𝓤 H 𝓜 𝓖 𝓡 code.env code.calls-keeper·frames·save)
     (cited-renew 𝓤 H 𝓜 𝓖 𝓡 code.env code.calls-keeper·pool·renew))

@@ -2,13 +2,13 @@
 use borrow.Author.Needs.{needs}
 use mathlib.Core.Path.{ap, sym, _∙_}
 use Prim.Native.Nat.{ℕ}
-use lib.ListN.{take}
 use Rattle.tables.specs.Laws.{T→true}
 use Rattle.tables.specs.Questions.{firstNo, all-yes}
 use Rattle.tables.specs.Also.{also-yes, also-no}
 use Rattle.model.specs.State.{pageOf}
 use Rattle.model.specs.Bounds.{page-most}
 use Rattle.leaves.specs.Asks.{slotAsked}
+use Rattle.leaves.specs.Packed.{unpacked, framesGiven}
 use Rattle.pages.specs.Asks.{frameAsked}
 use Rattle.pages.proofs.ItsFrame.{its-in}
 use Rattle.pages.proofs.asks.ask_served.Statement.{statement}
@@ -38,12 +38,12 @@ returns-2 c =
     let i = c .before in
     let k = i .before .before in
     let s : tie.Start = search in
-    let e = c .ask-frame .ensures ∙ ap (λ (j : ℕ). firstNo (frameAsked (s .args .reads) (s .args .sizes) (take (s .args .sizes .frames) (s .args .frames)) j)) (i .page-of .ensures) in
+    let e = c .ask-frame .ensures ∙ ap (λ (j : ℕ). firstNo (frameAsked (s .args .reads) (s .args .sizes) (framesGiven (s .args .sizes) (s .args .frames)) j)) (i .page-of .ensures) in
     let t = sym (k .ask-slot .ensures) ∙ i .before .if1 .left in (
       e ∙ sym (also-yes 0 (slotAsked (s .args .in-range) (s .args .slot) (s .args .numbers .now) (s .args .active .now)) _ tt t),
       λ h. (
         T→true _ (all-yes 0 (slotAsked (s .args .in-range) (s .args .slot) (s .args .numbers .now) (s .args .active .now)) tt t .0),
-        its-in (s .args .sizes) (s .args .frames) (pageOf (s .args .sizes) (s .args .slot) (s .args .page)) (all-yes 0 (frameAsked (s .args .reads) (s .args .sizes) (take (s .args .sizes .frames) (s .args .frames)) (pageOf (s .args .sizes) (s .args .slot) (s .args .page))) tt (sym e ∙ h) .0),
+        its-in (s .args .sizes) (unpacked (s .args .frames .now)) (pageOf (s .args .sizes) (s .args .slot) (s .args .page)) (all-yes 0 (frameAsked (s .args .reads) (s .args .sizes) (framesGiven (s .args .sizes) (s .args .frames)) (pageOf (s .args .sizes) (s .args .slot) (s .args .page))) tt (sym e ∙ h) .0),
       ),
     )
 

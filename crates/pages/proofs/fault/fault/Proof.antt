@@ -8,6 +8,7 @@ use Rattle.tables.specs.Rule.{Holds}
 use Rattle.model.specs.Bounds.{page-most}
 use lib.ListN.{length}
 use Prim.Native.Nat.{_<_}
+use Rattle.leaves.specs.Packed.{unpacked}
 use Rattle.pages.proofs.Served.{page-range}
 use Rattle.pages.proofs.Faulted.{FaultAsked, fault-asked, fault-no, fault-none, fault-range, fault-some, fault-record, fault-yes, fault-done, serve-needs}
 use Rattle.pages.proofs.fault.fault.Statement.{statement}
@@ -41,7 +42,7 @@ abbrev popped : tie.After-pop → tie.After-serve
 popped o = search
 
 -- ── the questions ──
-asked : (k : tie.After-ask-fault) → (let a = start k .args in FaultAsked (a .sizes) (a .frames) (a .pool) (a .numbers .now) (a .words .now) (a .free-queue .now) (a .removal-list .now) (a .addresses .now) (a .states .now) (a .owners .now) (a .free-map .now) (a .active .now) (a .slot) (a .page) (k .ask-fault .result))
+asked : (k : tie.After-ask-fault) → (let a = start k .args in FaultAsked (a .sizes) (unpacked (a .frames .now)) (a .pool) (a .numbers .now) (a .words .now) (a .free-queue .now) (a .removal-list .now) (a .addresses .now) (a .states .now) (a .owners .now) (a .free-map .now) (a .active .now) (a .slot) (a .page) (k .ask-fault .result))
 asked k = fault-asked (k .ask-fault .ensures)
 
 range : (e : tie.Else1) → (let a = start (e .before) .args in (a .slot < a .sizes .slots) × (a .page < a .sizes .pages))
@@ -54,7 +55,10 @@ ask-fault-requires : tie.Need-ask-fault-requires
 ask-fault-requires c κs = let s : tie.Start = search in (s .pre .0, λ e. page-range (s .args .sizes) (s .args .slot) (s .args .page) e)
 
 returns : tie.Need-returns
-returns c = let q = asked (c .before) in (fault-no q (c .if1 .taken), (fault-none q (c .if1 .taken), refl))
+returns c =
+    let q = asked (c .before) in
+    let l = fault-none q (c .if1 .taken) in
+    (fault-no q (c .if1 .taken), (refl, (l .frames, (l .words-left, (l .queue-left, (l .list-left, (l .addresses-left, (l .states-left, (l .owners-left, (l .map-left, (l .hand, l .free)))))))))))
 
 page-of-requires : tie.Need-page-of-requires
 page-of-requires c κs = let r = range c in (start (c .before) .pre .0 .sizes, r .0, r .1)
@@ -81,27 +85,25 @@ serve-requires c κs =
 pop-requires : tie.Need-pop-requires
 pop-requires c κs = let v : tie.After-serve = search in let s = from (held (served v)) in (s .args .sizes .frames, rw (s .pre .1 .free-long) (s .pre .1 .free-packed))
 
-cast-t50 : tie.Need-cast-t50
-cast-t50 c = let o : tie.After-pop = search in let x = held (served (popped o)) in omega (arith, needs-served x .0, from x .pre .0 .sizes .frames-most)
-
 returns-2 : tie.Need-returns-2
 returns-2 c =
     let o : tie.After-pop = search in
     let v = popped o in
     let d = served v in
     let x = held d in
-    let q = asked (passed x .before) in (
+    let q = asked (passed x .before) in
+    let l = fault-done q (passed x .if1 .left) (paged x .page-of .ensures) (x .way-of .ensures) (queued x .first .ensures)
+    (from x .pre .0 .sizes .pages) _ (d .hold .result) _ _ _ _ _ _ _
+    (v .serve .ensures .0) (d .hold .ensures .0) (v .serve .ensures .1 .0) (o .pop .ensures) (v .serve .ensures .1 .1) (d .hold .ensures .1 .0) (d .hold .ensures .1 .1 .0) (d .hold .ensures .1 .1 .1 .0) (d .hold .ensures .1 .1 .1 .1) in (
       fault-yes q (passed x .if1 .left) (paged x .page-of .ensures) (x .way-of .ensures) (queued x .first .ensures),
-      (
-        fault-done q (passed x .if1 .left) (paged x .page-of .ensures) (x .way-of .ensures) (queued x .first .ensures)
-            (from x .pre .0 .sizes .pages) (v .serve .result) (d .hold .result) _ _ _ _ _ _ _
-            (v .serve .ensures .0) (d .hold .ensures .0) (v .serve .ensures .1 .0) (o .pop .ensures) (v .serve .ensures .1 .1) (d .hold .ensures .1 .0) (d .hold .ensures .1 .1 .0) (d .hold .ensures .1 .1 .1 .0) (d .hold .ensures .1 .1 .1 .1),
-        refl,
-      ),
+      (refl, (l .frames, (l .words-left, (l .queue-left, (l .list-left, (l .addresses-left, (l .states-left, (l .owners-left, (l .map-left, (l .hand, l .free)))))))))),
     )
 
 pub fault-spec : {M : Type 1} → statement M
-fault-spec = tie.close (tie.spec ask-fault-requires (λ c. refl) (λ c. refl) returns page-of-requires (λ c κs. search needs) (λ c κs. search needs) hold-requires serve-requires pop-requires cast-t50
+fault-spec = tie.close (tie.spec ask-fault-requires (λ c. refl) (λ c. refl) (λ c. refl) returns page-of-requires (λ c κs. search needs) (λ c κs. search needs) hold-requires serve-requires
+    pop-requires
+    (λ c. let o : tie.After-pop = search in let x = held (served (popped o)) in omega (arith, needs-served x .0, from x .pre .0 .sizes .frames-most))
+    (λ c. let w : tie.After-serve = search in w .serve .kept .1 .1 .1 .1 .0)
     (λ c. let w : tie.After-serve = search in w .serve .kept .1 .1 .1 .1 .1 .0)
     (λ c. let w : tie.After-pop = search in w .pop .kept .0)
     (λ c. let w : tie.After-serve = search in w .serve .kept .1 .1 .1 .1 .1 .1 .0)

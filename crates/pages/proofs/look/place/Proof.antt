@@ -1,13 +1,14 @@
 -- `place` meets its contract: refused, or the page's frame and its words.
 use mathlib.Core.List.{[]}
 use native.Mathlib.Omega.{arith}
+use Rattle.leaves.specs.Packed.{unpacked}
 use Rattle.pages.proofs.Served.{Call, page-range}
 use Rattle.pages.proofs.InFrame.{placed-no, placed-yes, place-fits}
 use Rattle.pages.proofs.look.place.Statement.{statement}
 use Rattle.pages.proofs.look.place.Tie as tie
 
 abbrev call : tie.Start → Call
-call s = let a = s .args in record { sizes = a .sizes; frames = a .frames; numbers = a .numbers .now; words = []; list = []; active = a .active .now; slot = a .slot; page = a .page }
+call s = let a = s .args in record { sizes = a .sizes; frames = unpacked (a .frames .now); numbers = a .numbers .now; words = []; list = []; active = a .active .now; slot = a .slot; page = a .page }
 
 ask-served-requires : tie.Need-ask-served-requires
 ask-served-requires c κs = let s : tie.Start = search in (s .pre, λ e. page-range (s .args .sizes) (s .args .slot) (s .args .page) e)

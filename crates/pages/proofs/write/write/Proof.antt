@@ -1,8 +1,7 @@
 -- `write` meets its contract: the questions, the charge, then the page's frame, and the word stored.
 use borrow.Author.Needs.{needs}
-use mathlib.Core.Path.{_∙_}
-use lib.ListN.{take}
 use Rattle.model.specs.Step.{result}
+use Rattle.leaves.specs.Packed.{unpacked}
 use Rattle.pages.proofs.Served.{word-range}
 use Rattle.pages.proofs.Writing.{WriteCall, write-no, used-no, write-denied, used-denied, write-yes, used-yes, write-frames, write-words}
 use Rattle.pages.proofs.write.write.Statement.{statement}
@@ -11,7 +10,7 @@ use Rattle.pages.proofs.write.write.Tie as tie
 abbrev call : tie.Start → WriteCall
 call s = let a = s .args in record {
   sizes = a .sizes;
-  frames = a .frames;
+  frames = unpacked (a .frames .now);
   numbers = a .numbers .now;
   accounts = a .accounts .now;
   limits = a .limits .now;
@@ -37,16 +36,18 @@ ask-served-requires c κs = let s : tie.Start = search in
 
 returns : tie.Need-returns
 returns c =
+    let b : tie.Then1 = search in
     let k : tie.After-ask-served = search in
     let s = start k in
-    let x = c .answered .ensures in
-    let o = write-no (call s) (k .ask-served .result) (k .ask-served .ensures .0) (c .before .if1 .taken) in
-    ((λ i. x i .answer) ∙ (λ i. o i .answer), ((λ i. take (s .args .sizes .frames) (x i .frames)) ∙ (λ i. o i .left .memory .core .frames), (λ i. o i .left .memory .core .words, used-no (call s) (k .ask-served .result) (k .ask-served .ensures .0) (c .before .if1 .taken))))
+    let o = write-no (call s) (k .ask-served .result) (k .ask-served .ensures .0) (b .if1 .taken) in
+    (λ i. o i .answer, (λ i. o i .left .memory .core .frames, (λ i. o i .left .memory .core .words, used-no (call s) (k .ask-served .result) (k .ask-served .ensures .0) (b .if1 .taken))))
 
 its-frame-requires : tie.Need-its-frame-requires
 its-frame-requires c κs =
-    let s : tie.Start = search in
-    let r = word-range (s .args .sizes) (s .args .slot) (s .args .page) (s .args .word) (c .before .ask-served .ensures .1 (c .if1 .left) .0) in
+    let e : tie.Else1 = search in
+    let k : tie.After-ask-served = search in
+    let s = start k in
+    let r = word-range (s .args .sizes) (s .args .slot) (s .args .page) (s .args .word) (k .ask-served .ensures .1 (e .if1 .left) .0) in
     (s .pre .sizes, r .0, r .1)
 
 page-of-requires : tie.Need-page-of-requires
@@ -59,6 +60,7 @@ page-of-requires c κs =
 
 returns-2 : tie.Need-returns-2
 returns-2 c =
+    let d : tie.Else2 = search in
     let n : tie.After-pay = search in
     let q : tie.After-slot-payer = search in
     let b : tie.After-is-charged = search in
@@ -68,13 +70,12 @@ returns-2 c =
     let e : tie.Else1 = search in
     let k : tie.After-ask-served = search in
     let s = start k in
-    let x = c .answered2 .ensures in
     let h = k .ask-served .ensures .1 (e .if1 .left) .1 in
     let o = write-denied (call s) (k .ask-served .result) (k .ask-served .ensures .0) (e .if1 .left) h (s .pre) (f .its-frame .result) (g .frame-at .result) (f .its-frame .ensures) (g .frame-at .ensures)
-    (j .page-of .result) (b .is-charged .result) (n .pay .result) (q .slot-payer .result) _ (j .page-of .ensures) (b .is-charged .ensures) (q .slot-payer .ensures) (n .pay .ensures .0) (n .pay .ensures .1) (c .before .if2 .left) in
+    (j .page-of .result) (b .is-charged .result) (n .pay .result) (q .slot-payer .result) _ (j .page-of .ensures) (b .is-charged .ensures) (q .slot-payer .ensures) (n .pay .ensures .0) (n .pay .ensures .1) (d .if2 .left) in
     let u = used-denied (call s) (k .ask-served .result) (k .ask-served .ensures .0) (e .if1 .left) h (s .pre) (f .its-frame .result) (g .frame-at .result) (f .its-frame .ensures) (g .frame-at .ensures)
-    (j .page-of .result) (b .is-charged .result) (n .pay .result) (q .slot-payer .result) _ (j .page-of .ensures) (b .is-charged .ensures) (q .slot-payer .ensures) (n .pay .ensures .0) (n .pay .ensures .1) (c .before .if2 .left) in
-    ((λ i. x i .answer) ∙ (λ i. o i .answer), ((λ i. take (s .args .sizes .frames) (x i .frames)) ∙ (λ i. o i .left .memory .core .frames), (λ i. o i .left .memory .core .words, u)))
+    (j .page-of .result) (b .is-charged .result) (n .pay .result) (q .slot-payer .result) _ (j .page-of .ensures) (b .is-charged .ensures) (q .slot-payer .ensures) (n .pay .ensures .0) (n .pay .ensures .1) (d .if2 .left) in
+    (λ i. o i .answer, (λ i. o i .left .memory .core .frames, (λ i. o i .left .memory .core .words, u)))
 
 word-of-requires : tie.Need-word-of-requires
 word-of-requires c κs =
@@ -90,7 +91,7 @@ unfolding result
 returns-3 c =
     let u : tie.After-put32 = search in
     let w : tie.After-word-of = search in
-    let l : tie.After-with-frame = search in
+    let l : tie.After-put-frame = search in
     let t : tie.Then2 = search in
     let n : tie.After-pay = search in
     let q : tie.After-slot-payer = search in
@@ -101,20 +102,19 @@ returns-3 c =
     let e : tie.Else1 = search in
     let k : tie.After-ask-served = search in
     let s = start k in
-    let x = c .answered3 .ensures in
     let h = k .ask-served .ensures .1 (e .if1 .left) .1 in
     let o = write-yes (call s) (k .ask-served .result) (k .ask-served .ensures .0) (e .if1 .left) h (s .pre) (f .its-frame .result) (g .frame-at .result) (f .its-frame .ensures) (g .frame-at .ensures)
     (j .page-of .result) (b .is-charged .result) (n .pay .result) (q .slot-payer .result) _ (j .page-of .ensures) (b .is-charged .ensures) (q .slot-payer .ensures) (n .pay .ensures .0) (n .pay .ensures .1) (t .if2 .taken) in
     let us = used-yes (call s) (k .ask-served .result) (k .ask-served .ensures .0) (e .if1 .left) h (s .pre) (f .its-frame .result) (g .frame-at .result) (f .its-frame .ensures) (g .frame-at .ensures)
     (j .page-of .result) (b .is-charged .result) (n .pay .result) (q .slot-payer .result) _ (j .page-of .ensures) (b .is-charged .ensures) (q .slot-payer .ensures) (n .pay .ensures .0) (n .pay .ensures .1) (t .if2 .taken) in
     let fs = write-frames (call s) (k .ask-served .result) (k .ask-served .ensures .0) (e .if1 .left) h (s .pre) (f .its-frame .result) (g .frame-at .result) (f .its-frame .ensures) (g .frame-at .ensures)
-    (j .page-of .result) (b .is-charged .result) (n .pay .result) (q .slot-payer .result) _ (j .page-of .ensures) (b .is-charged .ensures) (q .slot-payer .ensures) (n .pay .ensures .0) (n .pay .ensures .1) (t .if2 .taken) (l .with-frame .result) (l .with-frame .ensures) in
+    (j .page-of .result) (b .is-charged .result) (n .pay .result) (q .slot-payer .result) _ (j .page-of .ensures) (b .is-charged .ensures) (q .slot-payer .ensures) (n .pay .ensures .0) (n .pay .ensures .1) (t .if2 .taken) _ (l .put-frame .ensures) in
     let ws = write-words (call s) (k .ask-served .result) (k .ask-served .ensures .0) (e .if1 .left) h (s .pre) (f .its-frame .result) (g .frame-at .result) (f .its-frame .ensures) (g .frame-at .ensures)
     (j .page-of .result) (b .is-charged .result) (n .pay .result) (q .slot-payer .result) _ (j .page-of .ensures) (b .is-charged .ensures) (q .slot-payer .ensures) (n .pay .ensures .0) (n .pay .ensures .1) (t .if2 .taken) (w .word-of .result) _ (w .word-of .ensures) (u .put32 .ensures) in
-    ((λ i. x i .answer) ∙ (λ i. o i .answer), ((λ i. take (s .args .sizes .frames) (x i .frames)) ∙ fs, (ws, us)))
+    (λ i. o i .answer, (fs, (ws, us)))
 
 pub write-spec : {M : Type 1} → statement M
 write-spec =
     tie.close
-    (tie.spec ask-served-requires (λ c κs. search needs) returns its-frame-requires (λ c κs. search needs) page-of-requires (λ c κs. search needs) (λ c κs. search needs) (λ c κs. search needs) (λ c κs. search needs) (λ c. search needs) returns-2
-    (λ c κs. search needs) word-of-requires (λ c κs. search needs) (λ c κs. search needs) (λ c. search needs) (λ c. search needs) returns-3)
+    (tie.spec ask-served-requires (λ c. search needs) returns its-frame-requires (λ c κs. search needs) page-of-requires (λ c κs. search needs) (λ c κs. search needs) (λ c κs. search needs) (λ c. search needs) (λ c. search needs) returns-2
+    (λ c κs. search needs) word-of-requires (λ c κs. search needs) (λ c. search needs) (λ c. search needs) (λ c. search needs) returns-3)

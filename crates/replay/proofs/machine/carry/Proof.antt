@@ -14,7 +14,7 @@ half c = search
 abbrev restarts : tie.After-restart-core-arg10 → tie.After-sizes
 restarts c = search
 
-abbrev applies : tie.After-apply-core-arg18 → tie.After-sizes2
+abbrev applies : tie.After-apply-one-arg18 → tie.After-sizes2
 applies c = search
 
 abbrev begun : tie.After-sizes2 → tie.Start
@@ -28,10 +28,10 @@ returns-2 c =
     let d : tie.After-deposit = search in
     let t : tie.After-take = search in
     let y : tie.After-sizes3 = search in
-    let k : tie.After-apply-core = search in
+    let k : tie.After-apply-one = search in
     let z = applies (k .before) in
-    by-pool _ (by-apply _ _ (z .sizes2 .ensures) (z .before .if1 .left) (k .apply-core .ensures))
-    (d .deposit .ensures ∙ ap (deposited (k .apply-core .result .deposited)) (t .take .ensures ∙ ap (λ (x : Sizes). taken x (k .apply-core .result .taken) (begun z .args .held .pool)) (y .sizes3 .ensures ∙ sym (z .sizes2 .ensures))))
+    by-pool _ (by-apply _ _ (z .sizes2 .ensures) (z .before .if1 .left) (k .apply-one .ensures))
+    (d .deposit .ensures ∙ ap (deposited (k .apply-one .result .deposited)) (t .take .ensures ∙ ap (λ (x : Sizes). taken x (k .apply-one .result .taken) (begun z .args .held .pool)) (y .sizes3 .ensures ∙ sym (z .sizes2 .ensures))))
 
 pub carry-spec : {M : Type 1} → statement M
 carry-spec =

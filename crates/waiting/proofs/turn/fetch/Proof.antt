@@ -1,11 +1,13 @@
 -- `fetch` meets its contract: the fault's outcome tells the turn's, and where it found no frame free, all is as it was and the claim's outcome does.
 use borrow.Author.Needs.{needs}
 use mathlib.Core.Path.{_∙_}
-use lib.ListN.{take}
+use native.Mathlib.Omega.{arith}
 use Rattle.model.specs.State.{State}
 use Rattle.model.specs.Lent.{allGiven}
 use Rattle.model.specs.Pool.{taken, deposited}
+use Rattle.leaves.specs.Packed.{framesGiven, unpacked}
 use Rattle.model.specs.LineLaws.{InFrame}
+use Rattle.pages.specs.Faults.{fault-left}
 use Rattle.pages.proofs.ItsFrame.{its-in}
 use Rattle.dispatch.proofs.FaultLaws.{fault-ready}
 use Rattle.waiting.proofs.Turned.{packed-line}
@@ -17,7 +19,7 @@ use Rattle.waiting.proofs.turn.fetch.Tie as tie
 abbrev lent : tie.Start → State
 lent s =
     let a = s .args in
-    allGiven (take (a .sizes .frames) (a .frames)) (a .pool) (a .records) (a .numbers) (a .accounts) (a .maps) (a .limits) (a .parents) (a .frame-words) (a .free-queue) (a .removal-list)
+    allGiven (framesGiven (a .sizes) (a .frames)) (a .pool) (a .records) (a .numbers) (a .accounts) (a .maps) (a .limits) (a .parents) (a .frame-words) (a .free-queue) (a .removal-list)
     (a .addresses) (a .states) (a .owners) (a .free-map) (a .active) (a .updating) (a .images) (a .line) (a .used)
 
 -- ── the places ──
@@ -35,7 +37,7 @@ faulted n = search
 
 -- the page is in no frame
 absent : (s : tie.Start) → ¬ InFrame (s .args .sizes) (lent s)
-absent s h = let a = s .args in s .pre .3 (its-in (a .sizes) (a .frames) (a .i) (rw (s .pre .2) h))
+absent s h = let a = s .args in s .pre .3 (its-in (a .sizes) (unpacked (a .frames .now)) (a .i) (rw (s .pre .2) h))
 
 fault-requires : tie.Need-fault-requires
 fault-requires c κs =
@@ -49,7 +51,7 @@ claim-requires c κs =
     let f = faulted (t .before) in
     let s = start f in
     let d = f .fault .ensures in
-    claim-asked (s .args .sizes) (lent s) (s .pre .0) (s .pre .1) (absent s) (s .args .i) (s .pre .2) _ (d .1 .0) (d .0) (t .if1 .taken)
+    claim-asked (s .args .sizes) (lent s) (s .pre .0) (s .pre .1) (absent s) (s .args .i) (s .pre .2) _ (fault-left (d .1 .1)) (d .0) (t .if1 .taken)
 
 returns : tie.Need-returns
 unfolding taken deposited
@@ -59,7 +61,7 @@ returns c =
     let f = faulted (t .before) in
     let s = start f in
     let d = f .fault .ensures in
-    rw (c .claimed .ensures) (brought-by-claim (s .args .sizes) (lent s) (s .pre .0) (s .pre .1) (absent s) (s .args .i) (s .pre .2) _ (d .1 .0) (d .0) (t .if1 .taken) (m .claim .ensures))
+    rw (c .claimed .ensures) (brought-by-claim (s .args .sizes) (lent s) (s .pre .0) (s .pre .1) (absent s) (s .args .i) (s .pre .2) _ (fault-left (d .1 .1)) (d .0) (t .if1 .taken) (m .claim .ensures))
 
 settle-requires : tie.Need-settle-requires
 settle-requires c κs =
@@ -75,17 +77,18 @@ returns-2 c =
     let f = faulted (e .before) in
     let s = start f in
     let d = f .fault .ensures in
-    rw (r .settle .ensures .0, d .1 .1) (brought (s .args .sizes) (lent s) (s .pre .0) (s .pre .1) (absent s) (s .args .i) (s .pre .2) _ (d .1 .0) (d .0) (e .if1 .left) (r .settle .ensures .1))
+    rw (r .settle .ensures .0, d .1 .0) (brought (s .args .sizes) (lent s) (s .pre .0) (s .pre .1) (absent s) (s .args .i) (s .pre .2) _ (fault-left (d .1 .1)) (d .0) (e .if1 .left) (r .settle .ensures .1))
 
 pub fetch-spec : {M : Type 1} → statement M
 fetch-spec =
     tie.close
     (tie.spec
     (λ c. search needs)
-    (λ c. search needs)
+    (λ c. let s : tie.Start = search in omega (arith, s .pre .0 .fits .sizes .pages))
     fault-requires
     claim-requires
     (λ c κs. search needs)
+    (λ c. let m : tie.After-claim = search in let t : tie.Then1 = search in m .claim .kept .1 .0 ∙ faulted (t .before) .fault .kept .1 .1 .1 .0)
     (λ c. let t : tie.Then1 = search in faulted (t .before) .fault .kept .1 .1 .1 .1 .1 .1 .0)
     (λ c. let m : tie.After-claim = search in let t : tie.Then1 = search in m .claim .kept .1 .1 .1 .1 .1 .1 .0 ∙ faulted (t .before) .fault .kept .1 .1 .1 .1 .1 .1 .1 .0)
     (λ c. let m : tie.After-claim = search in let t : tie.Then1 = search in m .claim .kept .1 .1 .1 .1 .1 .1 .1 .0 ∙ faulted (t .before) .fault .kept .1 .1 .1 .1 .1 .1 .1 .1 .0)
@@ -96,6 +99,7 @@ fetch-spec =
     (λ c. let m : tie.After-claim = search in m .claim .kept .1 .1 .1 .1 .1 .1 .1 .1 .1 .1 .0)
     returns
     settle-requires
+    (λ c. search needs)
     (λ c. search needs)
     (λ c. search needs)
     (λ c. search needs)

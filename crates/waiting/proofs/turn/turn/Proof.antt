@@ -4,7 +4,6 @@ use mathlib.Core.Path.{_≡_, ap, sym, _∙_}
 use Prim.Native.Nat.{ℕ, _<_}
 use native.Mathlib.Omega.{arith}
 use lib.Dec.{eqb}
-use lib.ListN.{take}
 use Rattle.tables.specs.QueueLaws.{first-below}
 use Rattle.tables.specs.QueueEntries.{size-more, size-zero}
 use Rattle.tables.specs.Rule.{test}
@@ -14,6 +13,7 @@ use Rattle.model.specs.Setters.{setLine}
 use Rattle.model.specs.Bounds.{pages-most}
 use Rattle.model.specs.Lent.{allGiven}
 use Rattle.model.specs.Pool.{taken, deposited}
+use Rattle.leaves.specs.Packed.{framesGiven, unpacked}
 use Rattle.model.specs.Questions.{still, nextPage}
 use Rattle.model.specs.LineLaws.{Waiting, InFrame}
 use Rattle.model.specs.Own.{leaves}
@@ -28,7 +28,7 @@ use Rattle.waiting.proofs.turn.turn.Tie as tie
 abbrev lent : tie.Start → State
 lent s =
     let a = s .args in
-    allGiven (take (a .sizes .frames) (a .frames)) (a .pool) (a .records) (a .numbers) (a .accounts) (a .maps) (a .limits) (a .parents) (a .frame-words) (a .free-queue) (a .removal-list)
+    allGiven (framesGiven (a .sizes) (a .frames)) (a .pool) (a .records) (a .numbers) (a .accounts) (a .maps) (a .limits) (a .parents) (a .frame-words) (a .free-queue) (a .removal-list)
     (a .addresses) (a .states) (a .owners) (a .free-map) (a .active) (a .updating) (a .images) (a .line) (a .used)
 
 abbrev start : tie.Else1 → tie.Start
@@ -57,13 +57,7 @@ frame-of-requires c κs =
     let f : tie.After-first = search in
     let k = s .pre in let z = s .args .sizes in
     let b = first-below (s .args .line .now) (k .fits .memory .line) (k .rules .line) (waits e) in
-    (omega (arith, k .fits .sizes .frames-most), omega (arith, f .first .ensures, b, pages-most z (k .fits .sizes)))
-
-meet-requires : tie.Need-meet-requires
-meet-requires c κs =
-    let s : tie.Start = search in
-    let e : tie.Else1 = search in
-    (packed-line (s .args .sizes) (lent s) (s .pre), waits e)
+    omega (arith, f .first .ensures, b, pages-most z (k .fits .sizes))
 
 abbrev found : tie.After-frame-at → tie.After-frame-of
 found g = search
@@ -79,19 +73,29 @@ module _ (o : tie.After-frame-of) where
   abbrev its : tie.After-first
   its = search
 
-  inside : o .frame-of .result < s .args .sizes .frames → frameIn (s .args .sizes .frames) (s .args .frames) (its .first .result) < s .args .sizes .frames
+  inside : o .frame-of .result < s .args .sizes .frames → frameIn (s .args .sizes .frames) (unpacked (s .args .frames .now)) (its .first .result) < s .args .sizes .frames
   inside h = rw (← o .frame-of .ensures) h
 
   in-frame : o .frame-of .result < s .args .sizes .frames → InFrame (s .args .sizes) (lent s)
-  in-frame h = rw (← its .first .ensures) (its-some (s .args .sizes) (s .args .frames) (its .first .result) (inside h))
+  in-frame h = rw (← its .first .ensures) (its-some (s .args .sizes) (unpacked (s .args .frames .now)) (its .first .result) (inside h))
+
+meet-requires : tie.Need-meet-requires
+meet-requires c κs =
+    let g : tie.After-frame-at = search in
+    let o = found g in
+    (packed-line (s o .args .sizes) (lent (s o)) (s o .pre), waits (e o))
+
+-- that it is below F
+below : (g : tie.After-frame-at) → found g .frame-of .result < s (found g) .args .sizes .frames
+below g = let t : tie.Then2 = search in t .if2 .taken
 
 -- whether that frame is in service, as the code tells it
 told-still : (g : tie.After-frame-at) → (let o = found g in eqb (g .frame-at .result .transfer) NONE ≡ test (still (s o .args .sizes) (lent (s o)) (nextPage (s o .args .sizes) (lent (s o)))))
 told-still g =
     let o = found g in
     let a = s o .args in
-    ap (λ (x : Frame). eqb (x .transfer) NONE) (g .frame-at .ensures ∙ ap (frameAt (a .frames)) (o .frame-of .ensures))
-    ∙ still-told (a .sizes) (a .frames) (its o .first .result) (served-ready (a .sizes) (lent (s o)) (s o .pre)) (inside o (g .before .if2 .taken))
+    ap (λ (x : Frame). eqb (x .transfer) NONE) (g .frame-at .ensures ∙ ap (frameAt (unpacked (a .frames .now))) (o .frame-of .ensures))
+    ∙ still-told (a .sizes) (unpacked (a .frames .now)) (its o .first .result) (served-ready (a .sizes) (lent (s o)) (s o .pre)) (inside o (below g))
     ∙ ap (λ (j : ℕ). test (still (a .sizes) (lent (s o)) j)) (its o .first .ensures)
 
 returns-2 : tie.Need-returns-2
@@ -102,7 +106,7 @@ returns-2 c =
     let o = found g in
     rw (c .told2 .ensures)
     ((λ x. leaves (record { refusal = 0; result = m .meet .ensures .0 x }) (setLine (m .meet .ensures .1 x) (lent (s o))))
-    ∙ met-own (s o .args .sizes) (lent (s o)) (waits (e o)) (in-frame o (g .before .if2 .taken)) (eqb (g .frame-at .result .transfer) NONE) (told-still g))
+    ∙ met-own (s o .args .sizes) (lent (s o)) (waits (e o)) (in-frame o (below g)) (eqb (g .frame-at .result .transfer) NONE) (told-still g))
 
 fetch-requires : tie.Need-fetch-requires
 fetch-requires c κs =
@@ -124,8 +128,10 @@ turn-spec =
     meet-requires
     (λ c κs. search needs)
     (λ c. search needs)
+    (λ c. search needs)
     returns-2
     fetch-requires
+    (λ c. search needs)
     (λ c. search needs)
     (λ c. search needs)
     (λ c. search needs)

@@ -6,33 +6,23 @@ use native.Mathlib.Omega.{arith}
 use lib.ListN.{length}
 use Rattle.tables.specs.Queue.{size}
 use Rattle.tables.specs.QueueLaws.{size-le}
-use Rattle.writeback.proofs.Looks.{Round, round-starts, entry-below, looks-most, more, round-again, round-ends}
+use Rattle.leaves.specs.Packed.{unpacked, unpacked-length}
+use Rattle.writeback.proofs.Looks.{Round, round-starts, frames-long, looks-most, more, round-again, round-ends}
 use Rattle.writeback.proofs.claim.turn.Statement.{statement}
 use Rattle.writeback.proofs.claim.turn.Tie as tie
 
 abbrev Inv-loop : tie.InvT-loop
-Inv-loop list₀ kept₀ looks₀ f₀ g₀ list kept looks f g = Round kept₀ list₀ kept looks f g list
+Inv-loop frames₀ list₀ looks₀ f₀ g₀ frames list looks f g = Round (unpacked frames₀) list₀ (unpacked frames) looks f g list
 
 abbrev μ-loop : tie.MeasureT-loop
-μ-loop list₀ kept₀ looks₀ f₀ g₀ list kept looks f g = suc (size list₀) - looks
+μ-loop frames₀ list₀ looks₀ f₀ g₀ frames list looks f g = suc (size list₀) - looks
 
 loop-holds : tie.Need-loop-holds Inv-loop μ-loop
 loop-holds c =
     let start : tie.Start Inv-loop μ-loop = search in
     let a = start .args in
-    round-starts (a .frames) (a .list .now) (start .pre .0) (start .pre .1) (c .before .first .ensures) (c .frame-at .ensures)
-
-mul-kept : tie.Need-mul-kept Inv-loop μ-loop
-mul-kept c =
-    let at-loop : tie.At-loop Inv-loop μ-loop = search in
-    let start : tie.Start Inv-loop μ-loop = search in
-    omega (arith, entry-below (at-loop .loop .inv), start .pre .2)
-
-array-set-from-kept : tie.Need-array-set-from-kept Inv-loop μ-loop
-array-set-from-kept c =
-    let at-loop : tie.At-loop Inv-loop μ-loop = search in
-    let start : tie.Start Inv-loop μ-loop = search in
-    omega (arith, entry-below (at-loop .loop .inv), start .pre .2)
+    let after-first : tie.After-first Inv-loop μ-loop = search in
+    round-starts (unpacked (a .frames .now)) (a .list .now) (start .pre .0) (start .pre .1) (after-first .first .ensures) (c .frame-at .ensures)
 
 rotate-requires : tie.Need-rotate-requires Inv-loop μ-loop
 rotate-requires c κs =
@@ -55,15 +45,20 @@ loop-less c =
 
 loop-again : tie.Need-loop-again Inv-loop μ-loop
 loop-again c =
+    let after-first2 : tie.After-first2 Inv-loop μ-loop = search in
     let after-rotate : tie.After-rotate Inv-loop μ-loop = search in
+    let after-put-frame : tie.After-put-frame Inv-loop μ-loop = search in
     let after-cool : tie.After-cool Inv-loop μ-loop = search in
     let then1 : tie.Then1 Inv-loop μ-loop = search in
     let after-is-warm : tie.After-is-warm Inv-loop μ-loop = search in
     let at-loop : tie.At-loop Inv-loop μ-loop = search in
-    round-again (at-loop .loop .inv) (sym (after-is-warm .is-warm .ensures) ∙ then1 .if1 .taken) (after-cool .cool .ensures) (after-rotate .rotate .ensures) (c .before .first2 .ensures) (c .frame-at2 .ensures)
+    round-again (at-loop .loop .inv) (sym (after-is-warm .is-warm .ensures) ∙ then1 .if1 .taken) (after-cool .cool .ensures) (after-put-frame .put-frame .ensures) (after-rotate .rotate .ensures) (after-first2 .first2 .ensures) (c .frame-at2 .ensures)
+
+same-length : tie.Need-same-length Inv-loop μ-loop
+same-length c = sym (unpacked-length _) ∙ frames-long (c .before .before .loop .inv) ∙ unpacked-length _
 
 returns : tie.Need-returns Inv-loop μ-loop
 returns c = round-ends (c .before .before .loop .inv) (sym (c .before .is-warm .ensures) ∙ c .if1 .left)
 
 pub turn-spec : {M : Type 1} → statement M
-turn-spec = tie.close (tie.spec Inv-loop μ-loop (λ c κs. search needs) (λ c κs. search needs) loop-holds (λ c κs. search needs) (λ c κs. search needs) mul-kept array-set-from-kept rotate-requires (λ c κs. search needs) (λ c κs. search needs) add-looks loop-less loop-again (λ c. search needs) returns)
+turn-spec = tie.close (tie.spec Inv-loop μ-loop (λ c κs. search needs) (λ c κs. search needs) loop-holds (λ c κs. search needs) (λ c κs. search needs) (λ c κs. search needs) rotate-requires (λ c κs. search needs) (λ c κs. search needs) add-looks loop-less loop-again same-length (λ c. search needs) returns)

@@ -6,6 +6,7 @@ use Rattle.tables.specs.Questions.{yes-all}
 use Rattle.model.specs.declared.frame.Frame.{Frame}
 use Rattle.model.specs.Own.{first-yes, first-no}
 use Rattle.leaves.specs.FrameLaws.{frame-take}
+use Rattle.leaves.specs.Packed.{unpacked}
 use Rattle.writeback.proofs.page_done.ask_done.Statement.{statement}
 use Rattle.writeback.proofs.page_done.ask_done.Tie as tie
 
@@ -20,13 +21,13 @@ returns-3 c =
     let f : tie.After-frame-at = search in
     let s : tie.Start = search in
     sym (first-yes 3 _ _ (omega arith, omega arith)
-    ∙ first-no 22 _ _ (λ h. h (ap (λ (g : Frame). g .transfer) (frame-take (s .args .sizes .frames) (s .args .frames) (s .args .frame) (omega arith) ∙ sym (f .frame-at .ensures)) ∙ c .if3 .taken)))
+    ∙ first-no 22 _ _ (λ h. h (ap (λ (g : Frame). g .transfer) (frame-take (s .args .sizes .frames) (unpacked (s .args .frames .now)) (s .args .frame) (omega arith) ∙ sym (f .frame-at .ensures)) ∙ c .if3 .taken)))
 
 returns-4 : tie.Need-returns-4
 returns-4 c =
     let f : tie.After-frame-at = search in
     let s : tie.Start = search in
-    sym (yes-all _ ((omega arith, omega arith), (λ e. c .if3 .left (ap (λ (g : Frame). g .transfer) (f .frame-at .ensures ∙ sym (frame-take (s .args .sizes .frames) (s .args .frames) (s .args .frame) (omega arith))) ∙ e), tt)))
+    sym (yes-all _ ((omega arith, omega arith), (λ e. c .if3 .left (ap (λ (g : Frame). g .transfer) (f .frame-at .ensures ∙ sym (frame-take (s .args .sizes .frames) (unpacked (s .args .frames .now)) (s .args .frame) (omega arith))) ∙ e), tt)))
 
 pub ask-done-spec : {M : Type 1} → statement M
 ask-done-spec = tie.close (tie.spec returns returns-2 (λ c κs. search needs) returns-3 returns-4)

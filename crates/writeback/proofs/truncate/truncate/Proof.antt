@@ -1,6 +1,6 @@
 -- `truncate` meets its contract: each way out by its law.
 use borrow.Author.Needs.{needs}
-use native.Mathlib.Omega.{arith}
+use Rattle.leaves.specs.Packed.{unpacked}
 use Rattle.writeback.proofs.TruncateWork.{Passed, refused, passed, cut-off}
 use Rattle.writeback.proofs.truncate.truncate.Statement.{statement}
 use Rattle.writeback.proofs.truncate.truncate.Tie as tie
@@ -11,10 +11,10 @@ start p = search
 
 told : (p : tie.Else1)
     → (let a = start p .args in
-    Passed (a .sizes) (a .frames) (a .accounts .now) (a .limits .now) (a .parents .now) (a .free-queue .now) (a .removal-list .now) (a .addresses .now) (a .states .now) (a .used .now) (a .slot) (a .k))
+    Passed (a .sizes) (unpacked (a .frames .now)) (a .accounts .now) (a .limits .now) (a .parents .now) (a .free-queue .now) (a .removal-list .now) (a .addresses .now) (a .states .now) (a .used .now) (a .slot) (a .k))
 told p =
     let a = start p .args in
-    passed (a .sizes) (a .frames) (a .numbers .now) (a .accounts .now) (a .limits .now) (a .parents .now) (a .free-queue .now) (a .removal-list .now) (a .addresses .now) (a .states .now) (a .active .now) (a .used .now)
+    passed (a .sizes) (unpacked (a .frames .now)) (a .numbers .now) (a .accounts .now) (a .limits .now) (a .parents .now) (a .free-queue .now) (a .removal-list .now) (a .addresses .now) (a .states .now) (a .active .now) (a .used .now)
     (a .slot) (a .k) (p .before .ask-truncate .ensures) (p .if1 .left) (start p .pre)
 
 ask-truncate-requires : tie.Need-ask-truncate-requires
@@ -23,22 +23,18 @@ ask-truncate-requires c κs =
     (s .pre .0 .frames-most, s .pre .0 .pages-most, s .pre .0 .slots-most)
 
 returns : tie.Need-returns
-returns c = refused _ _ _ _ _ _ _ _ _ _ _ _ _ _ (c .before .before .ask-truncate .ensures) (c .before .if1 .taken) (c .answered .ensures)
-
-charges-requires : tie.Need-charges-requires
-charges-requires c κs =
-    let p : tie.Else1 = search in
-    told p .sized
-
-uncharge-requires : tie.Need-uncharge-requires
-uncharge-requires c κs =
-    let p : tie.Else1 = search in
-    told p .pays _ (c .before .charges .ensures)
+returns c = refused _ _ _ _ _ _ _ _ _ _ _ _ _ _ (c .before .ask-truncate .ensures) (c .if1 .taken)
 
 free-frames-requires : tie.Need-free-frames-requires
 free-frames-requires c κs =
     let p : tie.Else1 = search in
     told p .cutting
+
+uncharge-requires : tie.Need-uncharge-requires
+uncharge-requires c κs =
+    let freed : tie.After-free-frames = search in
+    let p : tie.Else1 = search in
+    told p .pays _ (freed .free-frames .ensures .0)
 
 release-from-requires : tie.Need-release-from-requires
 release-from-requires c κs =
@@ -55,19 +51,22 @@ clear-frames-requires c κs =
     let p : tie.Else1 = search in
     told p .sized
 
+abbrev freed-at : tie.After-uncharge → tie.After-free-frames
+freed-at c = search
+
 returns-2 : tie.Need-returns-2
 returns-2 c =
+    let gone : tie.After-clear-frames = search in
     let cleared : tie.After-clear-from = search in
     let released : tie.After-release-from = search in
-    let freed : tie.After-free-frames = search in
     let uncharged : tie.After-uncharge = search in
-    let counted : tie.After-charges = search in
+    let freed = freed-at uncharged in
     let p : tie.Else1 = search in
     let a = start p .args in
-    cut-off (a .sizes) (a .frames) (a .numbers .now) (a .accounts .now) (a .limits .now) (a .parents .now) (a .free-queue .now) (a .removal-list .now) (a .addresses .now) (a .states .now) (a .active .now) (a .used .now)
-    (a .slot) (a .k) (p .before .ask-truncate .ensures) (p .if1 .left) (start p .pre) (omega (arith, start p .good .1 .1 .1 .0))
-    (counted .charges .ensures) (uncharged .uncharge .ensures) (freed .free-frames .ensures .0) (freed .free-frames .ensures .1) (released .release-from .ensures) (cleared .clear-from .ensures)
-    (c .before .clear-frames .ensures) (c .answered2 .ensures)
+    cut-off (a .sizes) (unpacked (a .frames .now)) (a .numbers .now) (a .accounts .now) (a .limits .now) (a .parents .now) (a .free-queue .now) (a .removal-list .now) (a .addresses .now) (a .states .now) (a .active .now) (a .used .now)
+    (a .slot) (a .k) (p .before .ask-truncate .ensures) (p .if1 .left) (start p .pre) _
+    (freed .free-frames .ensures .0) (uncharged .uncharge .ensures) (freed .free-frames .ensures .1 .0) (freed .free-frames .ensures .1 .1) (released .release-from .ensures) (cleared .clear-from .ensures)
+    (gone .clear-frames .ensures)
 
 pub truncate-spec : {M : Type 1} → statement M
-truncate-spec = tie.close (tie.spec ask-truncate-requires (λ c κs. search needs) returns charges-requires uncharge-requires free-frames-requires release-from-requires clear-from-requires clear-frames-requires (λ c κs. search needs) (λ c. search needs) (λ c. search needs) (λ c. search needs) (λ c. search needs) (λ c. search needs) returns-2)
+truncate-spec = tie.close (tie.spec ask-truncate-requires (λ c. search needs) returns free-frames-requires uncharge-requires release-from-requires clear-from-requires clear-frames-requires (λ c. search needs) (λ c. search needs) (λ c. search needs) (λ c. search needs) (λ c. search needs) (λ c. search needs) returns-2)

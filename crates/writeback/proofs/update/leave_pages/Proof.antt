@@ -8,6 +8,7 @@ use lib.ListN.{length}
 use Rattle.tables.specs.StoreLoops.{Turned, turned-none, turned-all, part-inside}
 use Rattle.tables.specs.StoreNamed.{Named, named-none, named-all}
 use Rattle.model.specs.Lines.{LEAVING}
+use Rattle.leaves.specs.Packed.{unpacked}
 use Rattle.writeback.specs.Update.{leavingPage}
 use Rattle.writeback.proofs.Leaves.{may, turn-leaves, turn-stays}
 use Rattle.writeback.proofs.update.leave_pages.Statement.{statement}
@@ -16,7 +17,7 @@ use Rattle.writeback.proofs.update.leave_pages.Tie as tie
 abbrev Inv-loop : tie.InvT-loop
 Inv-loop sizes slot frames ads₀ ss₀ pages end i₀ ads ss i =
     (slot * sizes .pages ≤ i) × (i ≤ slot * sizes .pages + sizes .pages)
-    × (Turned ads₀ (leavingPage sizes frames ads₀ ss₀ slot) (λ k. 0) i ads × Named ss₀ (length ads₀) (leavingPage sizes frames ads₀ ss₀ slot) ads₀ (λ r. LEAVING) i ss)
+    × (Turned ads₀ (leavingPage sizes (unpacked frames) ads₀ ss₀ slot) (λ k. 0) i ads × Named ss₀ (length ads₀) (leavingPage sizes (unpacked frames) ads₀ ss₀ slot) ads₀ (λ r. LEAVING) i ss)
 
 abbrev μ-loop : tie.MeasureT-loop
 μ-loop sizes slot frames ads₀ ss₀ pages end i₀ ads ss i = slot * sizes .pages + sizes .pages - i
@@ -48,7 +49,7 @@ move-record-requires c κs =
     let in-loop : tie.In-loop Inv-loop μ-loop = search in
     let at-loop : tie.At-loop Inv-loop μ-loop = search in
     let start : tie.Start Inv-loop μ-loop = search in
-    may (start .args .frames) (start .pre) (at-loop .loop .i) (at-loop .loop .inv .2 .0) (at-loop .loop .inv .2 .1) (at-loop .loop .inv .0) (omega (arith, in-loop .loop-test .taken)) (c .before .before .leaving-of .ensures) (c .before .if1 .taken)
+    may (unpacked (start .args .frames .now)) (start .pre) (at-loop .loop .i) (at-loop .loop .inv .2 .0) (at-loop .loop .inv .2 .1) (at-loop .loop .inv .0) (omega (arith, in-loop .loop-test .taken)) (c .before .before .leaving-of .ensures) (c .before .if1 .taken)
 
 loop-again : tie.Need-loop-again Inv-loop μ-loop
 loop-again c =
@@ -59,8 +60,8 @@ loop-again c =
       omega arith,
       omega arith,
       ⊎-elim
-          (λ w. turn-leaves (a .frames) (start .pre) (at-loop .loop .i) (at-loop .loop .inv .2 .0) (at-loop .loop .inv .2 .1) (at-loop .loop .inv .0) (omega (arith, in-loop .loop-test .taken)) (c .before .leaving-of .ensures) (w .0 .taken) (w .5) (w .6 ∙ w .2 .ensures))
-          (λ w. turn-stays (a .frames) (start .pre) (at-loop .loop .i) (at-loop .loop .inv .2 .0) (at-loop .loop .inv .2 .1) (at-loop .loop .inv .0) (omega (arith, in-loop .loop-test .taken)) (c .before .leaving-of .ensures) (w .0 .left) (w .1) (w .2))
+          (λ w. turn-leaves (unpacked (a .frames .now)) (start .pre) (at-loop .loop .i) (at-loop .loop .inv .2 .0) (at-loop .loop .inv .2 .1) (at-loop .loop .inv .0) (omega (arith, in-loop .loop-test .taken)) (c .before .leaving-of .ensures) (w .0 .taken) (w .5) (w .6 ∙ w .2 .ensures))
+          (λ w. turn-stays (unpacked (a .frames .now)) (start .pre) (at-loop .loop .i) (at-loop .loop .inv .2 .0) (at-loop .loop .inv .2 .1) (at-loop .loop .inv .0) (omega (arith, in-loop .loop-test .taken)) (c .before .leaving-of .ensures) (w .0 .left) (w .1) (w .2))
           (c .if1 .came),
     )
 

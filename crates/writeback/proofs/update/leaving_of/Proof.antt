@@ -5,6 +5,7 @@ use mathlib.Core.Logic.{inl, inr}
 use Prim.Native.Nat.{_-_}
 use native.Mathlib.Omega.{arith}
 use Rattle.tables.specs.Base.{at}
+use Rattle.leaves.specs.Packed.{unpacked}
 use Rattle.writeback.proofs.Leaves.{in-frame, in-none}
 use Rattle.writeback.proofs.update.leaving_of.Statement.{statement}
 use Rattle.writeback.proofs.update.leaving_of.Tie as tie
@@ -22,7 +23,7 @@ returns-3 : tie.Need-returns-3
 returns-3 c =
     let start : tie.Start = search in
     let a = start .args in
-    inr (λ h. h .1 (in-frame (a .count) (a .frames) (a .i) (c .before .frame-of .ensures) (c .if3 .taken)), refl)
+    inr (λ h. h .1 (in-frame (a .count) (unpacked (a .frames .now)) (a .i) (c .before .frame-of .ensures) (c .if3 .taken)), refl)
 
 returns-4 : tie.Need-returns-4
 returns-4 c =
@@ -34,7 +35,7 @@ returns-4 c =
     inl (
       (
         (after-at16 .at16 .result - 1, omega (arith, after-at16 .at16 .ensures, else1 .if1 .left), sym (after-at8 .at8 .ensures) ∙ c .before .before .if2 .left),
-        in-none (a .count) (a .frames) (a .i) (c .before .frame-of .ensures) (λ h. omega (arith, h, c .if3 .left)),
+        in-none (a .count) (unpacked (a .frames .now)) (a .i) (c .before .frame-of .ensures) (λ h. omega (arith, h, c .if3 .left)),
       ),
       after-at16 .at16 .ensures,
     )

@@ -1,6 +1,7 @@
 -- `update` meets its contract: each way out by its law.
 use borrow.Author.Needs.{needs}
 use native.Mathlib.Omega.{arith}
+use Rattle.leaves.specs.Packed.{unpacked}
 use Rattle.writeback.proofs.UpdateWork.{refused, images-fit, pages-ready, updated}
 use Rattle.writeback.proofs.Moves.{released-leaving}
 use Rattle.writeback.proofs.update.update.Statement.{statement}
@@ -17,13 +18,13 @@ fill-image-requires : tie.Need-fill-image-requires
 fill-image-requires c κs =
     let p : tie.Else1 = search in
     let a = start p .args in
-    (start p .pre .0 .pages-some, images-fit (a .sizes) (a .frames) (a .numbers .now) (a .addresses .now) (a .states .now) (a .owners .now) (a .active .now) (a .updating .now) (a .images .now) (a .slot) (p .before .ask-update .ensures) (p .if1 .left) (start p .pre))
+    (start p .pre .0 .pages-some, images-fit (a .sizes) (unpacked (a .frames .now)) (a .numbers .now) (a .addresses .now) (a .states .now) (a .owners .now) (a .active .now) (a .updating .now) (a .images .now) (a .slot) (p .before .ask-update .ensures) (p .if1 .left) (start p .pre))
 
 leave-pages-requires : tie.Need-leave-pages-requires
 leave-pages-requires c κs =
     let p : tie.Else1 = search in
     let a = start p .args in
-    pages-ready (a .sizes) (a .frames) (a .numbers .now) (a .addresses .now) (a .states .now) (a .owners .now) (a .active .now) (a .updating .now) (a .images .now) (a .slot) (p .before .ask-update .ensures) (p .if1 .left) (start p .pre)
+    pages-ready (a .sizes) (unpacked (a .frames .now)) (a .numbers .now) (a .addresses .now) (a .states .now) (a .owners .now) (a .active .now) (a .updating .now) (a .images .now) (a .slot) (p .before .ask-update .ensures) (p .if1 .left) (start p .pre)
 
 move-all-requires : tie.Need-move-all-requires
 move-all-requires c κs =

@@ -1,40 +1,44 @@
--- `in_turn` meets its contract: what the tables hold is what the first t requests leave; lengths and rules follow from that.
-use mathlib.Core.Path.{sym, _∙_}
+-- `turns` meets its contract: what the tables hold is what the first t requests leave; lengths and rules follow from that.
+use mathlib.Core.Path.{_≡_, refl, sym, ap, _∙_}
 use Prim.Native.Nat.{_-_, _≤_}
 use native.Mathlib.Omega.{arith}
-use lib.ListN.{take}
+use lib.ListN.{length, take}
 use Rattle.model.specs.Lent.{allOf}
+use Rattle.model.specs.declared.frame.Pool.{Pool}
+use Rattle.model.specs.Pool.{taken, deposited}
+use Rattle.leaves.specs.Packed.{unpacked}
 use Rattle.batch.proofs.Together.{Turned, turned-none, turned-next, turned-end, turned-long, turned-kept}
-use Rattle.batch.proofs.in_turn.Statement.{statement}
-use Rattle.batch.proofs.in_turn.Tie as tie
+use Rattle.batch.proofs.turns.turns.Statement.{statement}
+use Rattle.batch.proofs.turns.turns.Tie as tie
 
--- the tables, in the order in which they are lent: a to u, and the parents p, which stay
+-- the tables, in the order in which they are lent: the frames w, then a to u, and the parents p, which stay
 abbrev Inv-loop : tie.InvT-loop
-Inv-loop z n requests answers₀ a₀ b₀ c₀ d₀ e₀ p f₀ g₀ h₀ i₀ j₀ k₀ l₀ m₀ o₀ q₀ r₀ u₀ held₀ t₀
-    answers a b c d e f g h i j k l m o q r u held t =
+Inv-loop z n requests answers₀ w₀ a₀ b₀ c₀ d₀ e₀ p f₀ g₀ h₀ i₀ j₀ k₀ l₀ m₀ o₀ q₀ r₀ u₀ last₀ t₀
+    answers w a b c d e f g h i j k l m o q r u last t =
     (t ≤ n) × Turned z requests answers₀
-    (allOf (take (z .frames) (held₀ .frames)) (held₀ .pool) a₀ b₀ c₀ d₀ e₀ p f₀ g₀ h₀ i₀ j₀ k₀ l₀ m₀ o₀ q₀ r₀ u₀) t (held .answer) answers
-    (allOf (take (z .frames) (held .frames)) (held .pool) a b c d e p f g h i j k l m o q r u)
+    (allOf (take (z .frames) (unpacked w₀)) (last₀ .pool) a₀ b₀ c₀ d₀ e₀ p f₀ g₀ h₀ i₀ j₀ k₀ l₀ m₀ o₀ q₀ r₀ u₀) t (last .answer) answers
+    (allOf (take (z .frames) (unpacked w)) (last .pool) a b c d e p f g h i j k l m o q r u)
+    × (length w ≡ length w₀) × (t ≡ 0 → last .pool ≡ last₀ .pool) × (t ≡ 1 → last .pool ≡ deposited (last .deposited) (taken z (last .taken) (last₀ .pool)))
 
 abbrev μ-loop : tie.MeasureT-loop
-μ-loop z n requests answers₀ a₀ b₀ c₀ d₀ e₀ p f₀ g₀ h₀ i₀ j₀ k₀ l₀ m₀ o₀ q₀ r₀ u₀ held₀ t₀
-    answers a b c d e f g h i j k l m o q r u held t = n - t
+μ-loop z n requests answers₀ w₀ a₀ b₀ c₀ d₀ e₀ p f₀ g₀ h₀ i₀ j₀ k₀ l₀ m₀ o₀ q₀ r₀ u₀ last₀ t₀
+    answers w a b c d e f g h i j k l m o q r u last t = n - t
 
 -- from the loop back to the start; from the call, from what follows it and from the end back to the loop
 abbrev start : tie.At-loop Inv-loop μ-loop → tie.Start Inv-loop μ-loop
 start l = search
 
-abbrev turning : tie.After-turn-arg18 Inv-loop μ-loop → tie.In-loop Inv-loop μ-loop
+abbrev turning : tie.After-turn-arg19 Inv-loop μ-loop → tie.In-loop Inv-loop μ-loop
 turning c = search
 
-abbrev turned : tie.After-slice-known36 Inv-loop μ-loop → tie.After-turn Inv-loop μ-loop
+abbrev turned : tie.After-slice-known38 Inv-loop μ-loop → tie.After-turn Inv-loop μ-loop
 turned c = search
 
 abbrev looped : tie.After-loop Inv-loop μ-loop → tie.At-loop Inv-loop μ-loop
 looped c = search
 
 loop-holds : tie.Need-loop-holds Inv-loop μ-loop
-loop-holds c = (omega arith, turned-none)
+loop-holds c = (omega arith, turned-none, refl, λ h. refl, λ h. absurd (omega (arith, h)))
 
 turn-requires : tie.Need-turn-requires Inv-loop μ-loop
 turn-requires c κs =
@@ -55,13 +59,21 @@ loop-again : tie.Need-loop-again Inv-loop μ-loop
 loop-again c =
     let w = turned c in
     let i = turning (w .before) in
-    (omega (arith, i .loop-test .taken), turned-next (i .before .loop .inv .1) (w .turn .ensures))
+    let l = i .before .loop in (
+      omega (arith, i .loop-test .taken),
+      turned-next (l .inv .1) (w .turn .ensures .0),
+      w .turn .kept .1 .1 .1 .1 .1 .0 ∙ l .inv .2,
+      λ h. absurd (omega (arith, h)),
+      λ h. w .turn .ensures .1 ∙ ap (λ (p : Pool). deposited (w .turn .result .deposited) (taken (start (i .before) .args .sizes) (w .turn .result .taken) p)) (l .inv .3 (omega (arith, h))),
+    )
 
 returns : tie.Need-returns Inv-loop μ-loop
-returns c = turned-end (looped c .loop .inv .0) (omega (arith, c .loop-test .left)) (looped c .loop .inv .1) .is
+returns c =
+    let l = looped c in
+    (turned-end (l .loop .inv .0) (omega (arith, c .loop-test .left)) (l .loop .inv .1) .is, λ h. l .loop .inv .4 (omega (arith, h, c .loop-test .left, l .loop .inv .0)))
 
-pub in-turn-spec : {M : Type 1} → statement M
-in-turn-spec =
+pub turns-spec : {M : Type 1} → statement M
+turns-spec =
     tie.close
     (tie.spec
     Inv-loop
@@ -72,6 +84,7 @@ in-turn-spec =
     loop-less
     loop-again
     (λ c. turned-long (looped c .loop .inv .1))
+    (λ c. looped c .loop .inv .2)
     -- question 1 of the tables as they are and as they came: so their lengths are the same
     (λ c. let k = start (looped c) .pre .2 in turned-kept k (looped c .loop .inv .1) .fits .disk .records ∙ sym (k .fits .disk .records))
     (λ c. let k = start (looped c) .pre .2 in turned-kept k (looped c .loop .inv .1) .fits .disk .numbers ∙ sym (k .fits .disk .numbers))

@@ -16,8 +16,8 @@ use Rattle.dispatch.specs.Kept.{Kept, kept}
 use Rattle.calls.specs.Frames.{all-lent, lent-first, lent-of}
 use Rattle.calls.specs.Common.{common-gives}
 use Rattle.batch.proofs.Whole.{all-refused, all-turned}
-use Rattle.batch.proofs.apply_all.Statement.{statement}
-use Rattle.batch.proofs.apply_all.Tie as tie
+use Rattle.batch.proofs.apply_all.apply_all.Statement.{statement}
+use Rattle.batch.proofs.apply_all.apply_all.Tie as tie
 
 -- the state by its frames
 abbrev at : tie.Start → List Frame → State
@@ -36,7 +36,7 @@ counted q = search
 abbrev start : tie.After-request-count → tie.Start
 start q = search
 
-abbrev worked : tie.After-slice-known37 → tie.After-in-turn
+abbrev worked : tie.After-answer → tie.After-in-turn
 worked c = search
 
 abbrev passed : tie.After-in-turn → tie.Else1
@@ -84,7 +84,7 @@ returns-2 c =
     let s = start n in
     let a = s .args in
     let g = both k in
-    all-turned (a .sizes) (a .requests .now) (a .answers .now) _ (n .request-count .ensures) (at s) _ (first s (g .0)) (w .in-turn .ensures)
+    all-turned (a .sizes) (a .requests .now) (a .answers .now) _ (n .request-count .ensures) (at s) _ (first s (g .0)) (w .in-turn .ensures .0)
     (lent-of (w .in-turn .result .frames) (a .lent) (a .sizes .frames) (all-lent (a .sizes) (at s) (λ l. refl) (a .frames) (a .lent) (g .0)) (fit (a .sizes) (lent s) (g .0) .sizes .frames-most) (long w))
 
 pub apply-all-spec : {M : Type 1} → statement M

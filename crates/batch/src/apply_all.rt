@@ -1,0 +1,120 @@
+// A list of requests in one call.
+ghost use mathlib.Core.Path.{_≡_};
+ghost use Rattle.model.specs.Lent.{allEntered, allLeft};
+ghost use Rattle.model.specs.Calls.{framesOf};
+ghost use Rattle.model.specs.ApplyAll.{applyAll};
+use crate::in_turn::in_turn;
+use crate::numbers::refuse_all;
+use crate::numbers::request_count;
+use calls::common::common;
+use model::applied::Pooled;
+use model::frame::Frame;
+use model::frame::Pool;
+use model::sizes::Sizes;
+
+// The whole list: refused by question 1 or 2, or carried out.
+// Shut out: question 2 asked of nothing.
+pub fn apply_all(
+    sizes: Sizes,
+    lent: usize,
+    frames: [Frame; 64],
+    pool: Pool,
+    requests: &[u32],
+    answers: &mut [u32],
+    records: &mut [u32],
+    numbers: &mut [u32],
+    accounts: &mut [u16],
+    maps: &mut [u16],
+    limits: &mut [u16],
+    parents: &[u16],
+    frame_words: &mut [u32],
+    free_queue: &mut [u16],
+    removal_list: &mut [u16],
+    addresses: &mut [u16],
+    states: &mut [u8],
+    owners: &mut [u8],
+    free_map: &mut [u32],
+    active: &mut [u8],
+    updating: &mut [u8],
+    images: &mut [u16],
+    line: &mut [u16],
+    used: &mut [u16],
+) -> Pooled
+    ensures { λ r. ⌜ record {
+      answer = r .answer;
+      answers = now (answers .exit);
+      left = allLeft (framesOf (r .frames) lent) (r .pool) records numbers accounts maps limits parents
+          «frame_words» «free_queue» «removal_list» addresses states owners «free_map» active updating images line used;
+    }
+        ≡ applyAll sizes (now (requests .entry)) (now (answers .entry))
+        (allEntered (framesOf frames lent) pool records numbers accounts maps limits parents
+        «frame_words» «free_queue» «removal_list» addresses states owners «free_map» active updating images line used) ⌝ }
+{
+    let n = request_count(requests.len(), answers.len());
+    let refusal = common(
+        sizes,
+        lent,
+        frames,
+        pool,
+        records,
+        numbers,
+        accounts,
+        maps,
+        limits,
+        parents,
+        frame_words,
+        free_queue,
+        removal_list,
+        addresses,
+        states,
+        owners,
+        free_map,
+        active,
+        updating,
+        images,
+        line,
+        used,
+    );
+    if refusal != 0 {
+        let answer = refuse_all(answers, n, refusal);
+        return Pooled {
+            frames,
+            pool,
+            answer,
+        };
+    }
+    let out = in_turn(
+        sizes,
+        n,
+        requests,
+        answers,
+        frames,
+        pool,
+        records,
+        numbers,
+        accounts,
+        maps,
+        limits,
+        parents,
+        frame_words,
+        free_queue,
+        removal_list,
+        addresses,
+        states,
+        owners,
+        free_map,
+        active,
+        updating,
+        images,
+        line,
+        used,
+    );
+    let frames = out.frames;
+    let pool = out.pool;
+    let answer = out.answer;
+    Pooled {
+        frames,
+        pool,
+        answer,
+    }
+}

@@ -1,0 +1,118 @@
+// One request in one call: a list of one.
+ghost use mathlib.Core.Path.{_≡_};
+ghost use Rattle.model.specs.Lent.{allEntered, allLeft};
+ghost use Rattle.model.specs.Calls.{framesOf, apply};
+ghost use Rattle.model.specs.Own.{leaves};
+ghost use Rattle.model.specs.Pool.{taken, deposited};
+use crate::in_turn::in_turn;
+use crate::numbers::as_numbers;
+use calls::common::common;
+use model::applied::Applied;
+use model::event::Answer;
+use model::frame::Frame;
+use model::frame::Pool;
+use model::request::Request;
+use model::sizes::Sizes;
+
+// Refused by question 1 or 2, or carried out.
+pub fn apply_one(
+    sizes: Sizes,
+    request: Request,
+    lent: usize,
+    frames: [Frame; 64],
+    pool: Pool,
+    records: &mut [u32],
+    numbers: &mut [u32],
+    accounts: &mut [u16],
+    maps: &mut [u16],
+    limits: &mut [u16],
+    parents: &[u16],
+    frame_words: &mut [u32],
+    free_queue: &mut [u16],
+    removal_list: &mut [u16],
+    addresses: &mut [u16],
+    states: &mut [u8],
+    owners: &mut [u8],
+    free_map: &mut [u32],
+    active: &mut [u8],
+    updating: &mut [u8],
+    images: &mut [u16],
+    line: &mut [u16],
+    used: &mut [u16],
+) -> Applied
+    ensures { λ r. ⌜ leaves (r .answer)
+        (allLeft (framesOf (r .frames) lent) (deposited (r .deposited) (taken sizes (r .taken) pool)) records numbers accounts maps limits parents
+        «frame_words» «free_queue» «removal_list» addresses states owners «free_map» active updating images line used)
+        ≡ apply sizes
+        (allEntered (framesOf frames lent) pool records numbers accounts maps limits parents
+        «frame_words» «free_queue» «removal_list» addresses states owners «free_map» active updating images line used) request ⌝ }
+{
+    let refusal = common(
+        sizes,
+        lent,
+        frames,
+        pool,
+        records,
+        numbers,
+        accounts,
+        maps,
+        limits,
+        parents,
+        frame_words,
+        free_queue,
+        removal_list,
+        addresses,
+        states,
+        owners,
+        free_map,
+        active,
+        updating,
+        images,
+        line,
+        used,
+    );
+    if refusal != 0 {
+        return Applied {
+            frames,
+            taken: 0,
+            deposited: 0,
+            answer: Answer { refusal, result: 0 },
+        };
+    }
+    let requests = as_numbers(request);
+    let mut answers: [u32; 2] = [0; 2];
+    let out = in_turn(
+        sizes,
+        1,
+        &requests,
+        &mut answers,
+        frames,
+        pool,
+        records,
+        numbers,
+        accounts,
+        maps,
+        limits,
+        parents,
+        frame_words,
+        free_queue,
+        removal_list,
+        addresses,
+        states,
+        owners,
+        free_map,
+        active,
+        updating,
+        images,
+        line,
+        used,
+    );
+    let frames = out.frames;
+    let answer = out.answer;
+    Applied {
+        frames,
+        taken: out.taken,
+        deposited: out.deposited,
+        answer,
+    }
+}
