@@ -1,23 +1,17 @@
 -- The loop that makes the slot's leaving records free: its four tables and numbers after the turns below r.
 use mathlib.Core.Path.{_≡_, refl, ap, sym, _∙_}
 use mathlib.Core.List.{List}
-use Prim.Native.Nat.{ℕ, suc, _+_, _<_, _≤_}
+use Prim.Native.Nat.{ℕ, zero, suc, _+_, _-_, _<_, _≤_}
 use native.Mathlib.Numerals.{add-one}
 use native.Mathlib.Omega.{arith}
 use lib.ListN.{length, set, length-set}
 use Rattle.tables.specs.Base.{at}
-use Rattle.tables.specs.StoreLoops.{Turned, turned-none, turned-by, turn-on, turn-off, turned-all, turned-at}
+use Rattle.tables.specs.StoreLoops.{turned-none, turned-by, turn-on, turn-off, turned-all, turned-at}
 use Rattle.model.specs.declared.sizes.Sizes.{Sizes}
 use Rattle.model.specs.Lines.{FREE, LEAVING}
 use Rattle.model.specs.State.{freeCount}
 use Rattle.leaves.specs.FreeMap.{freeMap}
-use Rattle.leaves.specs.Freed.{MapFits, Freed, leaverOf, count-freed}
-
-pub record Freeing (z : Sizes) (s : ℕ) (states₀ owners₀ : List ℕ) (r : ℕ) (states owners map : List ℕ) (n : ℕ) : Type 0 where
-  pub the-states : Turned states₀ (leaverOf states₀ owners₀ s) (λ k. FREE) r states
-  pub the-owners : Turned owners₀ (leaverOf states₀ owners₀ s) (λ k. 0) r owners
-  pub fits : MapFits z states map
-  pub the-count : n ≡ freeCount z (at states)
+use Rattle.leaves.specs.Freed.{MapFits, Freeing, Freed, leaverOf, count-freed}
 
 pub begun : (z : Sizes) (s : ℕ) (states owners map : List ℕ) (n : ℕ) → MapFits z states map → n ≡ freeCount z (at states) → Freeing z s states owners 0 states owners map n
 begun z s states owners map n f e = record {
@@ -26,6 +20,13 @@ begun z s states owners map n f e = record {
   fits = f;
   the-count = e;
 }
+
+-- the map fits once the record is free, and where nothing changed
+pub fits-freed : {z : Sizes} {map states' map' : List ℕ} (states : List ℕ) (r : ℕ) → MapFits z states map → states' ≡ set states r FREE → map' ≡ freeMap z (at states') → MapFits z states' map'
+fits-freed states r f es em = record { states-long = ap length es ∙ length-set states r FREE ∙ f .states-long; told = em }
+
+pub fits-same : {z : Sizes} {states map states' map' : List ℕ} → MapFits z states map → states' ≡ states → map' ≡ map → MapFits z states' map'
+fits-same {z} f es em = record { states-long = ap length es ∙ f .states-long; told = em ∙ f .told ∙ ap (λ (l : List ℕ). freeMap z (at l)) (sym es) }
 
 module _ {z : Sizes} {s : ℕ} {states₀ owners₀ : List ℕ} {states owners map : List ℕ} {n : ℕ} (r : ℕ) (d : Freeing z s states₀ owners₀ r states owners map n) where
   old-state : at states r ≡ at states₀ r
@@ -43,7 +44,7 @@ module _ {z : Sizes} {s : ℕ} {states₀ owners₀ : List ℕ} {states owners m
       record {
         the-states = turned-by _ es (turn-on r (d .the-states) (omega (arith, d .the-states .long)) leaves FREE refl);
         the-owners = turned-by _ eo (turn-on r (d .the-owners) (omega arith) leaves 0 refl);
-        fits = record { states-long = ap length es ∙ length-set states r FREE ∙ long; told = em };
+        fits = fits-freed states r (d .fits) es em;
         the-count = en ∙ add-one n ∙ ap suc (d .the-count) ∙ sym (count-freed z states map (d .fits) r h (λ q. omega (arith, sym e ∙ q))) ∙ ap (λ (l : List ℕ). freeCount z (at l)) (sym es);
       }
 
@@ -55,7 +56,7 @@ module _ {z : Sizes} {s : ℕ} {states₀ owners₀ : List ℕ} {states owners m
       record {
         the-states = turned-by _ es (turn-off r (d .the-states) stays);
         the-owners = turned-by _ eo (turn-off r (d .the-owners) stays);
-        fits = record { states-long = ap length es ∙ d .fits .states-long; told = em ∙ d .fits .told ∙ ap (λ (l : List ℕ). freeMap z (at l)) (sym es) };
+        fits = fits-same (d .fits) es em;
         the-count = en ∙ d .the-count ∙ ap (λ (l : List ℕ). freeCount z (at l)) (sym es);
       }
 
@@ -66,3 +67,13 @@ module _ {z : Sizes} {s : ℕ} {states₀ owners₀ : List ℕ} {states owners m
     the-map = d .fits .told;
     the-count = d .the-count;
   }
+
+-- no record from r up to e leaves: all of them are passed
+passed-some : {z : Sizes} {s : ℕ} {states₀ owners₀ states owners map : List ℕ} {n : ℕ} (m r : ℕ) → Freeing z s states₀ owners₀ r states owners map n → ((k : ℕ) → r ≤ k → k < r + m → at states k ≡ LEAVING → at owners k ≡ s → ⊥) → Freeing z s states₀ owners₀ (r + m) states owners map n
+passed-some zero r d none = let e : r ≡ r + 0 = omega arith in rw (← e) d
+passed-some (suc m) r d none =
+    let e : r + 1 + m ≡ r + suc m = omega arith in
+    rw (← e) (passed-some m (r + 1) (passed r d (none r (omega arith) (omega arith)) refl refl refl refl) (λ k h l. none k (omega arith) (omega arith)))
+
+pub passed-to : {z : Sizes} {s : ℕ} {states₀ owners₀ states owners map : List ℕ} {n : ℕ} (r e : ℕ) → r ≤ e → Freeing z s states₀ owners₀ r states owners map n → ((k : ℕ) → r ≤ k → k < e → at states k ≡ LEAVING → at owners k ≡ s → ⊥) → Freeing z s states₀ owners₀ e states owners map n
+passed-to r e h d none = let q : r + (e - r) ≡ e = omega arith in rw q at (passed-some (e - r) r d (λ k a b. none k a (omega arith)))

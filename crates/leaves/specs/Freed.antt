@@ -6,8 +6,9 @@ use lib.ListN.{length, set}
 use lib.Seq.{getD-set-same, getD-set-other}
 use Rattle.tables.specs.Laws.{length-tab}
 use Rattle.tables.specs.Base.{at}
-use Rattle.tables.specs.Rule.{Rule, same, _and_}
+use Rattle.tables.specs.Rule.{Rule, same, below, non, _and_}
 use Rattle.tables.specs.Store.{store}
+use Rattle.tables.specs.StoreLoops.{Turned}
 use Rattle.model.specs.declared.sizes.Sizes.{Sizes}
 use Rattle.model.specs.Lines.{FREE, LEAVING}
 use Rattle.model.specs.State.{freeCount}
@@ -24,11 +25,26 @@ pub record MapFits (z : Sizes) (states map : List ℕ) : Type 0 where
 abbrev pub leaverOf : List ℕ → List ℕ → ℕ → ℕ → Rule
 leaverOf states owners s r = same (at states r) LEAVING and same (at owners r) s
 
+-- .. from record a up
+abbrev pub leaverFrom : List ℕ → List ℕ → ℕ → ℕ → ℕ → Rule
+leaverFrom states owners s a r = non (below r a) and leaverOf states owners s r
+
 pub record Freed (z : Sizes) (s : ℕ) (states owners states' owners' map' : List ℕ) (n : ℕ) : Type 0 where
   pub the-states : states' ≡ store states (leaverOf states owners s) (λ r. FREE)
   pub the-owners : owners' ≡ store owners (leaverOf states owners s) (λ r. 0)
   pub the-map : map' ≡ freeMap z (at states')
   pub the-count : n ≡ freeCount z (at states')
+
+-- the same in turns: those of the records below r are made free
+pub record Freeing (z : Sizes) (s : ℕ) (states₀ owners₀ : List ℕ) (r : ℕ) (states owners map : List ℕ) (n : ℕ) : Type 0 where
+  pub the-states : Turned states₀ (leaverOf states₀ owners₀ s) (λ k. FREE) r states
+  pub the-owners : Turned owners₀ (leaverOf states₀ owners₀ s) (λ k. 0) r owners
+  pub fits : MapFits z states map
+  pub the-count : n ≡ freeCount z (at states)
+
+-- .. from the turns below a to those below b, with so many more free records
+abbrev pub FreedOn : Sizes → ℕ → ℕ → ℕ → List ℕ → List ℕ → List ℕ → List ℕ → List ℕ → List ℕ → ℕ → Type 0
+FreedOn z s a b states owners map states' owners' map' n = (states₀ owners₀ : List ℕ) (m : ℕ) → Freeing z s states₀ owners₀ a states owners map m → Freeing z s states₀ owners₀ b states' owners' map' (m + n)
 
 -- ── one record of a map that fits ──
 module _ (z : Sizes) (states map : List ℕ) (fits : MapFits z states map) (r : ℕ) (inside : r < z .records) where

@@ -10,5 +10,4 @@ pub mod Near
 pub mod Packed
 pub mod Payers
 pub mod Picks
-pub mod Released
 pub mod Search

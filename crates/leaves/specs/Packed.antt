@@ -5,6 +5,7 @@ use Prim.Native.Nat.{ℕ, zero, suc, _+_, _*_, _/_, _%_, _<_}
 use native.Mathlib.Omega.{arith}
 use lib.ListN.{length, take, set, getD, length-map, List·getD-map}
 use Rattle.tables.specs.Base.{at}
+use Rattle.tables.specs.Rule.{Rule, same, some}
 use Rattle.model.specs.declared.sizes.Sizes.{Sizes}
 use Rattle.model.specs.declared.frame.Frame.{Frame}
 use Rattle.model.specs.State.{frameAt, noFrame}
@@ -24,6 +25,10 @@ unpack w = record {
 -- the frames of a table
 unfoldable pub unpacked : List ℕ → List Frame
 unpacked ws = map unpack ws
+
+-- one of the four numbers from f on has the page's entry
+abbrev pub inFour : List ℕ → ℕ → ℕ → Rule
+inFour ws e f = some 4 (λ k. same (at ws (f + k) % 65536) e)
 
 -- ── by bare names: the frames in use, as they were passed and as they were left ──
 abbrev pub framesGiven : Sizes → Ref → List Frame

@@ -54,16 +54,21 @@ pub fn push_front(q: &mut [u16], f: usize)
     }
 }
 
-// The entry at j goes: each from there on takes the next one's value.
+// The entry at j goes: each from there on takes the next one's value, the last one 0.
 fn close_gap(q: &mut [u16], j: usize)
     ensures { λ _. ⌜ now (q .exit) ≡ store (now (q .entry)) (λ k. non (below k j)) (λ k. at (now (q .entry)) (k + 1)) ⌝ }
 {
+    let n = q.len();
+    if j >= n {
+        return;
+    }
+    let last = n - 1;
     let mut k = j;
-    while k < q.len() {
-        let next = at16(q, k + 1);
-        q[k] = next;
+    while k < last {
+        q[k] = q[k + 1];
         k += 1;
     }
+    q[last] = 0;
 }
 
 pub fn pop(q: &mut [u16])

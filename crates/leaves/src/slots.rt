@@ -1,9 +1,9 @@
 // The entries of one slot in a table of pages.
 ghost use mathlib.Core.Path.{_≡_};
-ghost use Prim.Native.Nat.{_+_, _*_, _/_, _%_, _<_, _≤_};
+ghost use Prim.Native.Nat.{_+_, _*_, _/_, _<_, _≤_};
 ghost use lib.ListN.{length};
 ghost use Rattle.tables.specs.Base.{at};
-ghost use Rattle.tables.specs.Rule.{same, below, non, _and_};
+ghost use Rattle.tables.specs.Rule.{same};
 ghost use Rattle.tables.specs.Store.{store};
 ghost use Rattle.tables.specs.StoreLoops.{between};
 
@@ -47,13 +47,4 @@ pub fn clear_slot(to: &mut [u16], pages: usize, slot: usize)
 {
     let start = slot * pages;
     clear_range(to, start, start + pages);
-}
-
-// .. from page k up.
-pub fn clear_from(to: &mut [u16], pages: usize, slot: usize, k: usize)
-    requires { ⌜ (0 < pages) × (k ≤ pages) × (slot * pages + pages ≤ length (now to)) ⌝ }
-    ensures { λ _. ⌜ now (to .exit) ≡ store (now (to .entry)) (λ i. same (i / pages) slot and non (below (i % pages) k)) (λ i. 0) ⌝ }
-{
-    let start = slot * pages;
-    clear_range(to, start + k, start + pages);
 }

@@ -1,19 +1,13 @@
 // The states of the records: every store of one goes along one of the eleven lines, or leaves it as it was.
 ghost use mathlib.Core.Path.{_≡_};
 ghost use mathlib.Core.Bool.{true};
-ghost use Prim.Native.Nat.{suc, _<_, _≤_};
+ghost use Prim.Native.Nat.{_≤_};
 ghost use lib.Dec.{T};
 ghost use lib.ListN.{length, set};
 ghost use Rattle.tables.specs.Base.{at};
-ghost use Rattle.tables.specs.Rule.{same, some, _and_};
+ghost use Rattle.tables.specs.Rule.{same, _and_};
 ghost use Rattle.tables.specs.Store.{Split, store};
-ghost use Rattle.model.specs.Lines.{RELEASED, allowed};
-ghost use Rattle.model.specs.State.{allPages};
-ghost use Rattle.model.specs.Parts.{fromPage};
-ghost use Rattle.leaves.specs.Released.{Releasing};
-use crate::cells::at16;
-use model::lines::RELEASED;
-use model::sizes::Sizes;
+ghost use Rattle.model.specs.Lines.{allowed};
 
 // The record moves to another state, along a line.
 pub fn move_record(states: &mut [u8], r: usize, to: u8)
@@ -46,22 +40,5 @@ pub fn move_all(states: &mut [u8], owners: &[u8], slot: usize, from: u8, to: u8)
     while r < states.len() {
         states[r] = moved(states[r], owners[r] == owner, from, to);
         r += 1;
-    }
-}
-
-// The records of the slot's pages from page k up are released.
-pub fn release_from(sizes: Sizes, states: &mut [u8], addresses: &[u16], slot: usize, k: usize)
-    requires { ⌜ Releasing sizes slot k (now states) (now addresses) ⌝ }
-    ensures { λ _. ⌜ now (states .exit) ≡ store (now (states .entry)) (λ r. some (allPages sizes) λ i. fromPage sizes slot k i and same (at (now (addresses .entry)) i) (suc r)) (λ r. RELEASED) ⌝ }
-{
-    let pages = sizes.pages;
-    let end = slot * pages + pages;
-    let mut i = slot * pages + k;
-    while i < end {
-        let address = at16(addresses, i);
-        if address != 0 {
-            move_record(states, address as usize - 1, RELEASED);
-        }
-        i += 1;
     }
 }

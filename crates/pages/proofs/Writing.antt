@@ -123,9 +123,9 @@ module _ (a : WriteCall) where
           ])
           (λ k. elim k [ inl l ↦ inl l | inr (j, l, (x, m)) ↦ inr (sym (its-told z fs i h seats (λ y. same (y .modified) (g .modified)) its-switch j l x) ∙ m) ])
 
-      -- b is what the code finds, q who pays, r what the payment tells and us what it leaves
-      module _ (j : ℕ) (b r : Bool) (q : ℕ) (us : List ℕ) (ej : j ≡ i) (eb : b ≡ test (isCharged (g .modified) (a .addresses) (a .states) j)) (eq : q ≡ who)
-          (er : r ≡ if b true (ltb (at (a .used) q) (at (a .limits) q))) (eu : us ≡ if (r && not b) (charged1 (a .used) q) (a .used)) where
+      -- b is what the code finds, r what the payment tells and us what it leaves
+      module _ (j : ℕ) (b r : Bool) (us : List ℕ) (ej : j ≡ i) (eb : b ≡ test (isCharged (g .modified) (a .addresses) (a .states) j))
+          (er : r ≡ if b true (ltb (at (a .used) who) (at (a .limits) who))) (eu : us ≡ if (r && not b) (charged1 (a .used) who) (a .used)) where
         found : b ≡ test isCharged?
         found = eb ∙ ap (λ (k : ℕ). test (isCharged (g .modified) (a .addresses) (a .states) k)) ej ∙ its-charge
 
@@ -135,7 +135,7 @@ module _ (a : WriteCall) where
 
         tells : r ≡ test (isCharged? or payable z state s 1)
         unfolding test payer
-        tells = er ∙ (λ t. if (found t) true (ltb (at (a .used) (eq t)) (at (a .limits) (eq t)))) ∙ go (test isCharged?) (below-more (at (a .used) who) (at (a .limits) who))
+        tells = er ∙ (λ t. if (found t) true (ltb (at (a .used) who) (at (a .limits) who))) ∙ go (test isCharged?) (below-more (at (a .used) who) (at (a .limits) who))
           where
             go : (c : Bool) {x y : Bool} → x ≡ y → if c true x ≡ (c || y)
             go true w = refl
@@ -149,7 +149,7 @@ module _ (a : WriteCall) where
           write-denied = own-no z state (writing s p (a .word) (a .value)) 18 denied (λ x. omega arith)
 
           pub used-denied : us ≡ usedLeft z state s p (a .word) (a .value)
-          used-denied = eu ∙ ap (λ (c : Bool). if (c && not b) (charged1 (a .used) q) (a .used)) no ∙ left-no (λ x. omega (arith, denied, x))
+          used-denied = eu ∙ ap (λ (c : Bool). if (c && not b) (charged1 (a .used) who) (a .used)) no ∙ left-no (λ x. omega (arith, denied, x))
 
         module _ (ok : r ≡ true) where
           all : firstNo asked ≡ 0
@@ -160,7 +160,7 @@ module _ (a : WriteCall) where
 
           pub used-yes : us ≡ usedLeft z state s p (a .word) (a .value)
           unfolding usedThen payer
-          used-yes = eu ∙ (λ t. if (ok t && not (found t)) (charged1 (a .used) (eq t)) (a .used)) ∙ go (test isCharged?) (charged1 (a .used) who) (a .used)
+          used-yes = eu ∙ (λ t. if (ok t && not (found t)) (charged1 (a .used) who) (a .used)) ∙ go (test isCharged?) (charged1 (a .used) who) (a .used)
               ∙ sym (ap (λ (m : ℕ). outcome m 0 (a .used) (usedThen z state s i) .left) all)
             where
               go : (c : Bool) (x y : List ℕ) → if (not c) x y ≡ if c y x

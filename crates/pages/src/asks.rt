@@ -48,23 +48,39 @@ fn is_quiet(reads: bool, frame: Frame) -> bool
     frame.transfer == NONE
 }
 
-// Questions 13 and 14; reads: of a read or a look.
-pub fn ask_frame(reads: bool, sizes: Sizes, frames: &[u64], page: usize) -> u32
+// What the questions about a page's frame find: the number of the first that fails, or 0; and the frame.
+pub struct Seat {
+    pub refusal: u32,
+    pub frame: usize,
+}
+
+// Questions 13 and 14, and the page's frame, or the count of frames where it is in none; reads: of a read or a look.
+pub fn ask_frame(reads: bool, sizes: Sizes, frames: &[u64], page: usize) -> Seat
     requires { ⌜ Seats sizes (framesGiven sizes frames) × (page < 65535) ⌝ }
-    ensures { λ r. ⌜ r ≡ firstNo (frameAsked reads sizes (framesEntered sizes frames) page) ⌝ }
+    ensures answer { λ r. ⌜ r .refusal ≡ firstNo (frameAsked reads sizes (framesEntered sizes frames) page) ⌝ }
+    ensures frame { λ r. ⌜ r .frame ≡ frameIn (sizes .frames) (unpacked (now (frames .entry))) page ⌝ }
 {
     let f = frame_of(frames, sizes.frames, page);
     if f >= sizes.frames {
-        return PAGE_OUT;
+        return Seat {
+            refusal: PAGE_OUT,
+            frame: f,
+        };
     }
     let frame = frame_at(frames, f);
     if is_quiet(reads, frame) {
-        return 0;
+        return Seat {
+            refusal: 0,
+            frame: f,
+        };
     }
-    IN_TRANSFER
+    Seat {
+        refusal: IN_TRANSFER,
+        frame: f,
+    }
 }
 
-// Questions 3, 4, 8, 13 and 14: those of a read, a write and a page look; reads: not of a write.
+// Questions 3, 4, 8, 13 and 14: those of a read, a write and a page look; reads: not of a write. All yes: the page's frame.
 pub fn ask_served(
     reads: bool,
     sizes: Sizes,
@@ -74,24 +90,19 @@ pub fn ask_served(
     frames: &[u64],
     numbers: &[u32],
     active: &[u8],
-) -> u32
+) -> Seat
     requires { ⌜ Seats sizes (framesGiven sizes frames) × ((«in_range» ≡ true) → (slot < sizes .slots) × (page < sizes .pages)) ⌝ }
-    ensures answer { λ r. ⌜ r ≡ firstNo (slotAsked «in_range» slot (now (numbers .entry)) (now (active .entry)) also frameAsked reads sizes (framesEntered sizes frames) (pageOf sizes slot page)) ⌝ }
-    ensures given { λ r. ⌜ (r ≡ 0 → («in_range» ≡ true) × (frameIn (sizes .frames) (unpacked (now (frames .entry))) (pageOf sizes slot page) < sizes .frames)) ⌝ }
+    ensures answer { λ r. ⌜ r .refusal ≡ firstNo (slotAsked «in_range» slot (now (numbers .entry)) (now (active .entry)) also frameAsked reads sizes (framesEntered sizes frames) (pageOf sizes slot page)) ⌝ }
+    ensures given { λ r. ⌜ (r .refusal ≡ 0 → («in_range» ≡ true) × (r .frame ≡ frameIn (sizes .frames) (unpacked (now (frames .entry))) (pageOf sizes slot page))
+        × (frameIn (sizes .frames) (unpacked (now (frames .entry))) (pageOf sizes slot page) < sizes .frames)) ⌝ }
 {
     let no = ask_slot(in_range, slot, numbers, active);
     if no != 0 {
-        return no;
+        return Seat {
+            refusal: no,
+            frame: 0,
+        };
     }
     let i = page_of(sizes, slot, page);
     ask_frame(reads, sizes, frames, i)
-}
-
-// The frame that the page is in, or the count of frames.
-pub fn its_frame(sizes: Sizes, slot: usize, page: usize, frames: &[u64]) -> usize
-    requires { ⌜ Within sizes × (slot < sizes .slots) × (page < sizes .pages) ⌝ }
-    ensures { λ r. ⌜ r ≡ frameIn (sizes .frames) (unpacked (now (frames .entry))) (pageOf sizes slot page) ⌝ }
-{
-    let i = page_of(sizes, slot, page);
-    frame_of(frames, sizes.frames, i)
 }

@@ -7,7 +7,6 @@ ghost use Rattle.pages.specs.Seen.{seen};
 ghost use Rattle.pages.specs.Needs.{Seats};
 ghost use Rattle.pages.specs.Looks.{placed};
 use crate::asks::ask_served;
-use crate::asks::its_frame;
 use crate::asks::word_of;
 use model::applied::Part;
 use model::sizes::Sizes;
@@ -25,18 +24,17 @@ pub fn place(
     ensures within { λ r. ⌜ r .start + r .count ≤ sizes .frames * sizes .words ⌝ }
 {
     let in_range = (slot < sizes.slots) & (page < sizes.pages);
-    let refusal = ask_served(true, sizes, in_range, slot, page, frames, numbers, active);
-    if refusal != 0 {
+    let seat = ask_served(true, sizes, in_range, slot, page, frames, numbers, active);
+    if seat.refusal != 0 {
         return Part {
-            refusal,
+            refusal: seat.refusal,
             start: 0,
             count: 0,
         };
     }
-    let f = its_frame(sizes, slot, page, frames);
     Part {
         refusal: 0,
-        start: word_of(sizes, f, 0),
+        start: word_of(sizes, seat.frame, 0),
         count: sizes.words,
     }
 }

@@ -7,7 +7,6 @@ ghost use Rattle.leaves.specs.Packed.{framesGiven, framesEntered, framesLeft};
 ghost use Rattle.pages.specs.Seen.{enteredWords};
 ghost use Rattle.pages.specs.Needs.{Seats};
 use crate::asks::ask_served;
-use crate::asks::its_frame;
 use crate::asks::word_of;
 use leaves::cells::at32;
 use leaves::packed::frame_at;
@@ -30,15 +29,17 @@ pub fn read(
     ensures frames { λ r. ⌜ framesLeft sizes frames ≡ own sizes (enteredWords (framesEntered sizes frames) numbers words active) (Event.Page (Page.Read slot page word)) .left .memory .core .frames ⌝ }
 {
     let in_range = (slot < sizes.slots) & ((page < sizes.pages) & (word < sizes.words));
-    let refusal = ask_served(true, sizes, in_range, slot, page, frames, numbers, active);
-    if refusal != 0 {
-        return Answer { refusal, result: 0 };
+    let seat = ask_served(true, sizes, in_range, slot, page, frames, numbers, active);
+    if seat.refusal != 0 {
+        return Answer {
+            refusal: seat.refusal,
+            result: 0,
+        };
     }
-    let f = its_frame(sizes, slot, page, frames);
-    let mut frame = frame_at(frames, f);
+    let mut frame = frame_at(frames, seat.frame);
     frame.used = 1;
-    put_frame(frames, f, frame);
-    let k = word_of(sizes, f, word);
+    put_frame(frames, seat.frame, frame);
+    let k = word_of(sizes, seat.frame, word);
     let result = at32(words, k);
     Answer { refusal: 0, result }
 }

@@ -7,7 +7,6 @@ ghost use Rattle.leaves.specs.Packed.{framesGiven, framesEntered, framesLeft};
 ghost use Rattle.pages.specs.Seen.{enteredList};
 ghost use Rattle.pages.specs.Needs.{Seats, RemovalList};
 use crate::asks::ask_served;
-use crate::asks::its_frame;
 use leaves::packed::frame_at;
 use leaves::packed::put_frame;
 use leaves::queue::push_back;
@@ -30,12 +29,14 @@ pub fn unwire(
     ensures list { λ r. ⌜ now («removal_list» .exit) ≡ own sizes (enteredList (framesEntered sizes frames) numbers «removal_list» active) (Event.Page (Page.Unwire slot page)) .left .memory .core .removal-list ⌝ }
 {
     let in_range = (slot < sizes.slots) & (page < sizes.pages);
-    let refusal = ask_served(false, sizes, in_range, slot, page, frames, numbers, active);
-    if refusal != 0 {
-        return Answer { refusal, result: 0 };
+    let seat = ask_served(false, sizes, in_range, slot, page, frames, numbers, active);
+    if seat.refusal != 0 {
+        return Answer {
+            refusal: seat.refusal,
+            result: 0,
+        };
     }
-    let f = its_frame(sizes, slot, page, frames);
-    let mut frame = frame_at(frames, f);
+    let mut frame = frame_at(frames, seat.frame);
     if frame.wired != 1 {
         return Answer {
             refusal: NOT_WIRED,
@@ -44,8 +45,8 @@ pub fn unwire(
     }
     frame.wired = 0;
     frame.initial = 0;
-    push_back(removal_list, f);
-    put_frame(frames, f, frame);
+    push_back(removal_list, seat.frame);
+    put_frame(frames, seat.frame, frame);
     Answer {
         refusal: 0,
         result: 0,

@@ -7,7 +7,6 @@ ghost use Rattle.leaves.specs.Packed.{framesGiven, framesEntered, framesLeft};
 ghost use Rattle.pages.specs.Seen.{enteredList};
 ghost use Rattle.pages.specs.Needs.{Seats, RemovalList};
 use crate::asks::ask_served;
-use crate::asks::its_frame;
 use leaves::packed::frame_at;
 use leaves::packed::put_frame;
 use leaves::queue::remove;
@@ -30,12 +29,14 @@ pub fn wire(
     ensures list { λ r. ⌜ now («removal_list» .exit) ≡ own sizes (enteredList (framesEntered sizes frames) numbers «removal_list» active) (Event.Page (Page.Wire slot page)) .left .memory .core .removal-list ⌝ }
 {
     let in_range = (slot < sizes.slots) & (page < sizes.pages);
-    let refusal = ask_served(false, sizes, in_range, slot, page, frames, numbers, active);
-    if refusal != 0 {
-        return Answer { refusal, result: 0 };
+    let seat = ask_served(false, sizes, in_range, slot, page, frames, numbers, active);
+    if seat.refusal != 0 {
+        return Answer {
+            refusal: seat.refusal,
+            result: 0,
+        };
     }
-    let f = its_frame(sizes, slot, page, frames);
-    let mut frame = frame_at(frames, f);
+    let mut frame = frame_at(frames, seat.frame);
     if frame.wired == 1 {
         return Answer {
             refusal: WIRED,
@@ -43,8 +44,8 @@ pub fn wire(
         };
     }
     frame.wired = 1;
-    remove(removal_list, f);
-    put_frame(frames, f, frame);
+    remove(removal_list, seat.frame);
+    put_frame(frames, seat.frame, frame);
     Answer {
         refusal: 0,
         result: 0,

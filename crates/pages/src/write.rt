@@ -6,7 +6,6 @@ ghost use Rattle.pages.specs.Seen.{enteredWrite};
 ghost use Rattle.pages.specs.Needs.{Seats};
 ghost use Rattle.pages.specs.Writes.{writing, usedLeft};
 use crate::asks::ask_served;
-use crate::asks::its_frame;
 use crate::asks::page_of;
 use crate::asks::word_of;
 use crate::charges::is_charged;
@@ -14,7 +13,6 @@ use crate::charges::pay;
 use leaves::cells::put32;
 use leaves::packed::frame_at;
 use leaves::packed::put_frame;
-use leaves::payer::slot_payer;
 use model::event::Answer;
 use model::refusals::AT_LIMIT;
 use model::sizes::Sizes;
@@ -43,16 +41,17 @@ pub fn write(
     ensures used { λ r. ⌜ now (used .exit) ≡ usedLeft sizes (enteredWrite (framesEntered sizes frames) numbers accounts limits parents words addresses states active used) slot page word value ⌝ }
 {
     let in_range = (slot < sizes.slots) & ((page < sizes.pages) & (word < sizes.words));
-    let refusal = ask_served(false, sizes, in_range, slot, page, frames, numbers, active);
-    if refusal != 0 {
-        return Answer { refusal, result: 0 };
+    let seat = ask_served(false, sizes, in_range, slot, page, frames, numbers, active);
+    if seat.refusal != 0 {
+        return Answer {
+            refusal: seat.refusal,
+            result: 0,
+        };
     }
-    let f = its_frame(sizes, slot, page, frames);
-    let mut frame = frame_at(frames, f);
+    let mut frame = frame_at(frames, seat.frame);
     let i = page_of(sizes, slot, page);
     let charged = is_charged(i, frame.modified, addresses, states);
-    let payer = slot_payer(parents, limits, accounts, slot);
-    if pay(charged, payer, limits, used) {} else {
+    if pay(charged, slot, accounts, limits, parents, used) {} else {
         return Answer {
             refusal: AT_LIMIT,
             result: 0,
@@ -60,8 +59,8 @@ pub fn write(
     }
     frame.used = 1;
     frame.modified = 1;
-    put_frame(frames, f, frame);
-    let k = word_of(sizes, f, word);
+    put_frame(frames, seat.frame, frame);
+    let k = word_of(sizes, seat.frame, word);
     put32(words, k, value);
     Answer {
         refusal: 0,

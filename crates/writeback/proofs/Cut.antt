@@ -1,13 +1,16 @@
 -- The pages of a slot from page k up, counted one at a time.
-use mathlib.Core.Path.{_≡_}
+use mathlib.Core.Path.{_≡_, subst}
 use mathlib.Core.Bool.{Bool, true, false, _&&_}
 use Prim.Native.Nat.{ℕ, _+_, _<_, _≤_}
 use native.Mathlib.Omega.{arith}
 use native.Mathlib.Numerals.{add-one}
-use lib.Dec.{leb, leb→le, le→leb}
+use lib.Dec.{T, leb, leb→le, le→leb}
 use Rattle.tables.specs.Base.{count}
 use Rattle.tables.specs.CountLaws.{count-none}
 use Rattle.tables.specs.Laws.{and-left, T→true, ¬T→false}
+
+pub not-false : {A : Type 0} → true ≡ false → A
+not-false e = absurd (subst (λ (b : Bool). T b) e tt)
 
 -- page p is from k up
 pub from-up : (k p : ℕ) → k ≤ p → leb k p ≡ true

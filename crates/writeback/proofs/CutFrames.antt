@@ -3,7 +3,7 @@ use mathlib.Core.Path.{_≡_, refl, ap, sym, _∙_}
 use mathlib.Core.Bool.{Bool, _&&_, _||_}
 use mathlib.Core.List.{List, [], _∷_, _++_, map, map-append, append-nil}
 use mathlib.Core.Logic.{inl, inr}
-use Prim.Native.Nat.{ℕ, suc, _+_, _-_, _*_, _<_, _≤_}
+use Prim.Native.Nat.{ℕ, zero, suc, _+_, _-_, _*_, _<_, _≤_}
 use native.Mathlib.Omega.{arith}
 use native.Mathlib.Numerals.{add-one}
 use native.Mathlib.Decide.{decLt}
@@ -22,7 +22,7 @@ use Rattle.model.specs.State.{frameAt}
 use Rattle.writeback.specs.ByPage.{ByPage}
 use Rattle.leaves.specs.FrameLaws.{frameIn}
 use Rattle.writeback.specs.Pages.{framed}
-use Rattle.writeback.specs.Truncate.{cutFrames, cutFrame, Cutting}
+use Rattle.writeback.specs.Truncate.{cutFrames, cutFrame, NoneCut, Cutting}
 use Rattle.writeback.proofs.Cut.{from-up}
 
 -- lists without numbers that pass alike
@@ -184,6 +184,11 @@ module _ (n pages s k : ℕ) (fs : List Frame) (fq rl : List ℕ) (ready : Cutti
       so-queue = a ∙ t .so-queue ∙ ap (λ (l : List ℕ). packed (length fq) (members fq ++ l)) (sym (cut-same m up d));
       so-list = b ∙ t .so-list ∙ ap (packed (length rl)) (without-alike (gone m) (gone (m + 1)) (members rl) (gone-same m d));
     }
+
+  -- no frame has one of the pages: nothing is freed
+  pub none-freed : NoneCut n pages s k fs → (j m : ℕ) → m ≡ k + j → m ≤ pages → CutTurn m fq rl
+  none-freed d zero m e h = let q : m ≡ k = omega (arith, e) in rw q turn-starts
+  none-freed d (suc j) m e h = let q : m ≡ k + j + 1 = omega (arith, e) in rw q (turn-leaves (omega arith) (none-freed d j (k + j) refl (omega (arith, e))) (λ x. d (x .0) (x .1) (omega (arith, x .2), omega (arith, x .2, e))) refl refl)
 
 -- a page's frame by the table of the slot's frames
 module _ (n pages s k : ℕ) (fs : List Frame) (fq rl : List ℕ) (ready : Cutting n pages s k fs fq rl) {table : List ℕ} (t : ByPage n pages s fs table) (p : ℕ) (b : p < pages) {e : ℕ} (q : e ≡ at table p) where

@@ -4,6 +4,7 @@ pub mod ClaimLaws
 pub mod ClaimWork
 pub mod Cut
 pub mod CutFrames
+pub mod CutPages
 pub mod DoneLaws
 pub mod DoneWork
 pub mod Kept

@@ -5,6 +5,7 @@ use mathlib.Core.List.{List, _++_, map}
 use mathlib.Core.Logic.{inl, inr}
 use Prim.Native.Nat.{ℕ, zero, suc, _+_, _-_, _*_, _<_, _≤_}
 use native.Mathlib.Omega.{arith}
+use native.Mathlib.Decide.{decLt}
 use lib.Dec.{leb}
 use lib.ListN.{length, take, set, length-take}
 use lib.Seq.{ext-getD}
@@ -30,16 +31,24 @@ use Rattle.model.specs.Writeback
 use Rattle.model.specs.Step.{Outcome, outcome, carried, result}
 use Rattle.model.specs.Own.{own, completed}
 use Rattle.leaves.specs.FrameLaws.{frameIn, frame-take, frame-found}
-use Rattle.leaves.specs.Released.{Releasing}
 use Rattle.model.specs.OwnLaws.{own-yes, own-no}
 use Rattle.leaves.specs.Payers.{whoPays}
 use Rattle.writeback.specs.Needs.{Sized, Queues, Placed, Addressed, Releasable, Paid}
-use Rattle.writeback.specs.Pages.{framed, charged, chargesFrom}
+use Rattle.writeback.specs.Pages.{framed, live, charged, liveFrom, chargesFrom}
 use Rattle.writeback.specs.Seen.{truncate, seenTruncate}
-use Rattle.writeback.specs.Truncate.{quiet, allQuiet, askFrames, cutFrame, cutFrames, CutGiven, Cutting, ClearedLeft, usedThen, usedLeft}
+use Rattle.writeback.specs.Truncate.{quiet, allQuiet, askFrames, cutFrame, cutFrames, NoneCut, CutGiven, Cutting, Releasing, ClearedLeft, usedThen, usedLeft}
+use Rattle.writeback.proofs.Cut.{not-up}
 use Rattle.writeback.proofs.CutFrames.{without-alike}
 use Rattle.writeback.proofs.UpdateWork.{answer}
 use Rattle.tables.specs.StoreLoops.{part-fits}
+
+-- no frame has one of the pages: only those with a live address are charged
+pub live-only : (n pages s k : ℕ) (fs : List Frame) (ds ss : List ℕ) → NoneCut n pages s k fs → liveFrom pages s k ds ss ≡ chargesFrom n pages s k fs ds ss
+live-only n pages s k fs ds ss d = count-same pages _ _ (λ p h. elim (decLt p k) [
+  | yes l ↦ rw (not-up k p l)
+  | no l ↦ ap (λ (b : Bool). leb k p && b) (alike (live ds ss (s * pages + p)) (charged n fs ds ss (s * pages + p)) (λ x. inl x)
+      (λ x. elim x [ inl y ↦ y | inr y ↦ absurd (d (y .0) (y .1) (omega (arith, y .2 .0), omega (arith, y .2 .0))) ]))
+])
 
 -- ── the code's frames and the model's, which are the first n of them ──
 module _ (n : ℕ) (fs : List Frame) where

@@ -24,3 +24,7 @@ charged n fs addresses states i = live addresses states i or some n λ f. same (
 -- how many of the slot's pages from k up are charged
 abbrev pub chargesFrom : ℕ → ℕ → ℕ → ℕ → List Frame → List ℕ → List ℕ → ℕ
 chargesFrom n pages s k fs addresses states = count pages (λ p. leb k p && test (charged n fs addresses states (s * pages + p)))
+
+-- how many of the slot's pages from k up have a live address
+abbrev pub liveFrom : ℕ → ℕ → ℕ → List ℕ → List ℕ → ℕ
+liveFrom pages s k addresses states = count pages (λ p. leb k p && test (live addresses states (s * pages + p)))

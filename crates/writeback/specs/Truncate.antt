@@ -3,7 +3,7 @@ use mathlib.Core.Path.{_≡_}
 use mathlib.Core.Bool.{_&&_}
 use mathlib.Core.List.{List, _++_, map}
 use Prim.Native.Nat.{ℕ, zero, suc, _+_, _-_, _*_, _<_, _≤_}
-use lib.Dec.{leb}
+use lib.Dec.{T, leb}
 use lib.ListN.{length, set}
 use Rattle.tables.specs.Base.{at, count, those}
 use Rattle.tables.specs.Queue.{members, packed, without}
@@ -12,7 +12,10 @@ use Rattle.tables.specs.Rule.{Rule, Holds, same, below, non, each, _and_, _then
 use Rattle.tables.specs.Store.{Split}
 use Rattle.model.specs.declared.sizes.Sizes.{Sizes}
 use Rattle.model.specs.declared.frame.Frame.{Frame}
-use Rattle.model.specs.State.{State, frameAt, noFrame, files, frames, pageOf, charged, payer}
+use Rattle.model.specs.State.{State, frameAt, noFrame, files, frames, pageOf, allPages, charged, payer}
+use Rattle.model.specs.Lines.{RELEASED, allowed}
+use Rattle.model.specs.Parts.{fromPage}
+use Rattle.model.specs.Rules.{once}
 use Rattle.model.specs.Questions.{questions}
 use Rattle.model.specs.Step.{outcome}
 use Rattle.model.specs.Lent.{Ref, Table}
@@ -37,6 +40,10 @@ askFrames n pages s k fs = ask 14 (allQuiet 0 n pages s k fs) (ask 16 (allQuiet 
 -- a frame whose page is one of the slot's, from k up to m
 abbrev pub cutFrame : ℕ → ℕ → ℕ → ℕ → Frame → Rule
 cutFrame pages s k m g = below (s * pages + k) (g .page) and below (g .page) (suc (s * pages + m))
+
+-- none of the first n frames has one of the slot's pages from k up
+abbrev pub NoneCut : ℕ → ℕ → ℕ → ℕ → List Frame → Type 0
+NoneCut n pages s k fs = (f : ℕ) → f < n → ¬ Holds (cutFrame pages s k pages (frameAt fs f))
 
 -- the frames of the slot's pages from k up to m, in page order
 abbrev pub cutFrames : ℕ → ℕ → ℕ → ℕ → List Frame → ℕ → List ℕ
@@ -65,6 +72,15 @@ abbrev pub FramesLeft : ℕ → ℕ → ℕ → ℕ → List Frame → Table →
 FramesLeft n pages s k fs free-queue removal-list =
     (free-queue .exit .now ≡ packed (length (free-queue .entry .now)) (members (free-queue .entry .now) ++ cutFrames n pages s k fs pages))
     × (removal-list .exit .now ≡ packed (length (removal-list .entry .now)) (without (λ f. test (cutFrame pages s k pages (frameAt fs f))) (members (removal-list .entry .now))))
+
+-- what the pass over the pages themselves is given: no two pages hold one record, and each record held may be released
+pub record Releasing (z : Sizes) (s k : ℕ) (states addresses : List ℕ) : Type 0 where
+  pub pages-some : 0 < z .pages
+  pub from : k ≤ z .pages
+  pub inside : s * z .pages + z .pages ≤ allPages z
+  pub addresses-long : length addresses ≡ allPages z
+  pub held-once : Holds (once (allPages z) (at addresses))
+  pub along : (i r : ℕ) → Holds (fromPage z s k i) → at addresses i ≡ suc r → (r < length states) × T (allowed (at states r) RELEASED)
 
 -- the pass that clears leaves each frame of these pages with no page, and the others as they were
 abbrev pub ClearedLeft : ℕ → ℕ → ℕ → ℕ → List Frame → List Frame → Type 0

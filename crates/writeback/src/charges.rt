@@ -20,6 +20,9 @@ pub fn uncharge(
     requires { ⌜ n ≤ at (now used) (whoPays (now accounts) (now limits) (now parents) slot) ⌝ }
     ensures { λ _. ⌜ now (used .exit) ≡ set (now (used .entry)) (whoPays (now (accounts .entry)) (now (limits .entry)) (now (parents .entry)) slot) (at (now (used .entry)) (whoPays (now (accounts .entry)) (now (limits .entry)) (now (parents .entry)) slot) - n) ⌝ }
 {
+    if n == 0 {
+        return;
+    }
     let q = slot_payer(parents, limits, accounts, slot);
     let less = at16(used, q) as usize - n;
     put16(used, q, less as u16);

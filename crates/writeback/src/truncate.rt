@@ -1,6 +1,8 @@
 // Truncate: the pages of a slot from page k up become zeros.
+ghost use mathlib.Core.Bool.{false};
 ghost use mathlib.Core.Path.{_≡_};
 ghost use Prim.Native.Nat.{_<_};
+ghost use Rattle.tables.specs.Base.{if};
 ghost use Rattle.tables.specs.Questions.{firstNo};
 ghost use Rattle.tables.specs.Rule.{test};
 ghost use Rattle.model.specs.Own.{own};
@@ -10,10 +12,11 @@ ghost use Rattle.writeback.specs.ByPage.{modifiedEntry, chargedEntry};
 ghost use Rattle.writeback.specs.Needs.{Sized, Queues, Placed, Addressed, Releasable, Paid};
 ghost use Rattle.writeback.specs.Pages.{chargesFrom};
 ghost use Rattle.writeback.specs.Seen.{truncate, enteredTruncate, askedTruncate};
-ghost use Rattle.writeback.specs.Truncate.{askFrames, CutGiven, FramesGiven, FramesLeft, ClearedLeft, usedLeft};
+ghost use Rattle.writeback.specs.Truncate.{askFrames, NoneCut, CutGiven, FramesGiven, FramesLeft, ClearedLeft, usedLeft};
 use crate::by_page::by_page;
 use crate::by_page::wide;
 use crate::charges::uncharge;
+use crate::cut_pages::cut_pages;
 use leaves::asks::ask_slot;
 use leaves::cells::at8;
 use leaves::cells::at16;
@@ -21,8 +24,6 @@ use leaves::packed::frame_at;
 use leaves::packed::put_frame;
 use leaves::queue::push_back;
 use leaves::queue::remove;
-use leaves::slots::clear_from;
-use leaves::states::release_from;
 use model::event::Answer;
 use model::frame::NONE;
 use model::frame::no_frame;
@@ -31,13 +32,21 @@ use model::refusals::IN_TRANSFER;
 use model::refusals::WIRED;
 use model::sizes::Sizes;
 
+// What the questions find: the number of the first that fails, or 0; and whether any of the pages that are cut off is in a frame.
+struct Found {
+    refusal: u32,
+    any: bool,
+}
+
 // Questions 14 and 16, of the frames of the slot's pages from k up.
-fn ask_frames(count: usize, pages: usize, slot: usize, k: usize, frames: &[u64]) -> u32
+fn ask_frames(count: usize, pages: usize, slot: usize, k: usize, frames: &[u64]) -> Found
     requires { ⌜ CutGiven count pages slot k ⌝ }
-    ensures { λ r. ⌜ r ≡ firstNo (askFrames count pages slot k (unpacked (now (frames .entry)))) ⌝ }
+    ensures answer { λ r. ⌜ r .refusal ≡ firstNo (askFrames count pages slot k (unpacked (now (frames .entry)))) ⌝ }
+    ensures any { λ r. ⌜ (r .any ≡ false → NoneCut count pages slot k (unpacked (now (frames .entry)))) ⌝ }
 {
     let start = slot * pages;
     let mut no = 0;
+    let mut any = false;
     let mut f = 0;
     while f < count {
         let frame = frame_at(frames, f);
@@ -45,8 +54,12 @@ fn ask_frames(count: usize, pages: usize, slot: usize, k: usize, frames: &[u64])
         if page > start + k {
             if page <= start + pages {
                 if frame.transfer != NONE {
-                    return IN_TRANSFER;
+                    return Found {
+                        refusal: IN_TRANSFER,
+                        any: true,
+                    };
                 }
+                any = true;
                 if frame.wired == 1 {
                     no = WIRED;
                 }
@@ -54,7 +67,7 @@ fn ask_frames(count: usize, pages: usize, slot: usize, k: usize, frames: &[u64])
         }
         f += 1;
     }
-    no
+    Found { refusal: no, any }
 }
 
 // Whether an entry names a modified frame.
@@ -82,12 +95,12 @@ fn is_charged(entry: usize, frames: &[u64], addresses: &[u16], states: &[u8], i:
     at8(states, address as usize - 1) == LIVE
 }
 
-// The frames of the slot's pages from k up lose their page and switches.
-fn clear_frames(count: usize, pages: usize, slot: usize, k: usize, frames: &mut [u64])
-    requires { ⌜ CutGiven count pages slot k ⌝ }
+// The frames of the slot's pages from k up, if there are any, lose their page and switches.
+fn clear_frames(any: bool, count: usize, pages: usize, slot: usize, k: usize, frames: &mut [u64])
+    requires { ⌜ CutGiven count pages slot k × («any» ≡ false → NoneCut count pages slot k (unpacked (now frames))) ⌝ }
     ensures { λ _. ⌜ ClearedLeft count pages slot k (unpacked (now (frames .entry))) (unpacked (now (frames .exit))) ⌝ }
 {
-    if k == pages {
+    if any {} else {
         return;
     }
     let start = slot * pages;
@@ -104,8 +117,9 @@ fn clear_frames(count: usize, pages: usize, slot: usize, k: usize, frames: &mut 
     }
 }
 
-// The frames of the slot's pages from k up join the free queue's end, in page order, and leave the removal list. How many of these pages are charged.
+// The frames of the slot's pages from k up, if there are any, join the free queue's end, in page order, and leave the removal list. How many of these pages are charged then.
 fn free_frames(
+    any: bool,
     sizes: Sizes,
     slot: usize,
     k: usize,
@@ -115,14 +129,14 @@ fn free_frames(
     free_queue: &mut [u16],
     removal_list: &mut [u16],
 ) -> usize
-    requires { ⌜ FramesGiven (sizes .frames) (sizes .pages) slot k (unpacked (now frames)) «free_queue» «removal_list» ⌝ }
-    ensures charges { λ r. ⌜ r ≡ chargesFrom (sizes .frames) (sizes .pages) slot k (unpacked (now (frames .entry))) (now (addresses .entry)) (now (states .entry)) ⌝ }
+    requires { ⌜ FramesGiven (sizes .frames) (sizes .pages) slot k (unpacked (now frames)) «free_queue» «removal_list» × («any» ≡ false → NoneCut (sizes .frames) (sizes .pages) slot k (unpacked (now frames))) ⌝ }
+    ensures charges { λ r. ⌜ r ≡ if any (chargesFrom (sizes .frames) (sizes .pages) slot k (unpacked (now (frames .entry))) (now (addresses .entry)) (now (states .entry))) 0 ⌝ }
     ensures queues { λ _. ⌜ FramesLeft (sizes .frames) (sizes .pages) slot k (unpacked (now (frames .entry))) «free_queue» «removal_list» ⌝ }
 {
-    let pages = sizes.pages;
-    if k == pages {
+    if any {} else {
         return 0;
     }
+    let pages = sizes.pages;
     let start = slot * pages;
     let mut entries: [u8; 256] = [0; 256];
     by_page(sizes.frames, pages, slot, frames, &mut entries);
@@ -150,14 +164,18 @@ fn ask_truncate(
     frames: &[u64],
     numbers: &[u32],
     active: &[u8],
-) -> u32
+) -> Found
     requires { ⌜ (sizes .frames < 65) × (sizes .pages < 257) × (sizes .slots < 65) ⌝ }
-    ensures { λ r. ⌜ r ≡ firstNo (questions sizes (askedTruncate (framesEntered sizes frames) numbers active) (truncate slot k)) ⌝ }
+    ensures answer { λ r. ⌜ r .refusal ≡ firstNo (questions sizes (askedTruncate (framesEntered sizes frames) numbers active) (truncate slot k)) ⌝ }
+    ensures any { λ r. ⌜ (r .refusal ≡ 0 → r .any ≡ false → NoneCut (sizes .frames) (sizes .pages) slot k (unpacked (now (frames .entry)))) ⌝ }
 {
     let in_range = (slot < sizes.slots) & (k <= sizes.pages);
     let no = ask_slot(in_range, slot, numbers, active);
     if no != 0 {
-        return no;
+        return Found {
+            refusal: no,
+            any: false,
+        };
     }
     ask_frames(sizes.frames, sizes.pages, slot, k, frames)
 }
@@ -189,11 +207,14 @@ pub fn truncate(
     ensures states { λ r. ⌜ now (states .exit) ≡ own sizes (enteredTruncate (framesEntered sizes frames) numbers accounts limits parents «free_queue» «removal_list» addresses states active used) (truncate slot k) .left .memory .held .states ⌝ }
     ensures used { λ r. ⌜ now (used .exit) ≡ usedLeft sizes (enteredTruncate (framesEntered sizes frames) numbers accounts limits parents «free_queue» «removal_list» addresses states active used) slot k ⌝ }
 {
-    let refusal = ask_truncate(sizes, slot, k, frames, numbers, active);
+    let found = ask_truncate(sizes, slot, k, frames, numbers, active);
+    let refusal = found.refusal;
     if refusal != 0 {
         return Answer { refusal, result: 0 };
     }
-    let n = free_frames(
+    let any = found.any;
+    let charges = free_frames(
+        any,
         sizes,
         slot,
         k,
@@ -203,9 +224,9 @@ pub fn truncate(
         free_queue,
         removal_list,
     );
+    clear_frames(any, sizes.frames, sizes.pages, slot, k, frames);
+    let live = cut_pages(sizes, slot, k, addresses, states);
+    let n = if any { charges } else { live };
     uncharge(used, accounts, limits, parents, slot, n);
-    release_from(sizes, states, addresses, slot, k);
-    clear_from(addresses, sizes.pages, slot, k);
-    clear_frames(sizes.frames, sizes.pages, slot, k, frames);
     Answer { refusal, result: 0 }
 }

@@ -19,7 +19,7 @@ returns c =
     let s : tie.Start = search in
     let o = c .before .before in
     let a = s .args in
-    sym (first-no 13 _ _ (its-none (a .sizes) (unpacked (a .frames .now)) (a .page) (rw (sym (o .frame-of .ensures)) (c .if1 .taken))))
+    (sym (first-no 13 _ _ (its-none (a .sizes) (unpacked (a .frames .now)) (a .page) (rw (sym (o .frame-of .ensures)) (c .if1 .taken)))), o .frame-of .ensures)
 
 returns-2 : tie.Need-returns-2
 returns-2 c =
@@ -31,7 +31,7 @@ returns-2 c =
     let h : frameIn (a .sizes .frames) (unpacked (a .frames .now)) (a .page) < a .sizes .frames = omega (arith, o .frame-of .ensures, g .before .if1 .left) in
     let e = g .frame-at .ensures ∙ ap (frameAt (unpacked (a .frames .now))) (o .frame-of .ensures) in
     let t = sym (q .is-quiet .ensures) ∙ c .if2 .taken in
-    sym (yes-all _ (its-some (a .sizes) (unpacked (a .frames .now)) (a .page) h, (its-told (a .sizes) (unpacked (a .frames .now)) (a .page) h (s .pre .0) (isQuiet (a .reads)) (rw (sym e) (sound (isQuiet (a .reads) (g .frame-at .result)) (rw t tt))), tt)))
+    (sym (yes-all _ (its-some (a .sizes) (unpacked (a .frames .now)) (a .page) h, (its-told (a .sizes) (unpacked (a .frames .now)) (a .page) h (s .pre .0) (isQuiet (a .reads)) (rw (sym e) (sound (isQuiet (a .reads) (g .frame-at .result)) (rw t tt))), tt))), o .frame-of .ensures)
 
 returns-3 : tie.Need-returns-3
 returns-3 c =
@@ -43,7 +43,7 @@ returns-3 c =
     let h : frameIn (a .sizes .frames) (unpacked (a .frames .now)) (a .page) < a .sizes .frames = omega (arith, o .frame-of .ensures, g .before .if1 .left) in
     let e = g .frame-at .ensures ∙ ap (frameAt (unpacked (a .frames .now))) (o .frame-of .ensures) in
     let t = sym (q .is-quiet .ensures) ∙ c .if2 .left in
-    sym (first-yes 13 _ _ (its-some (a .sizes) (unpacked (a .frames .now)) (a .page) h) ∙ first-no 14 _ _ (λ k. rw t at (complete (isQuiet (a .reads) (g .frame-at .result)) (rw e (its-tells (a .sizes) (unpacked (a .frames .now)) (a .page) h (isQuiet (a .reads)) k)))))
+    (sym (first-yes 13 _ _ (its-some (a .sizes) (unpacked (a .frames .now)) (a .page) h) ∙ first-no 14 _ _ (λ k. rw t at (complete (isQuiet (a .reads) (g .frame-at .result)) (rw e (its-tells (a .sizes) (unpacked (a .frames .now)) (a .page) h (isQuiet (a .reads)) k))))), o .frame-of .ensures)
 
 pub ask-frame-spec : {M : Type 1} → statement M
 ask-frame-spec = tie.close (tie.spec (λ c κs. search needs) returns (λ c κs. search needs) (λ c κs. search needs) returns-2 returns-3)

@@ -8,6 +8,7 @@ use Rattle.tables.specs.Also.{also-yes, also-no}
 use Rattle.model.specs.State.{pageOf}
 use Rattle.model.specs.Bounds.{page-most}
 use Rattle.leaves.specs.Asks.{slotAsked}
+use Rattle.leaves.specs.FrameLaws.{frameIn}
 use Rattle.leaves.specs.Packed.{unpacked, framesGiven}
 use Rattle.pages.specs.Asks.{frameAsked}
 use Rattle.pages.proofs.ItsFrame.{its-in}
@@ -35,14 +36,16 @@ ask-frame-requires c κs =
 
 returns-2 : tie.Need-returns-2
 returns-2 c =
-    let i = c .before in
+    let f : tie.After-ask-frame = search in
+    let i = f .before in
     let k = i .before .before in
     let s : tie.Start = search in
-    let e = c .ask-frame .ensures ∙ ap (λ (j : ℕ). firstNo (frameAsked (s .args .reads) (s .args .sizes) (framesGiven (s .args .sizes) (s .args .frames)) j)) (i .page-of .ensures) in
+    let e = f .ask-frame .ensures .0 ∙ ap (λ (j : ℕ). firstNo (frameAsked (s .args .reads) (s .args .sizes) (framesGiven (s .args .sizes) (s .args .frames)) j)) (i .page-of .ensures) in
     let t = sym (k .ask-slot .ensures) ∙ i .before .if1 .left in (
       e ∙ sym (also-yes 0 (slotAsked (s .args .in-range) (s .args .slot) (s .args .numbers .now) (s .args .active .now)) _ tt t),
       λ h. (
         T→true _ (all-yes 0 (slotAsked (s .args .in-range) (s .args .slot) (s .args .numbers .now) (s .args .active .now)) tt t .0),
+        f .ask-frame .ensures .1 ∙ ap (frameIn (s .args .sizes .frames) (unpacked (s .args .frames .now))) (i .page-of .ensures),
         its-in (s .args .sizes) (unpacked (s .args .frames .now)) (pageOf (s .args .sizes) (s .args .slot) (s .args .page)) (all-yes 0 (frameAsked (s .args .reads) (s .args .sizes) (framesGiven (s .args .sizes) (s .args .frames)) (pageOf (s .args .sizes) (s .args .slot) (s .args .page))) tt (sym e ∙ h) .0),
       ),
     )

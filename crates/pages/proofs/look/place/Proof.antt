@@ -16,31 +16,25 @@ ask-served-requires c κs = let s : tie.Start = search in (s .pre, λ e. page-ra
 returns : tie.Need-returns
 returns c =
     let s : tie.Start = search in
-    let k = c .before in
-    let a = s .args in
-    (placed-no (call s) (k .ask-served .result) (k .ask-served .ensures .0) (c .if1 .taken), omega arith)
-
-its-frame-requires : tie.Need-its-frame-requires
-its-frame-requires c κs =
-    let s : tie.Start = search in
-    let r = page-range (s .args .sizes) (s .args .slot) (s .args .page) (c .before .ask-served .ensures .1 (c .if1 .left) .0) in
-    (s .pre .sizes, r .0, r .1)
+    let k : tie.After-ask-served = search in
+    (placed-no (call s) (k .ask-served .result .refusal) (k .ask-served .ensures .0) (c .if1 .taken), omega arith)
 
 word-of-requires : tie.Need-word-of-requires
 word-of-requires c κs =
-    let k = c .before .before in
     let s : tie.Start = search in
-    (s .pre .sizes, rw (c .its-frame .ensures) (k .ask-served .ensures .1 (c .before .if1 .left) .1), s .pre .sizes .words)
+    let k : tie.After-ask-served = search in
+    let y = k .ask-served .ensures .1 (c .if1 .left) in
+    (s .pre .sizes, rw (y .1) (y .2), s .pre .sizes .words)
 
 returns-2 : tie.Need-returns-2
 returns-2 c =
     let s : tie.Start = search in
-    let f = c .before in
-    let k = f .before .before in
-    let a = s .args in (
-      placed-yes (call s) (k .ask-served .result) (k .ask-served .ensures .0) (f .before .if1 .left) (f .its-frame .result) (c .word-of .result) (f .its-frame .ensures) (c .word-of .ensures),
-      place-fits (call s) (f .its-frame .result) (c .word-of .result) (rw (f .its-frame .ensures) (k .ask-served .ensures .1 (f .before .if1 .left) .1)) (c .word-of .ensures),
+    let b : tie.Else1 = search in
+    let k : tie.After-ask-served = search in
+    let y = k .ask-served .ensures .1 (b .if1 .left) in (
+      placed-yes (call s) (k .ask-served .result .refusal) (k .ask-served .ensures .0) (b .if1 .left) (k .ask-served .result .frame) (c .word-of .result) (y .1) (c .word-of .ensures),
+      place-fits (call s) (k .ask-served .result .frame) (c .word-of .result) (rw (y .1) (y .2)) (c .word-of .ensures),
     )
 
 pub place-spec : {M : Type 1} → statement M
-place-spec = tie.close (tie.spec ask-served-requires returns its-frame-requires word-of-requires returns-2)
+place-spec = tie.close (tie.spec ask-served-requires returns word-of-requires returns-2)

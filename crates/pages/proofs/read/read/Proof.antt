@@ -33,26 +33,17 @@ returns c =
     let b : tie.Then1 = search in
     let k : tie.After-ask-served = search in
     let a = s .args in
-    let q = word-answer (call s) (a .word) true (k .ask-served .result) (k .ask-served .ensures .0) in
-    let o = own-no (a .sizes) (state (call s)) (event s) (k .ask-served .result) q (b .if1 .taken) in
+    let q = word-answer (call s) (a .word) true (k .ask-served .result .refusal) (k .ask-served .ensures .0) in
+    let o = own-no (a .sizes) (state (call s)) (event s) (k .ask-served .result .refusal) q (b .if1 .taken) in
     (λ i. o i .answer, λ i. o i .left .memory .core .frames)
-
-its-frame-requires : tie.Need-its-frame-requires
-its-frame-requires c κs =
-    let b : tie.Else1 = search in
-    let k : tie.After-ask-served = search in
-    let s = start k in
-    let r = word-range (s .args .sizes) (s .args .slot) (s .args .page) (s .args .word) (k .ask-served .ensures .1 (b .if1 .left) .0) in
-    (s .pre .sizes, r .0, r .1)
 
 word-of-requires : tie.Need-word-of-requires
 word-of-requires c κs =
-    let f : tie.After-its-frame = search in
     let b : tie.Else1 = search in
     let k : tie.After-ask-served = search in
     let s = start k in
-    let g = k .ask-served .ensures .1 (b .if1 .left) in
-    (s .pre .sizes, rw (f .its-frame .ensures) (g .1), word-range (s .args .sizes) (s .args .slot) (s .args .page) (s .args .word) (g .0) .2)
+    let y = k .ask-served .ensures .1 (b .if1 .left) in
+    (s .pre .sizes, rw (y .1) (y .2), word-range (s .args .sizes) (s .args .slot) (s .args .page) (s .args .word) (y .0) .2)
 
 returns-2 : tie.Need-returns-2
 returns-2 c =
@@ -60,17 +51,17 @@ returns-2 c =
     let w : tie.After-word-of = search in
     let l : tie.After-put-frame = search in
     let g : tie.After-frame-at = search in
-    let f : tie.After-its-frame = search in
     let b : tie.Else1 = search in
     let k : tie.After-ask-served = search in
     let s = start k in
     let a = s .args in
-    let q = word-answer (call s) (a .word) true (k .ask-served .result) (k .ask-served .ensures .0) in
-    let h = k .ask-served .ensures .1 (b .if1 .left) .1 in
-    let o = own-yes (a .sizes) (state (call s)) (event s) (k .ask-served .result) q (b .if1 .left) in (
-      read-answer (call s) (a .word) h (f .its-frame .result) (g .frame-at .result) (f .its-frame .ensures) (g .frame-at .ensures) (w .word-of .result) (e .at32 .result) (w .word-of .ensures) (e .at32 .ensures) ∙ (λ i. o i .answer),
-      read-frames (call s) (a .word) h (f .its-frame .result) (g .frame-at .result) (f .its-frame .ensures) (g .frame-at .ensures) _ (l .put-frame .ensures) ∙ (λ i. o i .left .memory .core .frames),
+    let q = word-answer (call s) (a .word) true (k .ask-served .result .refusal) (k .ask-served .ensures .0) in
+    let y = k .ask-served .ensures .1 (b .if1 .left) in
+    let h = y .2 in
+    let o = own-yes (a .sizes) (state (call s)) (event s) (k .ask-served .result .refusal) q (b .if1 .left) in (
+      read-answer (call s) (a .word) h (k .ask-served .result .frame) (g .frame-at .result) (y .1) (g .frame-at .ensures) (w .word-of .result) (e .at32 .result) (w .word-of .ensures) (e .at32 .ensures) ∙ (λ i. o i .answer),
+      read-frames (call s) (a .word) h (k .ask-served .result .frame) (g .frame-at .result) (y .1) (g .frame-at .ensures) _ (l .put-frame .ensures) ∙ (λ i. o i .left .memory .core .frames),
     )
 
 pub read-spec : {M : Type 1} → statement M
-read-spec = tie.close (tie.spec ask-served-requires (λ c. search needs) returns its-frame-requires (λ c κs. search needs) (λ c κs. search needs) word-of-requires (λ c κs. search needs) (λ c. search needs) returns-2)
+read-spec = tie.close (tie.spec ask-served-requires (λ c. search needs) returns (λ c κs. search needs) (λ c κs. search needs) word-of-requires (λ c κs. search needs) (λ c. search needs) returns-2)

@@ -24,37 +24,29 @@ returns : tie.Need-returns
 returns c =
     let k : tie.After-ask-served = search in
     let s = start k in
-    let o = unwire-no (call s) (k .ask-served .result) (k .ask-served .ensures .0) (c .if1 .taken) in
+    let o = unwire-no (call s) (k .ask-served .result .refusal) (k .ask-served .ensures .0) (c .if1 .taken) in
     ((λ i. o i .answer), ((λ i. o i .left .memory .core .frames), (λ i. o i .left .memory .core .removal-list)))
-
-its-frame-requires : tie.Need-its-frame-requires
-its-frame-requires c κs =
-    let u : tie.Else1 = search in
-    let k : tie.After-ask-served = search in
-    let s = start k in
-    let r = page-range (s .args .sizes) (s .args .slot) (s .args .page) (k .ask-served .ensures .1 (u .if1 .left) .0) in
-    (s .pre .0 .sizes, r .0, r .1)
 
 returns-2 : tie.Need-returns-2
 returns-2 c =
     let g : tie.After-frame-at = search in
-    let f : tie.After-its-frame = search in
     let u : tie.Else1 = search in
     let k : tie.After-ask-served = search in
     let s = start k in
-    let h = k .ask-served .ensures .1 (u .if1 .left) .1 in
-    let o = unwire-unwired (call s) (k .ask-served .result) (k .ask-served .ensures .0) (u .if1 .left) h (s .pre .0) (g .frame-at .result) (g .frame-at .ensures ∙ ap (frameAt (unpacked (s .args .frames .now))) (f .its-frame .ensures)) (c .if2 .taken) in
+    let y = k .ask-served .ensures .1 (u .if1 .left) in
+    let h = y .2 in
+    let o = unwire-unwired (call s) (k .ask-served .result .refusal) (k .ask-served .ensures .0) (u .if1 .left) h (s .pre .0) (g .frame-at .result) (g .frame-at .ensures ∙ ap (frameAt (unpacked (s .args .frames .now))) (y .1)) (c .if2 .taken) in
     ((λ i. o i .answer), ((λ i. o i .left .memory .core .frames), (λ i. o i .left .memory .core .removal-list)))
 
 push-back-requires : tie.Need-push-back-requires
 push-back-requires c κs =
     let e : tie.Else2 = search in
     let g : tie.After-frame-at = search in
-    let f : tie.After-its-frame = search in
     let u : tie.Else1 = search in
     let k : tie.After-ask-served = search in
     let s = start k in
-    unwire-needs (call s) (k .ask-served .ensures .1 (u .if1 .left) .1) (f .its-frame .result) (f .its-frame .ensures) (s .pre .0) (s .pre .1) (g .frame-at .result) (g .frame-at .ensures) (e .if2 .left)
+    let y = k .ask-served .ensures .1 (u .if1 .left) in
+    unwire-needs (call s) (y .2) (k .ask-served .result .frame) (y .1) (s .pre .0) (s .pre .1) (g .frame-at .result) (g .frame-at .ensures) (e .if2 .left)
 
 returns-3 : tie.Need-returns-3
 unfolding result
@@ -63,18 +55,18 @@ returns-3 c =
     let q : tie.After-push-back = search in
     let e : tie.Else2 = search in
     let g : tie.After-frame-at = search in
-    let f : tie.After-its-frame = search in
     let u : tie.Else1 = search in
     let k : tie.After-ask-served = search in
     let s = start k in
-    let h = k .ask-served .ensures .1 (u .if1 .left) .1 in
-    let o = unwire-yes (call s) (k .ask-served .result) (k .ask-served .ensures .0) (u .if1 .left) h (s .pre .0) (g .frame-at .result) (g .frame-at .ensures ∙ ap (frameAt (unpacked (s .args .frames .now))) (f .its-frame .ensures)) (e .if2 .left) in (
+    let y = k .ask-served .ensures .1 (u .if1 .left) in
+    let h = y .2 in
+    let o = unwire-yes (call s) (k .ask-served .result .refusal) (k .ask-served .ensures .0) (u .if1 .left) h (s .pre .0) (g .frame-at .result) (g .frame-at .ensures ∙ ap (frameAt (unpacked (s .args .frames .now))) (y .1)) (e .if2 .left) in (
       (λ i. o i .answer),
       (
-        unwire-frames (call s) h (f .its-frame .result) (f .its-frame .ensures) (g .frame-at .result) _ (g .frame-at .ensures) (l .put-frame .ensures) ∙ (λ i. o i .left .memory .core .frames),
-        unwire-list (call s) h (f .its-frame .result) (f .its-frame .ensures) _ (q .push-back .ensures) ∙ (λ i. o i .left .memory .core .removal-list),
+        unwire-frames (call s) h (k .ask-served .result .frame) (y .1) (g .frame-at .result) _ (g .frame-at .ensures) (l .put-frame .ensures) ∙ (λ i. o i .left .memory .core .frames),
+        unwire-list (call s) h (k .ask-served .result .frame) (y .1) _ (q .push-back .ensures) ∙ (λ i. o i .left .memory .core .removal-list),
       ),
     )
 
 pub unwire-spec : {M : Type 1} → statement M
-unwire-spec = tie.close (tie.spec ask-served-requires (λ c. search needs) returns its-frame-requires (λ c κs. search needs) (λ c. search needs) returns-2 push-back-requires (λ c κs. search needs) (λ c. search needs) (λ c. search needs) returns-3)
+unwire-spec = tie.close (tie.spec ask-served-requires (λ c. search needs) returns (λ c κs. search needs) (λ c. search needs) returns-2 push-back-requires (λ c κs. search needs) (λ c. search needs) (λ c. search needs) returns-3)

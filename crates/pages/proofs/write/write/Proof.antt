@@ -39,16 +39,8 @@ returns c =
     let b : tie.Then1 = search in
     let k : tie.After-ask-served = search in
     let s = start k in
-    let o = write-no (call s) (k .ask-served .result) (k .ask-served .ensures .0) (b .if1 .taken) in
-    (λ i. o i .answer, (λ i. o i .left .memory .core .frames, (λ i. o i .left .memory .core .words, used-no (call s) (k .ask-served .result) (k .ask-served .ensures .0) (b .if1 .taken))))
-
-its-frame-requires : tie.Need-its-frame-requires
-its-frame-requires c κs =
-    let e : tie.Else1 = search in
-    let k : tie.After-ask-served = search in
-    let s = start k in
-    let r = word-range (s .args .sizes) (s .args .slot) (s .args .page) (s .args .word) (k .ask-served .ensures .1 (e .if1 .left) .0) in
-    (s .pre .sizes, r .0, r .1)
+    let o = write-no (call s) (k .ask-served .result .refusal) (k .ask-served .ensures .0) (b .if1 .taken) in
+    (λ i. o i .answer, (λ i. o i .left .memory .core .frames, (λ i. o i .left .memory .core .words, used-no (call s) (k .ask-served .result .refusal) (k .ask-served .ensures .0) (b .if1 .taken))))
 
 page-of-requires : tie.Need-page-of-requires
 page-of-requires c κs =
@@ -62,29 +54,27 @@ returns-2 : tie.Need-returns-2
 returns-2 c =
     let d : tie.Else2 = search in
     let n : tie.After-pay = search in
-    let q : tie.After-slot-payer = search in
     let b : tie.After-is-charged = search in
     let j : tie.After-page-of = search in
     let g : tie.After-frame-at = search in
-    let f : tie.After-its-frame = search in
     let e : tie.Else1 = search in
     let k : tie.After-ask-served = search in
     let s = start k in
-    let h = k .ask-served .ensures .1 (e .if1 .left) .1 in
-    let o = write-denied (call s) (k .ask-served .result) (k .ask-served .ensures .0) (e .if1 .left) h (s .pre) (f .its-frame .result) (g .frame-at .result) (f .its-frame .ensures) (g .frame-at .ensures)
-    (j .page-of .result) (b .is-charged .result) (n .pay .result) (q .slot-payer .result) _ (j .page-of .ensures) (b .is-charged .ensures) (q .slot-payer .ensures) (n .pay .ensures .0) (n .pay .ensures .1) (d .if2 .left) in
-    let u = used-denied (call s) (k .ask-served .result) (k .ask-served .ensures .0) (e .if1 .left) h (s .pre) (f .its-frame .result) (g .frame-at .result) (f .its-frame .ensures) (g .frame-at .ensures)
-    (j .page-of .result) (b .is-charged .result) (n .pay .result) (q .slot-payer .result) _ (j .page-of .ensures) (b .is-charged .ensures) (q .slot-payer .ensures) (n .pay .ensures .0) (n .pay .ensures .1) (d .if2 .left) in
+    let y = k .ask-served .ensures .1 (e .if1 .left) in
+    let h = y .2 in
+    let o = write-denied (call s) (k .ask-served .result .refusal) (k .ask-served .ensures .0) (e .if1 .left) h (s .pre) (k .ask-served .result .frame) (g .frame-at .result) (y .1) (g .frame-at .ensures)
+    (j .page-of .result) (b .is-charged .result) (n .pay .result) _ (j .page-of .ensures) (b .is-charged .ensures) (n .pay .ensures .0) (n .pay .ensures .1) (d .if2 .left) in
+    let u = used-denied (call s) (k .ask-served .result .refusal) (k .ask-served .ensures .0) (e .if1 .left) h (s .pre) (k .ask-served .result .frame) (g .frame-at .result) (y .1) (g .frame-at .ensures)
+    (j .page-of .result) (b .is-charged .result) (n .pay .result) _ (j .page-of .ensures) (b .is-charged .ensures) (n .pay .ensures .0) (n .pay .ensures .1) (d .if2 .left) in
     (λ i. o i .answer, (λ i. o i .left .memory .core .frames, (λ i. o i .left .memory .core .words, u)))
 
 word-of-requires : tie.Need-word-of-requires
 word-of-requires c κs =
-    let f : tie.After-its-frame = search in
     let e : tie.Else1 = search in
     let k : tie.After-ask-served = search in
     let s = start k in
-    let g = k .ask-served .ensures .1 (e .if1 .left) in
-    (s .pre .sizes, rw (f .its-frame .ensures) (g .1), word-range (s .args .sizes) (s .args .slot) (s .args .page) (s .args .word) (g .0) .2)
+    let y = k .ask-served .ensures .1 (e .if1 .left) in
+    (s .pre .sizes, rw (y .1) (y .2), word-range (s .args .sizes) (s .args .slot) (s .args .page) (s .args .word) (y .0) .2)
 
 returns-3 : tie.Need-returns-3
 unfolding result
@@ -94,27 +84,26 @@ returns-3 c =
     let l : tie.After-put-frame = search in
     let t : tie.Then2 = search in
     let n : tie.After-pay = search in
-    let q : tie.After-slot-payer = search in
     let b : tie.After-is-charged = search in
     let j : tie.After-page-of = search in
     let g : tie.After-frame-at = search in
-    let f : tie.After-its-frame = search in
     let e : tie.Else1 = search in
     let k : tie.After-ask-served = search in
     let s = start k in
-    let h = k .ask-served .ensures .1 (e .if1 .left) .1 in
-    let o = write-yes (call s) (k .ask-served .result) (k .ask-served .ensures .0) (e .if1 .left) h (s .pre) (f .its-frame .result) (g .frame-at .result) (f .its-frame .ensures) (g .frame-at .ensures)
-    (j .page-of .result) (b .is-charged .result) (n .pay .result) (q .slot-payer .result) _ (j .page-of .ensures) (b .is-charged .ensures) (q .slot-payer .ensures) (n .pay .ensures .0) (n .pay .ensures .1) (t .if2 .taken) in
-    let us = used-yes (call s) (k .ask-served .result) (k .ask-served .ensures .0) (e .if1 .left) h (s .pre) (f .its-frame .result) (g .frame-at .result) (f .its-frame .ensures) (g .frame-at .ensures)
-    (j .page-of .result) (b .is-charged .result) (n .pay .result) (q .slot-payer .result) _ (j .page-of .ensures) (b .is-charged .ensures) (q .slot-payer .ensures) (n .pay .ensures .0) (n .pay .ensures .1) (t .if2 .taken) in
-    let fs = write-frames (call s) (k .ask-served .result) (k .ask-served .ensures .0) (e .if1 .left) h (s .pre) (f .its-frame .result) (g .frame-at .result) (f .its-frame .ensures) (g .frame-at .ensures)
-    (j .page-of .result) (b .is-charged .result) (n .pay .result) (q .slot-payer .result) _ (j .page-of .ensures) (b .is-charged .ensures) (q .slot-payer .ensures) (n .pay .ensures .0) (n .pay .ensures .1) (t .if2 .taken) _ (l .put-frame .ensures) in
-    let ws = write-words (call s) (k .ask-served .result) (k .ask-served .ensures .0) (e .if1 .left) h (s .pre) (f .its-frame .result) (g .frame-at .result) (f .its-frame .ensures) (g .frame-at .ensures)
-    (j .page-of .result) (b .is-charged .result) (n .pay .result) (q .slot-payer .result) _ (j .page-of .ensures) (b .is-charged .ensures) (q .slot-payer .ensures) (n .pay .ensures .0) (n .pay .ensures .1) (t .if2 .taken) (w .word-of .result) _ (w .word-of .ensures) (u .put32 .ensures) in
+    let y = k .ask-served .ensures .1 (e .if1 .left) in
+    let h = y .2 in
+    let o = write-yes (call s) (k .ask-served .result .refusal) (k .ask-served .ensures .0) (e .if1 .left) h (s .pre) (k .ask-served .result .frame) (g .frame-at .result) (y .1) (g .frame-at .ensures)
+    (j .page-of .result) (b .is-charged .result) (n .pay .result) _ (j .page-of .ensures) (b .is-charged .ensures) (n .pay .ensures .0) (n .pay .ensures .1) (t .if2 .taken) in
+    let us = used-yes (call s) (k .ask-served .result .refusal) (k .ask-served .ensures .0) (e .if1 .left) h (s .pre) (k .ask-served .result .frame) (g .frame-at .result) (y .1) (g .frame-at .ensures)
+    (j .page-of .result) (b .is-charged .result) (n .pay .result) _ (j .page-of .ensures) (b .is-charged .ensures) (n .pay .ensures .0) (n .pay .ensures .1) (t .if2 .taken) in
+    let fs = write-frames (call s) (k .ask-served .result .refusal) (k .ask-served .ensures .0) (e .if1 .left) h (s .pre) (k .ask-served .result .frame) (g .frame-at .result) (y .1) (g .frame-at .ensures)
+    (j .page-of .result) (b .is-charged .result) (n .pay .result) _ (j .page-of .ensures) (b .is-charged .ensures) (n .pay .ensures .0) (n .pay .ensures .1) (t .if2 .taken) _ (l .put-frame .ensures) in
+    let ws = write-words (call s) (k .ask-served .result .refusal) (k .ask-served .ensures .0) (e .if1 .left) h (s .pre) (k .ask-served .result .frame) (g .frame-at .result) (y .1) (g .frame-at .ensures)
+    (j .page-of .result) (b .is-charged .result) (n .pay .result) _ (j .page-of .ensures) (b .is-charged .ensures) (n .pay .ensures .0) (n .pay .ensures .1) (t .if2 .taken) (w .word-of .result) _ (w .word-of .ensures) (u .put32 .ensures) in
     (λ i. o i .answer, (fs, (ws, us)))
 
 pub write-spec : {M : Type 1} → statement M
 write-spec =
     tie.close
-    (tie.spec ask-served-requires (λ c. search needs) returns its-frame-requires (λ c κs. search needs) page-of-requires (λ c κs. search needs) (λ c κs. search needs) (λ c κs. search needs) (λ c. search needs) (λ c. search needs) returns-2
+    (tie.spec ask-served-requires (λ c. search needs) returns (λ c κs. search needs) page-of-requires (λ c κs. search needs) (λ c κs. search needs) (λ c. search needs) (λ c. search needs) returns-2
     (λ c κs. search needs) word-of-requires (λ c κs. search needs) (λ c. search needs) (λ c. search needs) (λ c. search needs) returns-3)

@@ -2,6 +2,7 @@
 use borrow.Author.Needs.{needs}
 use borrow.Author.Count.{below-more}
 use mathlib.Core.Path.{_≡_, refl, ap, sym, _∙_}
+use mathlib.Core.Bool.{Bool, false}
 use mathlib.Core.Logic.{_⊎_, inl, inr, ⊎-elim}
 use mathlib.Core.List.{List}
 use Prim.Native.Nat.{ℕ, _+_, _-_, _*_, _<_, _≤_}
@@ -13,6 +14,7 @@ use Rattle.model.specs.State.{frameAt}
 use Rattle.model.specs.Own.{first-yes, first-no}
 use Rattle.leaves.specs.Packed.{unpacked}
 use Rattle.writeback.specs.Truncate.{quiet, allQuiet, askFrames}
+use Rattle.writeback.proofs.Cut.{not-false}
 use Rattle.writeback.proofs.Named.{fits}
 use Rattle.writeback.proofs.truncate.ask_frames.Statement.{statement}
 use Rattle.writeback.proofs.truncate.ask_frames.Tie as tie
@@ -62,17 +64,21 @@ module _ (pages slot k : ℕ) (fs : List Frame) where
       | inr x ↦ x .0 ∙ sym (first-yes 14 _ _ (to-all 0 (t .still)) ∙ first-no 16 _ _ (λ h. of-all 1 (x .1 .0) (x .1 .1) (x .1 .2) h (x .1 .3)))
     ]
 
+-- where none is found, no frame below f has one of the pages
+abbrev FoundBelow : ℕ → ℕ → ℕ → List Frame → ℕ → Bool → Type 0
+FoundBelow pages slot k fs f any = any ≡ false → (i : ℕ) → i < f → ¬ (Cut pages slot k (frameAt fs i))
+
 abbrev Inv-loop : tie.InvT-loop
-Inv-loop count pages slot k frames start r₀ f₀ r f = (f ≤ count) × AskedBelow pages slot k (unpacked frames) f r
+Inv-loop count pages slot k frames start r₀ any₀ f₀ r any f = (f ≤ count) × AskedBelow pages slot k (unpacked frames) f r × FoundBelow pages slot k (unpacked frames) f any
 
 abbrev μ-loop : tie.MeasureT-loop
-μ-loop count pages slot k frames start r₀ f₀ r f = count - f
+μ-loop count pages slot k frames start r₀ any₀ f₀ r any f = count - f
 
 mul-start : tie.Need-mul-start Inv-loop μ-loop
 mul-start c = let s : tie.Start Inv-loop μ-loop = search in omega (arith, fits (s .args .slot) (s .args .pages) (s .pre .slots-most) (s .pre .pages-most))
 
 loop-holds : tie.Need-loop-holds Inv-loop μ-loop
-loop-holds c = (omega arith, begun _ _ _ _)
+loop-holds c = (omega arith, begun _ _ _ _, λ q i h. absurd (omega arith))
 
 add-if1 : tie.Need-add-if1 Inv-loop μ-loop
 add-if1 c =
@@ -94,9 +100,11 @@ returns c =
     let at-loop : tie.At-loop Inv-loop μ-loop = search in
     let start : tie.Start Inv-loop μ-loop = search in
     let a = start .args in
-    let page = ap (λ (g : Frame). g .page) (read .frame-at .ensures) in
-    moving (a .pages) (a .slot) (a .k) (unpacked (a .frames .now)) (a .count) (at-loop .loop .f) (omega arith) (omega (arith, page, then1 .if1 .taken), omega (arith, page, then2 .if2 .taken))
-    (λ e. c .if3 .taken (ap (λ (g : Frame). g .transfer) (read .frame-at .ensures) ∙ e))
+    let page = ap (λ (g : Frame). g .page) (read .frame-at .ensures) in (
+      moving (a .pages) (a .slot) (a .k) (unpacked (a .frames .now)) (a .count) (at-loop .loop .f) (omega arith) (omega (arith, page, then1 .if1 .taken), omega (arith, page, then2 .if2 .taken))
+          (λ e. c .if3 .taken (ap (λ (g : Frame). g .transfer) (read .frame-at .ensures) ∙ e)),
+      not-false,
+    )
 
 loop-again : tie.Need-loop-again Inv-loop μ-loop
 loop-again c =
@@ -118,6 +126,16 @@ loop-again c =
           v)
           u)
           (c .if1 .came),
+      ⊎-elim
+          (λ w q. not-false (sym (w .7) ∙ q))
+          (λ u. ⊎-elim
+          (λ w q. not-false (sym (w .7) ∙ q))
+          (λ v. ⊎-elim
+          (λ w q. below-more _ _ (at-loop .loop .inv .2 (sym (w .3) ∙ q)) (λ d. omega (arith, page, d .1, w .1 .left)))
+          (λ w q. below-more _ _ (at-loop .loop .inv .2 (sym (w .2) ∙ q)) (λ d. omega (arith, page, d .0, w .0 .left)))
+          v)
+          u)
+          (c .if1 .came),
     )
 
 returns-2 : tie.Need-returns-2 Inv-loop μ-loop
@@ -125,7 +143,7 @@ returns-2 c =
     let start : tie.Start Inv-loop μ-loop = search in
     let a = start .args in
     let e : c .before .loop .f ≡ a .count = omega arith in
-    answered (a .pages) (a .slot) (a .k) (unpacked (a .frames .now)) (a .count) (rw e at (c .before .loop .inv .1))
+    (answered (a .pages) (a .slot) (a .k) (unpacked (a .frames .now)) (a .count) (rw e at (c .before .loop .inv .1)), λ q f h y. c .before .loop .inv .2 q f (omega arith) (y .0, omega (arith, y .1)))
 
 pub ask-frames-spec : {M : Type 1} → statement M
 ask-frames-spec = tie.close (tie.spec Inv-loop μ-loop mul-start loop-holds (λ c. search needs) (λ c. search needs) add-if1 add-if2 returns (λ c. search needs) (λ c. search needs) loop-again returns-2)

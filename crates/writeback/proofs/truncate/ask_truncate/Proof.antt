@@ -43,7 +43,7 @@ framed s = let a = s .args in askFrames (a .sizes .frames) (a .sizes .pages) (a 
 returns : tie.Need-returns
 returns c =
     let s : tie.Start = search in
-    part-no _ _ (tested s) (active s) (framed s) _ (c .before .ask-slot .ensures) (c .if1 .taken)
+    (part-no _ _ (tested s) (active s) (framed s) _ (c .before .ask-slot .ensures) (c .if1 .taken), λ e. absurd (c .if1 .taken e))
 
 -- ── 3, 4 and 8 say yes ──
 abbrev start : tie.Else1 → tie.Start
@@ -67,7 +67,7 @@ returns-2 : tie.Need-returns-2
 returns-2 c =
     let e : tie.Else1 = search in
     let a = start e .args in
-    c .ask-frames .ensures ∙ asked-alike (a .sizes .frames) (unpacked (a .frames .now)) (a .sizes .pages) (a .slot) (a .k) ∙ more e
+    (c .ask-frames .ensures .0 ∙ asked-alike (a .sizes .frames) (unpacked (a .frames .now)) (a .sizes .pages) (a .slot) (a .k) ∙ more e, λ q. c .ask-frames .ensures .1)
 
 pub ask-truncate-spec : {M : Type 1} → statement M
 ask-truncate-spec = tie.close (tie.spec (λ c κs. search needs) returns ask-frames-requires returns-2)

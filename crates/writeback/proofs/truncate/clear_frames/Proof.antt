@@ -47,16 +47,18 @@ module _ {pages slot k : ℕ} {fs kept : List Frame} (f : ℕ) (c : Cleared page
   })
 
 abbrev Inv-loop : tie.InvT-loop
-Inv-loop count pages slot k frames₀ start f₀ frames f = (f ≤ count) × Cleared pages slot k (unpacked frames₀) f (unpacked frames)
+Inv-loop any count pages slot k frames₀ start f₀ frames f = (f ≤ count) × Cleared pages slot k (unpacked frames₀) f (unpacked frames)
 
 abbrev μ-loop : tie.MeasureT-loop
-μ-loop count pages slot k frames₀ start f₀ frames f = count - f
+μ-loop any count pages slot k frames₀ start f₀ frames f = count - f
 
 returns : tie.Need-returns Inv-loop μ-loop
-returns c = (refl, λ f h. inr (λ y. omega (arith, y .0, y .1, c .if1 .taken), refl))
+returns c =
+    let s : tie.Start Inv-loop μ-loop = search in
+    (refl, λ f h. inr (s .pre .1 (c .if1 .left) f h, refl))
 
 mul-start : tie.Need-mul-start Inv-loop μ-loop
-mul-start c = let s : tie.Start Inv-loop μ-loop = search in omega (arith, fits (s .args .slot) (s .args .pages) (s .pre .slots-most) (s .pre .pages-most))
+mul-start c = let s : tie.Start Inv-loop μ-loop = search in omega (arith, fits (s .args .slot) (s .args .pages) (s .pre .0 .slots-most) (s .pre .0 .pages-most))
 
 loop-holds : tie.Need-loop-holds Inv-loop μ-loop
 loop-holds c = (omega arith, record { so-far = λ i h. absurd (omega arith); ahead = λ i h. refl; long = refl })
@@ -65,13 +67,13 @@ add-if2 : tie.Need-add-if2 Inv-loop μ-loop
 add-if2 c =
     let start : tie.Start Inv-loop μ-loop = search in
     let a = start .args in
-    omega (arith, fits (a .slot) (a .pages) (start .pre .slots-most) (start .pre .pages-most), start .pre .from, start .pre .pages-most)
+    omega (arith, fits (a .slot) (a .pages) (start .pre .0 .slots-most) (start .pre .0 .pages-most), start .pre .0 .from, start .pre .0 .pages-most)
 
 add-if3 : tie.Need-add-if3 Inv-loop μ-loop
 add-if3 c =
     let start : tie.Start Inv-loop μ-loop = search in
     let a = start .args in
-    omega (arith, fits (a .slot) (a .pages) (start .pre .slots-most) (start .pre .pages-most), start .pre .pages-most)
+    omega (arith, fits (a .slot) (a .pages) (start .pre .0 .slots-most) (start .pre .0 .pages-most), start .pre .0 .pages-most)
 
 loop-again : tie.Need-loop-again Inv-loop μ-loop
 loop-again c =

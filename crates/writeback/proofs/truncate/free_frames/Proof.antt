@@ -1,14 +1,14 @@
 -- `free_frames` meets its contract: each turn counts a page that is charged, and frees the frame that its entry names, where it names one.
 use borrow.Author.Needs.{needs}
 use mathlib.Core.Bool.{Bool, _&&_}
-use mathlib.Core.Path.{_≡_, ap, sym, _∙_}
+use mathlib.Core.Path.{_≡_, refl, ap, sym, _∙_}
 use mathlib.Core.List.{List, _++_}
 use mathlib.Core.Logic.{⊎-elim}
 use Prim.Native.Nat.{ℕ, _+_, _-_, _*_, _≤_}
 use native.Mathlib.Omega.{arith}
 use lib.Dec.{leb}
 use lib.ListN.{length, length-replicate, getD-replicate}
-use Rattle.tables.specs.Base.{at, count}
+use Rattle.tables.specs.Base.{at, if, count}
 use Rattle.tables.specs.Laws.{count-same}
 use Rattle.tables.specs.Queue.{members, packed, without}
 use Rattle.tables.specs.QueueLaws.{length-packed}
@@ -21,7 +21,7 @@ use Rattle.writeback.specs.Pages.{charged, chargesFrom}
 use Rattle.writeback.specs.Truncate.{cutFrames, cutFrame, Cutting}
 use Rattle.writeback.proofs.ByPage.{charged-entry}
 use Rattle.writeback.proofs.Cut.{none-below, one-more, one-not}
-use Rattle.writeback.proofs.CutFrames.{CutTurn, turn-starts, push-asks, remove-asks, turn-frees, turn-leaves, in-entry, its-entry, no-entry}
+use Rattle.writeback.proofs.CutFrames.{CutTurn, turn-starts, none-freed, push-asks, remove-asks, turn-frees, turn-leaves, in-entry, its-entry, no-entry}
 use Rattle.writeback.proofs.Named.{fits}
 use Rattle.writeback.proofs.truncate.free_frames.Statement.{statement}
 use Rattle.writeback.proofs.truncate.free_frames.Tie as tie
@@ -31,21 +31,12 @@ abbrev counts : ℕ → ℕ → List ℕ → List ℕ → List ℕ → List ℕ 
 counts pages slot frames addresses states entries p = test (chargedEntry (at entries p) (unpacked frames) addresses states (slot * pages + p))
 
 abbrev Inv-loop : tie.InvT-loop
-Inv-loop slot k frames addresses states fq₀ rl₀ pages start entries n₀ p₀ fq rl n p =
+Inv-loop any slot k frames addresses states fq₀ rl₀ pages start entries n₀ p₀ fq rl n p =
     (k ≤ p) × (p ≤ pages) × (n ≤ p) × (n ≡ count p (λ q. leb k q && counts pages slot frames addresses states entries q))
     × ((m : ℕ) → ByPage m pages slot (unpacked frames) entries → (ready : Cutting m pages slot k (unpacked frames) fq₀ rl₀) → CutTurn m pages slot k (unpacked frames) fq₀ rl₀ ready p fq rl)
 
 abbrev μ-loop : tie.MeasureT-loop
-μ-loop slot k frames addresses states fq₀ rl₀ pages start entries n₀ p₀ fq rl n p = pages - p
-
--- ── no page is cut off ──
-module _ (s : tie.Start Inv-loop μ-loop) (e : s .args .k ≡ s .args .sizes .pages) where
-  abbrev fs : List Frame
-  fs = unpacked (s .args .frames .now)
-
-  none-charged : let a = s .args in 0 ≡ chargesFrom (a .sizes .frames) (a .sizes .pages) (a .slot) (a .k) fs (a .addresses .now) (a .states .now)
-  none-charged = let a = s .args in sym (ap (λ (p : ℕ). count p (λ q. leb (a .k) q && test (charged (a .sizes .frames) fs (a .addresses .now) (a .states .now) (a .slot * a .sizes .pages + q)))) (sym e)
-      ∙ none-below (a .k) (λ q. test (charged (a .sizes .frames) fs (a .addresses .now) (a .states .now) (a .slot * a .sizes .pages + q))))
+μ-loop any slot k frames addresses states fq₀ rl₀ pages start entries n₀ p₀ fq rl n p = pages - p
 
 -- what the turns below m leave is what the pass leaves, m the pages
 ended : (n pages s k : ℕ) (fs : List Frame) (fq rl : List ℕ) (ready : Cutting n pages s k fs fq rl) {m : ℕ} {q r : List ℕ} → m ≡ pages → CutTurn n pages s k fs fq rl ready m q r
@@ -59,35 +50,36 @@ returns : tie.Need-returns Inv-loop μ-loop
 returns c =
     let s : tie.Start Inv-loop μ-loop = search in
     let a = s .args in (
-      none-charged s (c .if1 .taken),
-      ended (a .sizes .frames) (a .sizes .pages) (a .slot) (a .k) (unpacked (a .frames .now)) (a .free-queue .now) (a .removal-list .now) (s .pre) (c .if1 .taken) (turn-starts _ _ _ _ _ _ _ (s .pre)),
+      sym (ap (λ (b : Bool). if b (chargesFrom (a .sizes .frames) (a .sizes .pages) (a .slot) (a .k) (unpacked (a .frames .now)) (a .addresses .now) (a .states .now)) 0) (c .if1 .left)),
+      ended (a .sizes .frames) (a .sizes .pages) (a .slot) (a .k) (unpacked (a .frames .now)) (a .free-queue .now) (a .removal-list .now) (s .pre .0) refl
+          (none-freed (a .sizes .frames) (a .sizes .pages) (a .slot) (a .k) (unpacked (a .frames .now)) (a .free-queue .now) (a .removal-list .now) (s .pre .0) (s .pre .1 (c .if1 .left)) (a .sizes .pages - a .k) (a .sizes .pages) (omega (arith, s .pre .0 .sized .from)) (omega arith)),
     )
 
 mul-start : tie.Need-mul-start Inv-loop μ-loop
-mul-start c = let s : tie.Start Inv-loop μ-loop = search in omega (arith, fits (s .args .slot) (s .args .sizes .pages) (s .pre .sized .slots-most) (s .pre .sized .pages-most))
+mul-start c = let s : tie.Start Inv-loop μ-loop = search in omega (arith, fits (s .args .slot) (s .args .sizes .pages) (s .pre .0 .sized .slots-most) (s .pre .0 .sized .pages-most))
 
 by-page-requires : tie.Need-by-page-requires Inv-loop μ-loop
-by-page-requires c κs = let s : tie.Start Inv-loop μ-loop = search in (s .pre .sized .most, s .pre .sized .pages-most, s .pre .sized .slots-most, length-replicate {A = ℕ} 256 0, λ p h. getD-replicate {A = ℕ} 256 p 0 0 h)
+by-page-requires c κs = let s : tie.Start Inv-loop μ-loop = search in (s .pre .0 .sized .most, s .pre .0 .sized .pages-most, s .pre .0 .sized .slots-most, length-replicate {A = ℕ} 256 0, λ p h. getD-replicate {A = ℕ} 256 p 0 0 h)
 
 loop-holds : tie.Need-loop-holds Inv-loop μ-loop
 loop-holds c =
     let s : tie.Start Inv-loop μ-loop = search in
     let b : tie.After-by-page Inv-loop μ-loop = search in
     let a = s .args in
-    (omega arith, s .pre .sized .from, omega arith, sym (none-below (a .k) (counts (a .sizes .pages) (a .slot) (a .frames .now) (a .addresses .now) (a .states .now) (b .by-page .last .1 .1 .1 .1 .0))), λ m t r. turn-starts _ _ _ _ _ _ _ r)
+    (omega arith, s .pre .0 .sized .from, omega arith, sym (none-below (a .k) (counts (a .sizes .pages) (a .slot) (a .frames .now) (a .addresses .now) (a .states .now) (b .by-page .last .1 .1 .1 .1 .0))), λ m t r. turn-starts _ _ _ _ _ _ _ r)
 
 array-read-wide : tie.Need-array-read-wide Inv-loop μ-loop
 array-read-wide c =
     let s : tie.Start Inv-loop μ-loop = search in
-    omega (arith, s .pre .sized .pages-most)
+    omega (arith, s .pre .0 .sized .pages-most)
 
 add-is-charged : tie.Need-add-is-charged Inv-loop μ-loop
-add-is-charged c = let s : tie.Start Inv-loop μ-loop = search in omega (arith, fits (s .args .slot) (s .args .sizes .pages) (s .pre .sized .slots-most) (s .pre .sized .pages-most), s .pre .sized .pages-most)
+add-is-charged c = let s : tie.Start Inv-loop μ-loop = search in omega (arith, fits (s .args .slot) (s .args .sizes .pages) (s .pre .0 .sized .slots-most) (s .pre .0 .sized .pages-most), s .pre .0 .sized .pages-most)
 
 add-n : tie.Need-add-n Inv-loop μ-loop
 add-n c =
     let s : tie.Start Inv-loop μ-loop = search in
-    omega (arith, s .pre .sized .pages-most)
+    omega (arith, s .pre .0 .sized .pages-most)
 
 -- ── a turn: the page's entry, and the frame that it names ──
 abbrev loop-at : tie.After-wide Inv-loop μ-loop → tie.At-loop Inv-loop μ-loop
@@ -107,9 +99,9 @@ push-back-requires c κs =
     let t = table-at w .by-page .ensures in
     let s = start-at w in
     let a = s .args in
-    push-asks (a .sizes .frames) (a .sizes .pages) (a .slot) (a .k) (unpacked (a .frames .now)) (a .free-queue .now) (a .removal-list .now) (s .pre) (l .loop .inv .0) (l .loop .inv .4 (a .sizes .frames) t (s .pre))
-    (its-entry (a .sizes .frames) (a .sizes .pages) (a .slot) (a .k) (unpacked (a .frames .now)) (a .free-queue .now) (a .removal-list .now) (s .pre) t (l .loop .p) (w .before .loop-test .taken) (w .wide .ensures) (h .if3 .taken))
-    (in-entry (a .sizes .frames) (a .sizes .pages) (a .slot) (a .k) (unpacked (a .frames .now)) (a .free-queue .now) (a .removal-list .now) (s .pre) t (l .loop .p) (w .before .loop-test .taken) (w .wide .ensures) (h .if3 .taken))
+    push-asks (a .sizes .frames) (a .sizes .pages) (a .slot) (a .k) (unpacked (a .frames .now)) (a .free-queue .now) (a .removal-list .now) (s .pre .0) (l .loop .inv .0) (l .loop .inv .4 (a .sizes .frames) t (s .pre .0))
+    (its-entry (a .sizes .frames) (a .sizes .pages) (a .slot) (a .k) (unpacked (a .frames .now)) (a .free-queue .now) (a .removal-list .now) (s .pre .0) t (l .loop .p) (w .before .loop-test .taken) (w .wide .ensures) (h .if3 .taken))
+    (in-entry (a .sizes .frames) (a .sizes .pages) (a .slot) (a .k) (unpacked (a .frames .now)) (a .free-queue .now) (a .removal-list .now) (s .pre .0) t (l .loop .p) (w .before .loop-test .taken) (w .wide .ensures) (h .if3 .taken))
 
 remove-requires : tie.Need-remove-requires Inv-loop μ-loop
 remove-requires c κs =
@@ -119,9 +111,9 @@ remove-requires c κs =
     let t = table-at w .by-page .ensures in
     let s = start-at w in
     let a = s .args in
-    remove-asks (a .sizes .frames) (a .sizes .pages) (a .slot) (a .k) (unpacked (a .frames .now)) (a .free-queue .now) (a .removal-list .now) (s .pre) (l .loop .inv .0) (l .loop .inv .4 (a .sizes .frames) t (s .pre))
-    (its-entry (a .sizes .frames) (a .sizes .pages) (a .slot) (a .k) (unpacked (a .frames .now)) (a .free-queue .now) (a .removal-list .now) (s .pre) t (l .loop .p) (w .before .loop-test .taken) (w .wide .ensures) (h .if3 .taken))
-    (in-entry (a .sizes .frames) (a .sizes .pages) (a .slot) (a .k) (unpacked (a .frames .now)) (a .free-queue .now) (a .removal-list .now) (s .pre) t (l .loop .p) (w .before .loop-test .taken) (w .wide .ensures) (h .if3 .taken))
+    remove-asks (a .sizes .frames) (a .sizes .pages) (a .slot) (a .k) (unpacked (a .frames .now)) (a .free-queue .now) (a .removal-list .now) (s .pre .0) (l .loop .inv .0) (l .loop .inv .4 (a .sizes .frames) t (s .pre .0))
+    (its-entry (a .sizes .frames) (a .sizes .pages) (a .slot) (a .k) (unpacked (a .frames .now)) (a .free-queue .now) (a .removal-list .now) (s .pre .0) t (l .loop .p) (w .before .loop-test .taken) (w .wide .ensures) (h .if3 .taken))
+    (in-entry (a .sizes .frames) (a .sizes .pages) (a .slot) (a .k) (unpacked (a .frames .now)) (a .free-queue .now) (a .removal-list .now) (s .pre .0) t (l .loop .p) (w .before .loop-test .taken) (w .wide .ensures) (h .if3 .taken))
 
 loop-again : tie.Need-loop-again Inv-loop μ-loop
 loop-again c =
@@ -151,21 +143,23 @@ loop-again c =
     )
 
 same-length : tie.Need-same-length Inv-loop μ-loop
-same-length c = let l = c .before in let b : tie.After-by-page Inv-loop μ-loop = search in let s : tie.Start Inv-loop μ-loop = search in ap length (l .loop .inv .4 _ (b .by-page .ensures) (s .pre) .so-queue) ∙ length-packed _ _
+same-length c = let l = c .before in let b : tie.After-by-page Inv-loop μ-loop = search in let s : tie.Start Inv-loop μ-loop = search in ap length (l .loop .inv .4 _ (b .by-page .ensures) (s .pre .0) .so-queue) ∙ length-packed _ _
 
 same-length-2 : tie.Need-same-length-2 Inv-loop μ-loop
-same-length-2 c = let l = c .before in let b : tie.After-by-page Inv-loop μ-loop = search in let s : tie.Start Inv-loop μ-loop = search in ap length (l .loop .inv .4 _ (b .by-page .ensures) (s .pre) .so-list) ∙ length-packed _ _
+same-length-2 c = let l = c .before in let b : tie.After-by-page Inv-loop μ-loop = search in let s : tie.Start Inv-loop μ-loop = search in ap length (l .loop .inv .4 _ (b .by-page .ensures) (s .pre .0) .so-list) ∙ length-packed _ _
 
 returns-2 : tie.Need-returns-2 Inv-loop μ-loop
 returns-2 c =
     let l = c .before in
     let b : tie.After-by-page Inv-loop μ-loop = search in
+    let y : tie.Then1 Inv-loop μ-loop = search in
     let s : tie.Start Inv-loop μ-loop = search in
     let a = s .args in
     let e : l .loop .p ≡ a .sizes .pages = omega arith in (
       l .loop .inv .3 ∙ ap (λ (m : ℕ). count m (λ q. leb (a .k) q && counts (a .sizes .pages) (a .slot) (a .frames .now) (a .addresses .now) (a .states .now) (b .by-page .last .1 .1 .1 .1 .0) q)) e
-          ∙ count-same (a .sizes .pages) _ _ (λ q h. ap (λ (t : Bool). leb (a .k) q && t) (charged-entry (a .sizes .pages) (a .slot) (unpacked (a .frames .now)) (b .by-page .ensures) (s .pre .placed .seated) (a .addresses .now) (a .states .now) q h)),
-      ended (a .sizes .frames) (a .sizes .pages) (a .slot) (a .k) (unpacked (a .frames .now)) (a .free-queue .now) (a .removal-list .now) (s .pre) e (l .loop .inv .4 (a .sizes .frames) (b .by-page .ensures) (s .pre)),
+          ∙ count-same (a .sizes .pages) _ _ (λ q h. ap (λ (t : Bool). leb (a .k) q && t) (charged-entry (a .sizes .pages) (a .slot) (unpacked (a .frames .now)) (b .by-page .ensures) (s .pre .0 .placed .seated) (a .addresses .now) (a .states .now) q h))
+          ∙ sym (ap (λ (b : Bool). if b (chargesFrom (a .sizes .frames) (a .sizes .pages) (a .slot) (a .k) (unpacked (a .frames .now)) (a .addresses .now) (a .states .now)) 0) (y .if1 .taken)),
+      ended (a .sizes .frames) (a .sizes .pages) (a .slot) (a .k) (unpacked (a .frames .now)) (a .free-queue .now) (a .removal-list .now) (s .pre .0) e (l .loop .inv .4 (a .sizes .frames) (b .by-page .ensures) (s .pre .0)),
     )
 
 pub free-frames-spec : {M : Type 1} → statement M
