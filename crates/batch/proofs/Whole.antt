@@ -1,8 +1,8 @@
--- The whole list: refused by question 1 or 2, or its requests in turn over the first F frames of the array.
-use mathlib.Core.Path.{_≡_, refl, ap, sym, _∙_}
+-- The whole list: refused by question 1 or 2, or its requests in turn over the first F of the packed frames.
+use mathlib.Core.Path.{_≡_, refl, ap, sym, subst, _∙_}
 use mathlib.Core.List.{List, [], _∷_}
 use Prim.Native.Nat.{ℕ}
-use lib.ListN.{length}
+use lib.ListN.{length, take}
 use Rattle.model.specs.declared.sizes.Sizes.{Sizes}
 use Rattle.model.specs.declared.frame.Frame.{Frame}
 use Rattle.model.specs.declared.event.Answer.{Answer}
@@ -11,9 +11,13 @@ use Rattle.model.specs.Setters.{onCore, onHeld}
 use Rattle.model.specs.declared.frame.Pool.{Pool}
 use Rattle.model.specs.declared.request.Request.{Request}
 use Rattle.model.specs.Step.{Outcome}
-use Rattle.model.specs.Calls.{apply}
-use Rattle.model.specs.ApplyAll.{Listed, requestCount, refusals, lastRefusal, turned, after, applyAll, refused-all}
-use Rattle.calls.specs.Common.{common, unfit-apply}
+use Rattle.model.specs.Fit.{fit}
+use Rattle.model.specs.Calls.{framesOf, apply}
+use Rattle.model.specs.ApplyAll.{Listed, requestCount, refusals, lastRefusal, after, applyAll, one, refused-all}
+use Rattle.leaves.specs.Packed.{unpacked, unpacked-length}
+use Rattle.dispatch.specs.Kept.{Kept, kept}
+use Rattle.calls.specs.Frames.{all-lent, lent-first, lent-of}
+use Rattle.calls.specs.Common.{common, common-gives, unfit-apply}
 use Rattle.batch.proofs.Turning.{setPool}
 
 abbrev setFrames : List Frame → Core → Core
@@ -34,28 +38,36 @@ module _ (z : Sizes) (requests answers : List ℕ) (n : ℕ) (count : n ≡ requ
       (λ x. record { answer = o .answer; answers = o .answers; left = onCore (setFrames (f x)) (o .left) }) ∙ h
       ∙ ap (λ (l : List Frame). after z requests answers (st l) n) (sym e) ∙ ap (after z requests answers (st lent)) count
 
--- a state by its frames: those that are packed, and the first F that they were made of; and the frames that come back
-pub over-packed : (z : Sizes) (requests answers : List ℕ) (n : ℕ) (st : List Frame → State) {packed first : List Frame} (o : Listed) {fs : List Frame} → packed ≡ first
-    → o ≡ after z requests answers (st packed) n → fs ≡ o .left .memory .core .frames
-    → _≡_ {A = Listed} (record { answer = o .answer; answers = o .answers; left = onCore (setFrames fs) (o .left) }) (after z requests answers (st first) n)
-over-packed z requests answers n st o e h f =
-    (λ x. record { answer = o .answer; answers = o .answers; left = onCore (setFrames (f x)) (o .left) }) ∙ h ∙ ap (λ (l : List Frame). after z requests answers (st l) n) e
+-- a state by its frames, and the frames packed: questions 1 and 2 are asked of these
+module _ (z : Sizes) (st : List Frame → State) (of : (l : List Frame) → st l .memory .core .frames ≡ l) (fs : List Frame) (lent : ℕ) (long : length fs ≡ 64) (ws : List ℕ) (packs : unpacked ws ≡ fs) where
+  pub packed-long : length ws ≡ 64
+  packed-long = sym (unpacked-length ws) ∙ ap length packs ∙ long
+
+  pub packed-told : (m : ℕ) → m ≡ common z (st (framesOf (unpacked ws) lent)) → m ≡ common z (st (framesOf fs lent))
+  packed-told m e = e ∙ ap (λ (l : List Frame). common z (st (framesOf l lent))) packs
+
+  -- both said yes: F frames are lent, the first F of the packed ones, and so many of those that come back
+  module _ (yes : common z (st (framesOf fs lent)) ≡ 0) where
+    pub packed-first : framesOf fs lent ≡ take (z .frames) (unpacked ws)
+    packed-first = lent-first z st of fs lent (common-gives z (st (framesOf fs lent)) yes .0) long ∙ ap (take (z .frames)) (sym packs)
+
+    pub packed-kept : Kept z (st (take (z .frames) (unpacked ws)))
+    packed-kept = let g = common-gives z (st (framesOf fs lent)) yes in subst (λ (l : List Frame). Kept z (st l)) packed-first (kept z (st (framesOf fs lent)) (g .0) (g .1))
+
+    pub packed-back : (ns : List ℕ) {gs : List Frame} → length ns ≡ length ws → gs ≡ unpacked ns → framesOf gs lent ≡ take (z .frames) (unpacked ns)
+    packed-back ns l e =
+        let g = common-gives z (st (framesOf fs lent)) yes .0 in
+        ap (λ (gs : List Frame). framesOf gs lent) e ∙ lent-of (unpacked ns) lent (z .frames) (all-lent z st of fs lent g) (fit z (st (framesOf fs lent)) g .sizes .frames-most) (unpacked-length ns ∙ l ∙ packed-long)
 
 -- the numbers of a request
 abbrev pub numbersOf : Request → List ℕ
 numbersOf r = r .kind ∷ r .first ∷ r .second ∷ r .third ∷ r .fourth ∷ []
 
--- a list of one request is one `apply`
-one-turned : (z : Sizes) (request : Request) (st : State) → (let o = apply z st request in
-    after z (numbersOf request) (0 ∷ 0 ∷ []) st 1 ≡ record { answer = o .answer; answers = o .answer .refusal ∷ o .answer .result ∷ []; left = o .left })
-unfolding after turned
-one-turned z request st = refl
-
--- .. over the frames that are lent, with the pool put together from what was taken and deposited
+-- a list of one request, over the frames that are lent, with the pool put together from what was taken and deposited
 pub one-applied : (z : Sizes) (request : Request) (st : List Frame → State) {lent first : List Frame} (requests : List ℕ) (o : Listed) {fs : List Frame} {p : Pool} → requests ≡ numbersOf request → lent ≡ first
     → o ≡ after z requests (0 ∷ 0 ∷ []) (st first) 1 → fs ≡ o .left .memory .core .frames → p ≡ o .left .memory .held .pool
     → _≡_ {A = Outcome State} (record { answer = o .answer; left = onHeld (setPool p) (onCore (setFrames fs) (o .left)) }) (apply z (st lent) request)
-one-applied z request st {lent} {first} requests o e l h f q =
-    (λ x. record { answer = o .answer; left = onHeld (setPool (q x)) (onCore (setFrames (f x)) (o .left)) })
-    ∙ ap (λ (d : Listed). record { answer = d .answer; left = d .left }) (h ∙ ap (λ (ns : List ℕ). after z ns (0 ∷ 0 ∷ []) (st first) 1) e ∙ one-turned z request (st first))
-    ∙ ap (λ (fs : List Frame). apply z (st fs) request) (sym l)
+one-applied z request st {lent} {first} requests o {fs} e l h f q =
+    (λ x. record { answer = o .answer; left = onHeld (setPool (q x)) (onCore (setFrames fs) (o .left)) })
+    ∙ ap (λ (d : Listed). record { answer = d .answer; left = d .left })
+    (all-turned z (numbersOf request) (0 ∷ 0 ∷ []) 1 refl st o l (h ∙ ap (λ (ns : List ℕ). after z ns (0 ∷ 0 ∷ []) (st first) 1) e) f ∙ one z request 0 0 (st lent))

@@ -3,10 +3,12 @@ ghost use mathlib.Core.Path.{_≡_};
 ghost use Rattle.model.specs.Lent.{allEntered, allLeft};
 ghost use Rattle.model.specs.Calls.{framesOf};
 ghost use Rattle.model.specs.ApplyAll.{applyAll};
-use crate::in_turn::in_turn;
 use crate::numbers::refuse_all;
 use crate::numbers::request_count;
+use crate::turns::turns;
 use calls::common::common;
+use calls::packing::pack_all;
+use calls::packing::unpack_all;
 use model::applied::Pooled;
 use model::frame::Frame;
 use model::frame::Pool;
@@ -51,10 +53,11 @@ pub fn apply_all(
         «frame_words» «free_queue» «removal_list» addresses states owners «free_map» active updating images line used) ⌝ }
 {
     let n = request_count(requests.len(), answers.len());
+    let mut packed = pack_all(frames);
     let refusal = common(
         sizes,
         lent,
-        frames,
+        &packed,
         pool,
         records,
         numbers,
@@ -83,12 +86,12 @@ pub fn apply_all(
             answer,
         };
     }
-    let out = in_turn(
+    let out = turns(
         sizes,
         n,
         requests,
         answers,
-        frames,
+        &mut packed,
         pool,
         records,
         numbers,
@@ -109,7 +112,7 @@ pub fn apply_all(
         line,
         used,
     );
-    let frames = out.frames;
+    let frames = unpack_all(packed);
     let pool = out.pool;
     let answer = out.answer;
     Pooled {

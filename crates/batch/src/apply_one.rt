@@ -4,9 +4,11 @@ ghost use Rattle.model.specs.Lent.{allEntered, allLeft};
 ghost use Rattle.model.specs.Calls.{framesOf, apply};
 ghost use Rattle.model.specs.Own.{leaves};
 ghost use Rattle.model.specs.Pool.{taken, deposited};
-use crate::in_turn::in_turn;
 use crate::numbers::as_numbers;
+use crate::turns::turns;
 use calls::common::common;
+use calls::packing::pack_all;
+use calls::packing::unpack_all;
 use model::applied::Applied;
 use model::event::Answer;
 use model::frame::Frame;
@@ -47,10 +49,11 @@ pub fn apply_one(
         (allEntered (framesOf frames lent) pool records numbers accounts maps limits parents
         «frame_words» «free_queue» «removal_list» addresses states owners «free_map» active updating images line used) request ⌝ }
 {
+    let mut packed = pack_all(frames);
     let refusal = common(
         sizes,
         lent,
-        frames,
+        &packed,
         pool,
         records,
         numbers,
@@ -81,12 +84,12 @@ pub fn apply_one(
     }
     let requests = as_numbers(request);
     let mut answers: [u32; 2] = [0; 2];
-    let out = in_turn(
+    let out = turns(
         sizes,
         1,
         &requests,
         &mut answers,
-        frames,
+        &mut packed,
         pool,
         records,
         numbers,
@@ -107,7 +110,7 @@ pub fn apply_one(
         line,
         used,
     );
-    let frames = out.frames;
+    let frames = unpack_all(packed);
     let answer = out.answer;
     Applied {
         frames,

@@ -1,7 +1,6 @@
 // One request, or a list of them, in one call: questions 1 and 2 are asked once, since every event leaves the tables as they want them.
 pub mod apply_all; // a list
 pub mod apply_one; // one
-pub mod in_turn; // so many requests, over frames by value
 pub mod numbers; // requests and answers as numbers
 pub mod turn; // one request
 pub mod turns; // so many, over frames that are packed

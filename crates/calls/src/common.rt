@@ -1,19 +1,20 @@
 // Questions 1 and 2 of every event and of a page look.
 ghost use mathlib.Core.Path.{_≡_};
+ghost use lib.ListN.{length};
 ghost use Rattle.model.specs.Lent.{allEntered};
 ghost use Rattle.model.specs.Calls.{framesOf};
+ghost use Rattle.leaves.specs.Packed.{unpacked};
 ghost use Rattle.calls.specs.Common.{common};
 use crate::lent::lent_fit;
 use crate::lent::lent_rules;
-use model::frame::Frame;
 use model::frame::Pool;
 use model::sizes::Sizes;
 
-// 0, or 1 or 2 where that question says no.
+// 0, or 1 or 2 where that question says no; the frames are packed, all 64.
 pub fn common(
     sizes: Sizes,
     lent: usize,
-    frames: [Frame; 64],
+    frames: &[u64],
     pool: Pool,
     records: &[u32],
     numbers: &[u32],
@@ -34,8 +35,9 @@ pub fn common(
     line: &[u16],
     used: &[u16],
 ) -> u32
+    requires { ⌜ length (now frames) ≡ 64 ⌝ }
     ensures { λ r. ⌜ r ≡ common sizes
-        (allEntered (framesOf frames lent) pool records numbers accounts maps limits parents
+        (allEntered (framesOf (unpacked (now (frames .entry))) lent) pool records numbers accounts maps limits parents
         «frame_words» «free_queue» «removal_list» addresses states owners «free_map» active updating images line used) ⌝ }
 {
     if lent_fit(

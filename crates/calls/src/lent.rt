@@ -8,7 +8,7 @@ ghost use Rattle.model.specs.declared.frame.Pool.{Pool};
 ghost use Rattle.model.specs.Lent.{allGiven, allEntered};
 ghost use Rattle.model.specs.Rules.{allRules};
 ghost use Rattle.model.specs.Step.{allFit};
-use model::frame::Frame;
+ghost use Rattle.leaves.specs.Packed.{unpacked};
 use model::frame::Pool;
 use model::sizes::LINE;
 use model::sizes::Sizes;
@@ -70,7 +70,7 @@ pub fn lent_fit(
 // Question 2, where question 1 said yes.
 pub fn lent_rules(
     sizes: Sizes,
-    frames: [Frame; 64],
+    frames: &[u64],
     lent: usize,
     pool: Pool,
     records: &[u32],
@@ -93,10 +93,10 @@ pub fn lent_rules(
     used: &[u16],
 ) -> bool
     requires { ⌜ Holds (allFit sizes
-        (allGiven (take lent frames) pool records numbers accounts maps limits parents
+        (allGiven (take lent (unpacked (now frames))) pool records numbers accounts maps limits parents
         «frame_words» «free_queue» «removal_list» addresses states owners «free_map» active updating images line used)) ⌝ }
     ensures { λ r. ⌜ r ≡ test (allRules sizes
-        (allEntered (take lent frames) pool records numbers accounts maps limits parents
+        (allEntered (take lent (unpacked (now (frames .entry)))) pool records numbers accounts maps limits parents
         «frame_words» «free_queue» «removal_list» addresses states owners «free_map» active updating images line used)) ⌝ }
 {
     let pages = sizes.slots * sizes.pages;

@@ -22,7 +22,7 @@ pub mod lent; // questions 1 and 2 with the line
 pub mod common; // questions 1 and 2, as a number
 pub mod carry; // an event handed on to its family
 pub mod looks; // a page look
-pub mod packing; // the frames in use, packed and back
+pub mod packing; // the frames, packed and back
 
 // Questions 1 and 2 (the disk rules only), then every table of the memory part set anew.
 pub fn restart_core(

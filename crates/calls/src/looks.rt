@@ -8,7 +8,7 @@ ghost use Rattle.model.specs.Calls.{framesOf};
 ghost use Rattle.model.specs.Step.{look};
 ghost use Rattle.model.specs.Part.{partOf, wordAt};
 use crate::common::common;
-use crate::packing::pack_first;
+use crate::packing::pack_all;
 use model::applied::Part;
 use model::frame::Frame;
 use model::frame::Pool;
@@ -47,10 +47,11 @@ pub fn place_core(
         «frame_words» «free_queue» «removal_list» addresses states owners «free_map» active updating images line used) slot page)
         × (r .start + r .count ≤ length (now («frame_words» .entry))) ⌝ }
 {
+    let packed = pack_all(frames);
     let refusal = common(
         sizes,
         lent,
-        frames,
+        &packed,
         pool,
         records,
         numbers,
@@ -78,7 +79,6 @@ pub fn place_core(
             count: 0,
         };
     }
-    let packed = pack_first(sizes.frames, frames);
     place(sizes, slot, page, &packed, numbers, active)
 }
 

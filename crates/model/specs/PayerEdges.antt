@@ -9,7 +9,7 @@ use Rattle.model.specs.Setters.{onDisk, setParents}
 use Rattle.model.specs.Restart.{formatted}
 use Rattle.model.specs.Step
 use Rattle.model.specs.Acts.{Act, run}
-use Rattle.model.specs.Lists.{limit, move, create, activate, fault, write, restart, said, beginWith, saysFrom}
+use Rattle.model.specs.Lists.{limit, move, create, delete, activate, fault, write, restart, said, beginWith, saysFrom}
 
 -- four accounts
 abbrev four : Sizes
@@ -33,7 +33,7 @@ design s q = create s q (7 + s) ∷ activate s ∷ []
 abbrev page : ℕ → ℕ → List Act
 page s p = fault s p ∷ write s p 0 9 ∷ []
 
--- answer and result of a list's last act; the used counts, and the limits and used counts, that it leaves
+-- answer and result of a list's last act; the used counts, the limits and used counts, and the slots' accounts that it leaves
 unfoldable pub told : List ℕ → List Act → List ℕ
 unfolding beginWith saysFrom
 told parents acts = saysFrom four (beginWith four parents) acts
@@ -45,6 +45,10 @@ paid parents acts = run four (beginWith four parents) acts .state .memory .used
 unfoldable pub shared : List ℕ → List Act → List ℕ
 unfolding beginWith
 shared parents acts = let st = run four (beginWith four parents) acts .state in st .disk .limits ++ st .memory .used
+
+unfoldable pub owning : List Act → List ℕ
+unfolding beginWith
+owning acts = run four (beginWith four studios) acts .state .disk .accounts
 
 -- a design of studio 2 with one page, of two it may have; the mill has 3
 abbrev rented : List Act
@@ -104,6 +108,9 @@ pub record PayerEdges : Type 0 where
   third-enough : shared chain (tight ++ limit 1 2 ∷ move 2 3 2 ∷ []) ≡ 4 ∷ 2 ∷ 0 ∷ 2 ∷ 0 ∷ 2 ∷ 0 ∷ 0 ∷ []
   -- an account over its limit that the move does not touch
   other-over : told studios (limits 4 3 3 0 ++ design 0 2 ++ page 0 0 ++ page 0 1 ++ limit 2 1 ∷ move 0 1 1 ∷ []) ≡ 0 ∷ 0 ∷ []
+  -- a deleted design leaves its account too: the next event finds the slot empty and the rules kept
+  deleted-left : owning (limits 4 3 2 0 ++ create 0 2 7 ∷ delete 0 ∷ []) ≡ 0 ∷ 0 ∷ 0 ∷ []
+  deleted-next : told studios (limits 4 3 2 0 ++ create 0 2 7 ∷ delete 0 ∷ create 0 3 7 ∷ []) ≡ 0 ∷ 0 ∷ []
   -- format: 3 for a parent that is not lower, 1 for another length; account 0 is stored under 0
   format-equal : formatting (0 ∷ 0 ∷ 2 ∷ 0 ∷ []) ≡ 3 ∷ 0 ∷ 0 ∷ 0 ∷ 0 ∷ []
   format-higher : formatting (0 ∷ 2 ∷ 0 ∷ 0 ∷ []) ≡ 3 ∷ 0 ∷ 0 ∷ 0 ∷ 0 ∷ []
@@ -116,7 +123,7 @@ pub record PayerEdges : Type 0 where
   restart-first : restarting (9 ∷ 0 ∷ 1 ∷ 2 ∷ []) ≡ 0
 
 pub payerEdges : PayerEdges
-unfolding told paid shared formatting restarting
+unfolding told paid shared owning formatting restarting
 payerEdges = record {
   chain-paid = refl;
   chain-full = refl;
@@ -147,6 +154,8 @@ payerEdges = record {
   third-over = refl;
   third-enough = refl;
   other-over = refl;
+  deleted-left = refl;
+  deleted-next = refl;
   format-equal = refl;
   format-higher = refl;
   format-short = refl;

@@ -5,10 +5,10 @@ ghost use Prim.Native.Nat.{_+_, _*_, _≤_};
 ghost use lib.ListN.{length};
 ghost use Rattle.tables.specs.Base.{at};
 ghost use Rattle.tables.specs.Rule.{same, each, test, Holds};
+ghost use Rattle.leaves.specs.Packed.{unpacked};
 ghost use Rattle.rules.specs.Passes.{marked};
 ghost use Rattle.questions.specs.Groups.{diskPasses, countPasses, DiskLong, CountsLong};
 ghost use Rattle.questions.specs.Contracts.{FilesGiven, filesEntered, filesCounted, FramesGiven, framesEntered, framesCounted};
-use model::frame::Frame;
 use model::frame::Pool;
 use model::sizes::Sizes;
 
@@ -80,7 +80,7 @@ pub fn files(
 // The memory rules of frames and of their queues. The pages that count as used by their frames are counted too.
 pub fn frames(
     z: Sizes,
-    frames: [Frame; Sizes::MOST_FRAMES],
+    frames: &[u64],
     totals: &mut [usize],
     accounts: &[u16],
     records: &[u32],
@@ -92,7 +92,7 @@ pub fn frames(
     active: &[u8],
 ) -> bool
     requires { ⌜ FramesGiven z totals accounts records words «free_queue» «removal_list» addresses states active ⌝ }
-    ensures { λ r. ⌜ (r ≡ test (framesEntered z frames records words «free_queue» «removal_list» addresses states active)) × (r ≡ true → Holds (framesCounted z frames totals accounts addresses states)) ⌝ }
+    ensures { λ r. ⌜ (r ≡ test (framesEntered z (unpacked (now (frames .entry))) records words «free_queue» «removal_list» addresses states active)) × (r ≡ true → Holds (framesCounted z (unpacked (now (frames .entry))) totals accounts addresses states)) ⌝ }
 {
     if rules::queues::queue(z.frames, z.frames, free_queue)
         & rules::queues::queue(z.frames, z.frames, removal_list)

@@ -7,10 +7,10 @@ ghost use Rattle.model.specs.State.{Memory};
 ghost use Rattle.model.specs.Lent.{diskOf, given, entered};
 ghost use Rattle.model.specs.Rules.{diskRules, allRules};
 ghost use Rattle.model.specs.Step.{diskLengths, allFit};
+ghost use Rattle.leaves.specs.Packed.{unpacked};
 ghost use Rattle.questions.specs.Contracts.{diskEntered};
 use crate::groups::RECORD_MARKS;
 use leaves::payer::fill_payers;
-use model::frame::Frame;
 use model::frame::Pool;
 use model::sizes::Sizes;
 
@@ -34,7 +34,7 @@ pub fn disk_rules(
 // Both sets of rules.
 pub fn all_rules(
     z: Sizes,
-    frames: [Frame; Sizes::MOST_FRAMES],
+    frames: &[u64],
     count: usize,
     pool: Pool,
     records: &[u32],
@@ -55,8 +55,8 @@ pub fn all_rules(
     images: &[u16],
     used: &[u16],
 ) -> bool
-    requires { ⌜ Holds (allFit z (given (take count frames) pool records numbers accounts maps limits parents words «free_queue» «removal_list» addresses states owners «free_map» active updating images used)) ⌝ }
-    ensures { λ r. ⌜ r ≡ test (allRules z (entered (take count frames) pool records numbers accounts maps limits parents words «free_queue» «removal_list» addresses states owners «free_map» active updating images used)) ⌝ }
+    requires { ⌜ Holds (allFit z (given (take count (unpacked (now frames))) pool records numbers accounts maps limits parents words «free_queue» «removal_list» addresses states owners «free_map» active updating images used)) ⌝ }
+    ensures { λ r. ⌜ r ≡ test (allRules z (entered (take count (unpacked (now (frames .entry)))) pool records numbers accounts maps limits parents words «free_queue» «removal_list» addresses states owners «free_map» active updating images used)) ⌝ }
 {
     let mut listed: [u32; RECORD_MARKS] = [0; RECORD_MARKS];
     if crate::groups::disk(z, numbers, accounts, maps, parents, &mut listed) {} else {

@@ -10,11 +10,13 @@ ghost use Rattle.model.specs.Sizes.{mostAccounts};
 ghost use Rattle.model.specs.State.{NONE, WRITING};
 ghost use Rattle.model.specs.Rules.{fit};
 ghost use Rattle.model.specs.Woven.{wovenPage};
+ghost use Rattle.leaves.specs.Packed.{unpacked};
 ghost use Rattle.rules.specs.Passes.{switches, onePlace, bare, activePage, heldPage, frameRow, addressOf, framedPage};
 ghost use Rattle.rules.specs.Contracts.{FramesGiven, framesEntered, FramesLeft};
 use crate::clean::clean;
 use crate::counts::live_one;
 use crate::marks::mark_entry;
+use leaves::packed::frame_at;
 use model::frame::Frame;
 use model::frame::NONE;
 use model::frame::READING;
@@ -174,7 +176,7 @@ fn address_of(page: u16, addresses: &[u16]) -> u16
 // as used by their frames are counted.
 pub fn frames_ok(
     z: Sizes,
-    frames: [Frame; Sizes::MOST_FRAMES],
+    frames: &[u64],
     queued: [u8; Sizes::MOST_FRAMES],
     removing: [u8; Sizes::MOST_FRAMES],
     marks: &mut [u32],
@@ -187,13 +189,13 @@ pub fn frames_ok(
     records: &[u32],
 ) -> bool
     requires { ⌜ FramesGiven z marks totals accounts active addresses states words records ⌝ }
-    ensures { λ r. ⌜ (r ≡ test (framesEntered z frames queued removing active addresses states words records)) × (r ≡ true → FramesLeft z frames marks totals accounts addresses states) ⌝ }
+    ensures { λ r. ⌜ (r ≡ test (framesEntered z (unpacked (now (frames .entry))) queued removing active addresses states words records)) × (r ≡ true → FramesLeft z (unpacked (now (frames .entry))) marks totals accounts addresses states) ⌝ }
 {
     let n = addresses.len();
     let most = states.len();
     let mut f = 0;
     while f < z.frames {
-        let x = frames[f];
+        let x = frame_at(frames, f);
         if page_fit(n, x.page) {} else {
             return false;
         }

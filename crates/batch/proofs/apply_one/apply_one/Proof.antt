@@ -1,22 +1,16 @@
 -- `apply_one` meets its contract: refused by question 1 or 2, or the only request of a list.
 use borrow.Author.Needs.{needs}
-use mathlib.Core.Path.{_≡_, refl, sym, subst, ap, _∙_}
+use mathlib.Core.Path.{_≡_, refl, sym, ap, _∙_}
 use mathlib.Core.List.{List}
 use native.Mathlib.Omega.{arith}
-use lib.ListN.{length, take, length-map}
-use Rattle.tables.specs.Rule.{Holds}
+use lib.ListN.{length}
 use Rattle.model.specs.declared.frame.Frame.{Frame}
 use Rattle.model.specs.State.{State}
-use Rattle.model.specs.Rules.{allRules}
 use Rattle.model.specs.Lent.{allGiven}
-use Rattle.model.specs.Step.{allFit}
-use Rattle.model.specs.Fit.{fit}
 use Rattle.model.specs.Calls.{framesOf}
 use Rattle.model.specs.Pool.{taken, deposited}
-use Rattle.dispatch.specs.Kept.{Kept, kept}
-use Rattle.calls.specs.Frames.{all-lent, lent-first, lent-of}
-use Rattle.calls.specs.Common.{common-gives, unfit-apply}
-use Rattle.batch.proofs.Whole.{one-applied}
+use Rattle.calls.specs.Common.{common, unfit-apply}
+use Rattle.batch.proofs.Whole.{one-applied, packed-long, packed-told, packed-first, packed-kept, packed-back}
 use Rattle.batch.proofs.apply_one.apply_one.Statement.{statement}
 use Rattle.batch.proofs.apply_one.apply_one.Tie as tie
 
@@ -30,71 +24,84 @@ at s l =
 abbrev lent : tie.Start → State
 lent s = at s (framesOf (s .args .frames) (s .args .lent))
 
--- from questions 1 and 2 back to the start; from the work back to the request's numbers and to the yes
-abbrev begun : tie.After-common-arg → tie.Start
-begun q = search
+-- the frames are an array of 64
+long : (s : tie.Start) → length (s .args .frames) ≡ 64
+long s = s .good .1 .1 .1 .0 .1 .0 .1
 
-abbrev asked : tie.After-common → tie.After-common-arg
-asked q = search
+-- from questions 1 and 2 back to the packing, and to the start; from the work back to the request's numbers and to the yes
+abbrev packed : tie.After-common → tie.After-pack-all
+packed q = search
 
-abbrev start : tie.After-common → tie.Start
-start q = begun (asked q)
+abbrev start : tie.After-pack-all → tie.Start
+start p = search
 
-abbrev worked : tie.After-answer → tie.After-in-turn
+abbrev worked : tie.After-answer → tie.After-turns
 worked c = search
 
-abbrev numbered : tie.After-in-turn → tie.After-as-numbers
+abbrev numbered : tie.After-turns → tie.After-as-numbers
 numbered w = search
 
 abbrev passed : tie.After-as-numbers → tie.Else1
 passed n = search
 
--- where question 1 says yes, the first F frames
-first : (s : tie.Start) → Holds (allFit (s .args .sizes) (lent s)) → framesOf (s .args .frames) (s .args .lent) ≡ take (s .args .sizes .frames) (s .args .frames)
-first s f = lent-first (s .args .sizes) (at s) (λ l. refl) (s .args .frames) (s .args .lent) f (s .good .1 .1 .1 .0 .1 .0 .1)
+-- .. and so are the packed ones
+filled : (p : tie.After-pack-all) → length (p .pack-all .result) ≡ 64
+filled p =
+    let s = start p in
+    let a = s .args in
+    packed-long (a .sizes) (at s) (λ l. refl) (a .frames) (a .lent) (long s) (p .pack-all .result) (p .pack-all .ensures)
 
-both : (c : tie.Else1) → (let s = start (c .before) in Holds (allFit (s .args .sizes) (lent s)) × Holds (allRules (s .args .sizes) (lent s)))
-both c = let s = start (c .before) in common-gives (s .args .sizes) (lent s) (sym (c .before .common .ensures) ∙ c .if1 .left)
+-- questions 1 and 2 are asked of what is lent
+told : (q : tie.After-common) → (let s = start (packed q) in q .common .result ≡ common (s .args .sizes) (lent s))
+told q =
+    let p = packed q in
+    let s = start p in
+    let a = s .args in
+    packed-told (a .sizes) (at s) (λ l. refl) (a .frames) (a .lent) (long s) (p .pack-all .result) (p .pack-all .ensures) (q .common .result) (q .common .ensures)
+
+yes : (c : tie.Else1) → (let s = start (packed (c .before)) in common (s .args .sizes) (lent s) ≡ 0)
+yes c = sym (told (c .before)) ∙ c .if1 .left
 
 returns : tie.Need-returns
 unfolding taken deposited
 returns c =
     let i : tie.Then1 = search in
-    let s = start (i .before) in
-    unfit-apply (s .args .sizes) (lent s) (s .args .request) (i .before .common .result) (i .before .common .ensures) (i .if1 .taken)
+    let s = start (packed (i .before)) in
+    unfit-apply (s .args .sizes) (lent s) (s .args .request) (i .before .common .result) (told (i .before)) (i .if1 .taken)
 
-in-turn-requires : tie.Need-in-turn-requires
-in-turn-requires c κs =
+turns-requires : tie.Need-turns-requires
+turns-requires c κs =
     let n : tie.After-as-numbers = search in
     let k = passed n in
-    let s = start (k .before) in
-    let g = both k in (
+    let p = packed (k .before) in
+    let s = start p in
+    let a = s .args in (
       omega (arith, ap length (n .as-numbers .ensures)),
       omega arith,
-      subst (λ (l : List Frame). Kept (s .args .sizes) (at s l)) (first s (g .0)) (kept (s .args .sizes) (lent s) (g .0) (g .1)),
+      packed-kept (a .sizes) (at s) (λ l. refl) (a .frames) (a .lent) (long s) (p .pack-all .result) (p .pack-all .ensures) (yes k),
     )
-
--- an array of 64 comes back
-long : (w : tie.After-in-turn) → length (w .in-turn .result .frames) ≡ 64
-long w = sym (length-map (w .in-turn .result .frames) _) ∙ w .in-turn .ok .1 .1 .0 .1 .0 .1
 
 returns-2 : tie.Need-returns-2
 returns-2 c =
     let w = worked c in
+    let u : tie.After-unpack-all = search in
     let n = numbered w in
     let k = passed n in
-    let s = start (k .before) in
+    let p = packed (k .before) in
+    let s = start p in
     let a = s .args in
-    let g = both k in
-    one-applied (a .sizes) (a .request) (at s) (n .as-numbers .result) _ (n .as-numbers .ensures) (first s (g .0)) (w .in-turn .ensures .0)
-    (lent-of (w .in-turn .result .frames) (a .lent) (a .sizes .frames) (all-lent (a .sizes) (at s) (λ l. refl) (a .frames) (a .lent) (g .0)) (fit (a .sizes) (lent s) (g .0) .sizes .frames-most) (long w))
-    (sym (w .in-turn .ensures .1 refl))
+    one-applied (a .sizes) (a .request) (at s) (n .as-numbers .result) _ (n .as-numbers .ensures)
+    (packed-first (a .sizes) (at s) (λ l. refl) (a .frames) (a .lent) (long s) (p .pack-all .result) (p .pack-all .ensures) (yes k)) (w .turns .ensures .0)
+    (packed-back (a .sizes) (at s) (λ l. refl) (a .frames) (a .lent) (long s) (p .pack-all .result) (p .pack-all .ensures) (yes k) (w .turns .last .1 .1 .1 .1 .0) (w .turns .kept .1 .1 .1 .1 .0) (u .unpack-all .ensures))
+    (sym (w .turns .ensures .1 refl))
 
 pub apply-one-spec : {M : Type 1} → statement M
 apply-one-spec =
     tie.close
     (tie.spec
     (λ c κs. search needs)
+    (λ c. search needs)
+    (λ c κs. let p : tie.After-pack-all = search in filled p)
     (λ c. refl)
     (λ c. refl)
     (λ c. refl)
@@ -116,22 +123,24 @@ apply-one-spec =
     (λ c κs. search needs)
     (λ c. let n : tie.After-as-numbers = search in sym (ap length (n .as-numbers .ensures)))
     (λ c. refl)
-    in-turn-requires
-    (λ c. worked c .in-turn .kept .1 .1 .1 .1 .1 .1 .0)
-    (λ c. worked c .in-turn .kept .1 .1 .1 .1 .1 .1 .1 .0)
-    (λ c. worked c .in-turn .kept .1 .1 .1 .1 .1 .1 .1 .1 .0)
-    (λ c. worked c .in-turn .kept .1 .1 .1 .1 .1 .1 .1 .1 .1 .0)
-    (λ c. worked c .in-turn .kept .1 .1 .1 .1 .1 .1 .1 .1 .1 .1 .0)
-    (λ c. worked c .in-turn .kept .1 .1 .1 .1 .1 .1 .1 .1 .1 .1 .1 .1 .0)
-    (λ c. worked c .in-turn .kept .1 .1 .1 .1 .1 .1 .1 .1 .1 .1 .1 .1 .1 .0)
-    (λ c. worked c .in-turn .kept .1 .1 .1 .1 .1 .1 .1 .1 .1 .1 .1 .1 .1 .1 .0)
-    (λ c. worked c .in-turn .kept .1 .1 .1 .1 .1 .1 .1 .1 .1 .1 .1 .1 .1 .1 .1 .0)
-    (λ c. worked c .in-turn .kept .1 .1 .1 .1 .1 .1 .1 .1 .1 .1 .1 .1 .1 .1 .1 .1 .0)
-    (λ c. worked c .in-turn .kept .1 .1 .1 .1 .1 .1 .1 .1 .1 .1 .1 .1 .1 .1 .1 .1 .1 .0)
-    (λ c. worked c .in-turn .kept .1 .1 .1 .1 .1 .1 .1 .1 .1 .1 .1 .1 .1 .1 .1 .1 .1 .1 .0)
-    (λ c. worked c .in-turn .kept .1 .1 .1 .1 .1 .1 .1 .1 .1 .1 .1 .1 .1 .1 .1 .1 .1 .1 .1 .0)
-    (λ c. worked c .in-turn .kept .1 .1 .1 .1 .1 .1 .1 .1 .1 .1 .1 .1 .1 .1 .1 .1 .1 .1 .1 .1 .0)
-    (λ c. worked c .in-turn .kept .1 .1 .1 .1 .1 .1 .1 .1 .1 .1 .1 .1 .1 .1 .1 .1 .1 .1 .1 .1 .1 .0)
-    (λ c. worked c .in-turn .kept .1 .1 .1 .1 .1 .1 .1 .1 .1 .1 .1 .1 .1 .1 .1 .1 .1 .1 .1 .1 .1 .1 .0)
-    (λ c. worked c .in-turn .kept .1 .1 .1 .1 .1 .1 .1 .1 .1 .1 .1 .1 .1 .1 .1 .1 .1 .1 .1 .1 .1 .1 .1 .0)
+    (λ c. let k : tie.Else1 = search in sym (filled (packed (k .before))))
+    turns-requires
+    (λ c κs. search needs)
+    (λ c. worked c .turns .kept .1 .1 .1 .1 .1 .1 .0)
+    (λ c. worked c .turns .kept .1 .1 .1 .1 .1 .1 .1 .0)
+    (λ c. worked c .turns .kept .1 .1 .1 .1 .1 .1 .1 .1 .0)
+    (λ c. worked c .turns .kept .1 .1 .1 .1 .1 .1 .1 .1 .1 .0)
+    (λ c. worked c .turns .kept .1 .1 .1 .1 .1 .1 .1 .1 .1 .1 .0)
+    (λ c. worked c .turns .kept .1 .1 .1 .1 .1 .1 .1 .1 .1 .1 .1 .1 .0)
+    (λ c. worked c .turns .kept .1 .1 .1 .1 .1 .1 .1 .1 .1 .1 .1 .1 .1 .0)
+    (λ c. worked c .turns .kept .1 .1 .1 .1 .1 .1 .1 .1 .1 .1 .1 .1 .1 .1 .0)
+    (λ c. worked c .turns .kept .1 .1 .1 .1 .1 .1 .1 .1 .1 .1 .1 .1 .1 .1 .1 .0)
+    (λ c. worked c .turns .kept .1 .1 .1 .1 .1 .1 .1 .1 .1 .1 .1 .1 .1 .1 .1 .1 .0)
+    (λ c. worked c .turns .kept .1 .1 .1 .1 .1 .1 .1 .1 .1 .1 .1 .1 .1 .1 .1 .1 .1 .0)
+    (λ c. worked c .turns .kept .1 .1 .1 .1 .1 .1 .1 .1 .1 .1 .1 .1 .1 .1 .1 .1 .1 .1 .0)
+    (λ c. worked c .turns .kept .1 .1 .1 .1 .1 .1 .1 .1 .1 .1 .1 .1 .1 .1 .1 .1 .1 .1 .1 .0)
+    (λ c. worked c .turns .kept .1 .1 .1 .1 .1 .1 .1 .1 .1 .1 .1 .1 .1 .1 .1 .1 .1 .1 .1 .1 .0)
+    (λ c. worked c .turns .kept .1 .1 .1 .1 .1 .1 .1 .1 .1 .1 .1 .1 .1 .1 .1 .1 .1 .1 .1 .1 .1 .0)
+    (λ c. worked c .turns .kept .1 .1 .1 .1 .1 .1 .1 .1 .1 .1 .1 .1 .1 .1 .1 .1 .1 .1 .1 .1 .1 .1 .0)
+    (λ c. worked c .turns .kept .1 .1 .1 .1 .1 .1 .1 .1 .1 .1 .1 .1 .1 .1 .1 .1 .1 .1 .1 .1 .1 .1 .1 .0)
     returns-2)

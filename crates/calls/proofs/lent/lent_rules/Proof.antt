@@ -6,6 +6,7 @@ use Rattle.model.specs.State.{State}
 use Rattle.model.specs.Lent.{allGiven}
 use Rattle.model.specs.Fit.{Fit, fit}
 use Rattle.model.specs.Bounds.{pages-most}
+use Rattle.leaves.specs.Packed.{unpacked}
 use Rattle.calls.specs.Lined.{fit-quiet, ruled-told-lined}
 use Rattle.calls.proofs.lent.lent_rules.Statement.{statement}
 use Rattle.calls.proofs.lent.lent_rules.Tie as tie
@@ -14,7 +15,7 @@ use Rattle.calls.proofs.lent.lent_rules.Tie as tie
 abbrev lent : tie.Start → State
 lent s =
     let a = s .args in
-    allGiven (take (a .lent) (a .frames)) (a .pool) (a .records) (a .numbers) (a .accounts) (a .maps) (a .limits) (a .parents) (a .frame-words) (a .free-queue) (a .removal-list)
+    allGiven (take (a .lent) (unpacked (a .frames .now))) (a .pool) (a .records) (a .numbers) (a .accounts) (a .maps) (a .limits) (a .parents) (a .frame-words) (a .free-queue) (a .removal-list)
     (a .addresses) (a .states) (a .owners) (a .free-map) (a .active) (a .updating) (a .images) (a .line) (a .used)
 
 abbrev fits : (s : tie.Start) → Fit (s .args .sizes) (lent s)

@@ -1,6 +1,6 @@
 -- `place_core` meets its contract: refused by question 1 or 2, or what the look by its own questions tells.
 use borrow.Author.Needs.{needs}
-use mathlib.Core.Path.{_≡_, refl, sym, _∙_}
+use mathlib.Core.Path.{_≡_, refl, sym, ap, _∙_}
 use mathlib.Core.List.{List}
 use Prim.Native.Nat.{_*_}
 use native.Mathlib.Omega.{arith}
@@ -13,9 +13,9 @@ use Rattle.model.specs.Lent.{allGiven}
 use Rattle.model.specs.Step.{allFit}
 use Rattle.model.specs.Fit.{fit}
 use Rattle.model.specs.Calls.{framesOf}
-use Rattle.leaves.specs.Packed.{unpacked}
+use Rattle.leaves.specs.Packed.{unpacked, unpacked-length}
 use Rattle.calls.specs.Frames.{lent-first}
-use Rattle.calls.specs.Common.{common-gives, unfit-part}
+use Rattle.calls.specs.Common.{common, common-gives, unfit-part}
 use Rattle.calls.specs.Looking.{seats, placed-part}
 use Rattle.calls.proofs.looks.place_core.Statement.{statement}
 use Rattle.calls.proofs.looks.place_core.Tie as tie
@@ -27,59 +27,72 @@ at s l =
     allGiven l (a .pool) (a .records) (a .numbers) (a .accounts) (a .maps) (a .limits) (a .parents) (a .frame-words) (a .free-queue) (a .removal-list)
     (a .addresses) (a .states) (a .owners) (a .free-map) (a .active) (a .updating) (a .images) (a .line) (a .used)
 
--- from questions 1 and 2 back to the start
-abbrev start : tie.After-common → tie.Start
-start q = search
+-- from questions 1 and 2 back to the packing, and to the start
+abbrev packed : tie.After-common → tie.After-pack-all
+packed q = search
+
+abbrev start : tie.After-pack-all → tie.Start
+start p = search
 
 abbrev lent : tie.Start → State
 lent s = at s (framesOf (s .args .frames) (s .args .lent))
 
+-- the frames are an array of 64
+long : (s : tie.Start) → length (s .args .frames) ≡ 64
+long s = s .good .1 .1 .1 .1 .0 .1 .0 .1
+
+common-requires : tie.Need-common-requires
+common-requires c κs =
+    let p : tie.After-pack-all = search in
+    sym (unpacked-length (p .pack-all .result)) ∙ ap length (p .pack-all .ensures) ∙ long (start p)
+
+-- questions 1 and 2 are asked of what is lent
+told : (q : tie.After-common) → (let s = start (packed q) in q .common .result ≡ common (s .args .sizes) (lent s))
+told q =
+    let p = packed q in
+    let s = start p in
+    q .common .ensures ∙ ap (λ (fs : List Frame). common (s .args .sizes) (at s (framesOf fs (s .args .lent)))) (p .pack-all .ensures)
+
 -- where question 1 says yes, the first F frames
 first : (s : tie.Start) → Holds (allFit (s .args .sizes) (lent s)) → framesOf (s .args .frames) (s .args .lent) ≡ take (s .args .sizes .frames) (s .args .frames)
-first s f = lent-first (s .args .sizes) (at s) (λ l. refl) (s .args .frames) (s .args .lent) f (s .good .1 .1 .1 .1 .0 .1 .0 .1)
+first s f = lent-first (s .args .sizes) (at s) (λ l. refl) (s .args .frames) (s .args .lent) f (long s)
 
 returns : tie.Need-returns
 returns c =
-    let s = start (c .before) in
+    let s = start (packed (c .before)) in
     let a = s .args in
-    (unfit-part (a .sizes) (lent s) (a .slot) (a .page) (c .before .common .result) (c .before .common .ensures) (c .if1 .taken), omega arith)
+    (unfit-part (a .sizes) (lent s) (a .slot) (a .page) (c .before .common .result) (told (c .before)) (c .if1 .taken), omega arith)
 
-passed : (c : tie.Else1) → (let s = start (c .before) in Holds (allFit (s .args .sizes) (lent s)) × Holds (allRules (s .args .sizes) (lent s)))
-passed c = let s = start (c .before) in common-gives (s .args .sizes) (lent s) (sym (c .before .common .ensures) ∙ c .if1 .left)
+passed : (c : tie.Else1) → (let s = start (packed (c .before)) in Holds (allFit (s .args .sizes) (lent s)) × Holds (allRules (s .args .sizes) (lent s)))
+passed c = let s = start (packed (c .before)) in common-gives (s .args .sizes) (lent s) (sym (told (c .before)) ∙ c .if1 .left)
 
-pack-first-requires : tie.Need-pack-first-requires
-pack-first-requires c κs =
-    let k : tie.Else1 = search in
-    let s = start (k .before) in
-    omega (arith, fit (s .args .sizes) (lent s) (passed k .0) .sizes .frames-most)
-
--- the frames that are packed are the first F
-same : (p : tie.After-pack-first) → (let k : tie.Else1 = search in let s = start (k .before) in framesOf (s .args .frames) (s .args .lent) ≡ take (s .args .sizes .frames) (unpacked (p .pack-first .result)))
-same p =
-    let k : tie.Else1 = search in
-    let s = start (k .before) in
-    first s (passed k .0) ∙ sym (p .pack-first .ensures)
+-- of the frames that are packed, the first F
+same : (c : tie.Else1) → (let p = packed (c .before) in let s = start p in framesOf (s .args .frames) (s .args .lent) ≡ take (s .args .sizes .frames) (unpacked (p .pack-all .result)))
+same c =
+    let p = packed (c .before) in
+    let s = start p in
+    first s (passed c .0) ∙ ap (take (s .args .sizes .frames)) (sym (p .pack-all .ensures))
 
 place-requires : tie.Need-place-requires
 place-requires c κs =
-    let p : tie.After-pack-first = search in
     let k : tie.Else1 = search in
-    let s = start (k .before) in
+    let p = packed (k .before) in
+    let s = start p in
     let g = passed k in
-    seats (s .args .sizes) (lent s) (g .0) (g .1) (take (s .args .sizes .frames) (unpacked (p .pack-first .result))) (same p)
+    seats (s .args .sizes) (lent s) (g .0) (g .1) (take (s .args .sizes .frames) (unpacked (p .pack-all .result))) (same k)
 
 returns-2 : tie.Need-returns-2
 returns-2 c =
     let w : tie.After-place = search in
-    let p : tie.After-pack-first = search in
     let k : tie.Else1 = search in
-    let s = start (k .before) in
+    let p = packed (k .before) in
+    let s = start p in
     let a = s .args in
     let g = passed k in
     let l : length (a .frame-words .now) ≡ a .sizes .frames * a .sizes .words = fit (a .sizes) (lent s) (g .0) .memory .words in (
-      placed-part (a .sizes) (lent s) (a .slot) (a .page) (take (a .sizes .frames) (unpacked (p .pack-first .result))) (same p) (sym (k .before .common .ensures) ∙ k .if1 .left) (w .place .result) (w .place .ensures .0),
+      placed-part (a .sizes) (lent s) (a .slot) (a .page) (take (a .sizes .frames) (unpacked (p .pack-all .result))) (same k) (sym (told (k .before)) ∙ k .if1 .left) (w .place .result) (w .place .ensures .0),
       omega (arith, l, w .place .ensures .1),
     )
 
 pub place-core-spec : {M : Type 1} → statement M
-place-core-spec = tie.close (tie.spec (λ c κs. search needs) returns pack-first-requires (λ c. search needs) place-requires returns-2)
+place-core-spec = tie.close (tie.spec (λ c κs. search needs) (λ c. search needs) common-requires returns (λ c. search needs) place-requires returns-2)

@@ -8,6 +8,7 @@ use Rattle.tables.specs.Queue as lists
 use Rattle.tables.specs.Rule.{_and_, Holds}
 use Rattle.tables.specs.Turn.{learn, unlearn, not-so, both}
 use Rattle.tables.specs.Laws.{at-zeros}
+use Rattle.leaves.specs.Packed.{unpacked}
 use Rattle.rules.proofs.Marked.{not-true}
 use Rattle.questions.proofs.Shapes.{all-zero}
 use Rattle.questions.proofs.GroupLaws.{both-true, frames-fit, frames-decide}
@@ -67,7 +68,7 @@ returns-2 c =
     let s = begun t in
     let a = s .args in (
       frames-ok .ensures .0 ∙ frames-decide (a .z) (a .accounts .now) (a .records .now) (a .words .now) (a .free-queue .now) (a .removal-list .now) (a .addresses .now) (a .states .now) (a .active .now)
-          (s .pre .0) (a .frames) (places .result) (places2 .result) (s .pre .1) (places .ensures) (places2 .ensures) (free-queued t) (list-queued t),
+          (s .pre .0) (unpacked (a .frames .now)) (places .result) (places2 .result) (s .pre .1) (places .ensures) (places2 .ensures) (free-queued t) (list-queued t),
       λ e. frames-ok .ensures .1 e .1,
     )
 

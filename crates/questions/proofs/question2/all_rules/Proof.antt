@@ -10,6 +10,7 @@ use Rattle.tables.specs.Turn.{learn}
 use Rattle.tables.specs.Laws.{at-zeros}
 use Rattle.model.specs.State.{State, allPages, files, frameAt}
 use Rattle.model.specs.Ruled.{OnDisk}
+use Rattle.leaves.specs.Packed.{unpacked}
 use Rattle.leaves.specs.Payers.{Paying, paying, paying-below}
 use Rattle.model.specs.Fit.{Fit, fit}
 use Rattle.model.specs.Bounds.{pages-most}
@@ -24,14 +25,14 @@ use Rattle.questions.proofs.question2.all_rules.Tie as tie
 abbrev lent : tie.Start → State
 lent s =
     let a = s .args in
-    stateOf (take (a .count) (a .frames)) (a .pool) (a .records .now) (a .numbers .now) (a .accounts .now) (a .maps .now) (a .limits .now) (a .parents .now) (a .words .now) (a .free-queue .now) (a .removal-list .now)
+    stateOf (take (a .count) (unpacked (a .frames .now))) (a .pool) (a .records .now) (a .numbers .now) (a .accounts .now) (a .maps .now) (a .limits .now) (a .parents .now) (a .words .now) (a .free-queue .now) (a .removal-list .now)
     (a .addresses .now) (a .states .now) (a .owners .now) (a .free-map .now) (a .active .now) (a .updating .now) (a .images .now) (a .used .now)
 
 fits : (s : tie.Start) → Fit (s .args .z) (lent s)
 fits s = fit (s .args .z) (lent s) (s .pre)
 
-same : (s : tie.Start) (f : ℕ) → f < s .args .z .frames → frameAt (s .args .frames) f ≡ frameAt (lent s .memory .core .frames) f
-same s = frames-taken (s .args .z .frames) (s .args .count) (s .args .frames) (fits s .memory .frames)
+same : (s : tie.Start) (f : ℕ) → f < s .args .z .frames → frameAt (unpacked (s .args .frames .now)) f ≡ frameAt (lent s .memory .core .frames) f
+same s = frames-taken (s .args .z .frames) (s .args .count) (unpacked (s .args .frames .now)) (fits s .memory .frames)
 
 -- from the first group back to the start
 abbrev begun : tie.After-disk → tie.Start
@@ -105,7 +106,7 @@ frames-requires c κs =
 returns-3 : tie.Need-returns-3
 returns-3 c =
     let p : tie.After-fill-payers = search in let s = first p in
-    no-frames (s .args .z) (lent s) (fits s) (frameAt (s .args .frames)) (same s) (sym (c .if3 .left) ∙ c .before .before .frames .ensures .0)
+    no-frames (s .args .z) (lent s) (fits s) (frameAt (unpacked (s .args .frames .now))) (same s) (sym (c .if3 .left) ∙ c .before .before .frames .ensures .0)
 
 counts-requires : tie.Need-counts-requires
 counts-requires c κs =
@@ -119,7 +120,7 @@ returns-4 c =
     let after-frames : tie.After-frames = search in let frames = after-frames .frames in
     let u : tie.Then2 = search in
     let after-files : tie.After-files = search in let files = after-files .files in
-    counts-decide (s .args .z) (lent s) (fits s) (frameAt (s .args .frames)) (same s) (payers p) (told p) (files .last .1 .0) (frames .last .1 .1 .0) _ (empty-line (allPages (s .args .z)))
+    counts-decide (s .args .z) (lent s) (fits s) (frameAt (unpacked (s .args .frames .now))) (same s) (payers p) (told p) (files .last .1 .0) (frames .last .1 .1 .0) _ (empty-line (allPages (s .args .z)))
     (learn _ (sym (t .if1 .taken) ∙ disk .ensures .0)) (learn _ (sym (u .if2 .taken) ∙ files .ensures .0)) (learn _ (sym (w .if3 .taken) ∙ frames .ensures .0)) (files .ensures .1 (u .if2 .taken)) (frames .ensures .1 (w .if3 .taken)) (c .counts .ensures)
 
 pub all-rules-spec : {M : Type 1} → statement M

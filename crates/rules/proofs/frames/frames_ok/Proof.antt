@@ -1,6 +1,6 @@
 -- The invariant: each frame before f keeps its rules and is clean, their pages are there, their records are marked, each once, and the pages that count as used by their frames are counted.
 use borrow.Author.Needs.{needs}
-use mathlib.Core.Path.{_≡_, refl, sym, _∙_}
+use mathlib.Core.Path.{_≡_, refl, sym, ap, _∙_}
 use mathlib.Core.Bool.{true}
 use Prim.Native.Nat.{ℕ, _-_, _<_, _≤_}
 use native.Mathlib.Nat.{le-trans, mul-le-mul-right}
@@ -9,8 +9,10 @@ use lib.ListN.{length}
 use Rattle.tables.specs.Base.{at}
 use Rattle.tables.specs.Rule.{_and_, below, named, test}
 use Rattle.tables.specs.Turn.{Passed, none, again, done, learn, unlearn, yes-so, not-so, both}
+use Rattle.model.specs.declared.frame.Frame.{Frame}
 use Rattle.model.specs.State.{frameAt}
 use Rattle.model.specs.Woven.{wovenPage, woven-least}
+use Rattle.leaves.specs.Packed.{unpacked}
 use Rattle.rules.specs.Passes.{Prefix, unmarked, noted, addressOf, frameRow, cleanFrame}
 use Rattle.rules.proofs.Entries.{part, named-le}
 use Rattle.rules.proofs.Marked.{start, step, stuck, ended, not-true}
@@ -19,14 +21,14 @@ use Rattle.rules.proofs.frames.frames_ok.Statement.{statement}
 use Rattle.rules.proofs.frames.frames_ok.Tie as tie
 
 abbrev Inv-loop : tie.InvT-loop
-Inv-loop z marks₀ totals₀ accounts active addresses states words records frames queued removing n most f₀ marks totals f =
-    Passed f (λ k. frameRow (z .pages) active addresses states (at queued k) (at removing k) (frameAt frames k) and cleanFrame (z .words) (frameAt frames k) k words records addresses states)
-    × Prefix (length states) (z .frames) (λ k. addressOf (at addresses) (frameAt frames k .page)) (length marks₀) marks f
-    × Tallied (z .pages) (λ k. wovenPage (frameAt frames k)) accounts addresses states totals₀ f totals
-    × Passed f (λ k. named (frameAt frames k .page) λ i. below i (length addresses))
+Inv-loop z packed marks₀ totals₀ accounts active addresses states words records queued removing n most f₀ marks totals f =
+    Passed f (λ k. frameRow (z .pages) active addresses states (at queued k) (at removing k) (frameAt (unpacked packed) k) and cleanFrame (z .words) (frameAt (unpacked packed) k) k words records addresses states)
+    × Prefix (length states) (z .frames) (λ k. addressOf (at addresses) (frameAt (unpacked packed) k .page)) (length marks₀) marks f
+    × Tallied (z .pages) (λ k. wovenPage (frameAt (unpacked packed) k)) accounts addresses states totals₀ f totals
+    × Passed f (λ k. named (frameAt (unpacked packed) k .page) λ i. below i (length addresses))
 
 abbrev μ-loop : tie.MeasureT-loop
-μ-loop z marks₀ totals₀ accounts active addresses states words records frames queued removing n most f₀ marks totals f = z .frames - f
+μ-loop z packed marks₀ totals₀ accounts active addresses states words records queued removing n most f₀ marks totals f = z .frames - f
 
 -- from the loop back to the start
 abbrev begun : tie.At-loop Inv-loop μ-loop → tie.Start Inv-loop μ-loop
@@ -49,11 +51,14 @@ module _ (c : tie.Then2 Inv-loop μ-loop) where
   abbrev turn : tie.At-loop Inv-loop μ-loop
   turn = search
 
-  page-fits : frameAt (begun turn .args .t2) (turn .loop .f) .page ≤ length (begun turn .args .addresses .now)
-  page-fits = named-le (length (begun turn .args .addresses .now)) (frameAt (begun turn .args .t2) (turn .loop .f) .page) (c .if2 .taken) (c .before .page-fit .ensures)
+  abbrev frame : Frame
+  frame = let after-frame-at : tie.After-frame-at Inv-loop μ-loop = search in after-frame-at .frame-at .result
 
-  woven-fits : wovenPage (frameAt (begun turn .args .t2) (turn .loop .f)) ≤ length (begun turn .args .addresses .now)
-  woven-fits = woven-least (frameAt (begun turn .args .t2) (turn .loop .f)) page-fits
+  page-fits : frame .page ≤ length (begun turn .args .addresses .now)
+  page-fits = named-le (length (begun turn .args .addresses .now)) (frame .page) (c .if2 .taken) (c .before .page-fit .ensures)
+
+  woven-fits : wovenPage frame ≤ length (begun turn .args .addresses .now)
+  woven-fits = woven-least frame page-fits
 
 mark-entry-requires : tie.Need-mark-entry-requires Inv-loop μ-loop
 mark-entry-requires c κs =
@@ -69,19 +74,26 @@ module _ (c : tie.After-mark-entry Inv-loop μ-loop) where
   round = search
 
   abbrev address : ℕ
-  address = addressOf (at (begun round .args .addresses .now)) (frameAt (begun round .args .t2) (round .loop .f) .page)
+  address = addressOf (at (begun round .args .addresses .now)) (frameAt (unpacked (begun round .args .frames .now)) (round .loop .f) .page)
+
+  abbrev taken : tie.After-frame-at Inv-loop μ-loop
+  taken = search
+
+  found : looked .address-of .result ≡ address
+  found = looked .address-of .ensures ∙ ap (λ (x : Frame). addressOf (at (begun round .args .addresses .now)) (x .page)) (taken .frame-at .ensures)
 
   told-of : c .mark-entry .result ≡ test (unmarked (length (begun round .args .states .now)) (round .loop .marks) address)
-  told-of = rw (looked .address-of .ensures) at (c .mark-entry .ensures .0)
+  told-of = rw found at (c .mark-entry .ensures .0)
 
   noted-of : c .mark-entry .result ≡ true → c .mark-entry .last .1 .1 .0 ≡ noted (round .loop .marks) address
-  noted-of e = rw (looked .address-of .ensures) at (c .mark-entry .ensures .1 e)
+  noted-of e = rw found at (c .mark-entry .ensures .1 e)
 
 returns : tie.Need-returns Inv-loop μ-loop
 returns c =
+    let after-frame-at : tie.After-frame-at Inv-loop μ-loop = search in let is = after-frame-at .frame-at .ensures in
     let then1 : tie.Then1 Inv-loop μ-loop = search in
     let at-loop : tie.At-loop Inv-loop μ-loop = search in let loop = at-loop .loop in
-    (not-so _ (λ h. unlearn _ (sym (c .if2 .left) ∙ c .before .page-fit .ensures) (h .0 (loop .f) (then1 .if1 .taken))), not-true)
+    (not-so _ (λ h. unlearn _ (sym (c .if2 .left) ∙ rw (is) at (c .before .page-fit .ensures)) (h .0 (loop .f) (then1 .if1 .taken))), not-true)
 
 returns-2 : tie.Need-returns-2 Inv-loop μ-loop
 returns-2 c =
@@ -107,9 +119,10 @@ clean-requires c κs =
 
 returns-3 : tie.Need-returns-3 Inv-loop μ-loop
 returns-3 c =
+    let after-frame-at : tie.After-frame-at Inv-loop μ-loop = search in let is = after-frame-at .frame-at .ensures in
     let then1 : tie.Then1 Inv-loop μ-loop = search in
     let at-loop : tie.At-loop Inv-loop μ-loop = search in let loop = at-loop .loop in
-    (not-so _ (λ h. unlearn _ (sym (c .if4 .left) ∙ both _ _ _ _ (c .before .before .frame-ok .ensures) (c .before .clean .ensures)) (h .1 .1 (loop .f) (then1 .if1 .taken))), not-true)
+    (not-so _ (λ h. unlearn _ (sym (c .if4 .left) ∙ both _ _ _ _ (rw (is) at (c .before .before .frame-ok .ensures)) (rw (is) at (c .before .clean .ensures))) (h .1 .1 (loop .f) (then1 .if1 .taken))), not-true)
 
 charge-requires : tie.Need-charge-requires Inv-loop μ-loop
 charge-requires c κs =
@@ -130,12 +143,13 @@ loop-again c =
     let m : tie.Then3 Inv-loop μ-loop = search in
     let marking : tie.After-mark-entry Inv-loop μ-loop = search in
     let t : tie.Then2 Inv-loop μ-loop = search in
+    let after-frame-at : tie.After-frame-at Inv-loop μ-loop = search in let is = after-frame-at .frame-at .ensures in
     let then1 : tie.Then1 Inv-loop μ-loop = search in
     let at-loop : tie.At-loop Inv-loop μ-loop = search in let loop = at-loop .loop in (
-      again _ _ (loop .inv .0) (sym (e .if4 .taken) ∙ both _ _ _ _ (after-frame-ok .frame-ok .ensures) (e .before .clean .ensures)),
+      again _ _ (loop .inv .0) (sym (e .if4 .taken) ∙ both _ _ _ _ (rw (is) at (after-frame-ok .frame-ok .ensures)) (rw (is) at (e .before .clean .ensures))),
       rw (noted-of marking (m .if3 .taken)) (step _ _ _ _ _ _ (loop .inv .1) (then1 .if1 .taken) (learn _ (sym (m .if3 .taken) ∙ told-of marking))),
-      tallied-next _ _ _ _ _ _ _ _ (loop .inv .2) _ (k .charge .kept .1 .1 .0) (rw (w .woven-page .ensures) at (k .charge .ensures)),
-      again _ _ (loop .inv .3) (sym (t .if2 .taken) ∙ t .before .page-fit .ensures),
+      tallied-next _ _ _ _ _ _ _ _ (loop .inv .2) _ (k .charge .kept .1 .1 .0) (rw (is) at (rw (w .woven-page .ensures) at (k .charge .ensures))),
+      again _ _ (loop .inv .3) (sym (t .if2 .taken) ∙ rw (is) at (t .before .page-fit .ensures)),
     )
 
 returns-4 : tie.Need-returns-4 Inv-loop μ-loop
@@ -166,6 +180,6 @@ loop-less c =
 pub frames-ok-spec : {M : Type 1} → statement M
 frames-ok-spec =
     tie.close
-    (tie.spec Inv-loop μ-loop loop-holds (λ c. omega (arith, within c)) within (λ c κs. search needs) (λ c. marks-long search) (λ c. totals-long search) returns (λ c κs. page-fits c) mark-entry-requires
+    (tie.spec Inv-loop μ-loop loop-holds (λ c κs. search needs) (λ c κs. search needs) (λ c. marks-long search) (λ c. totals-long search) returns (λ c κs. page-fits c) mark-entry-requires
     (λ c. marked-long search) (λ c. totals-long search) returns-2 (λ c. within search) (λ c. within search) frame-ok-requires clean-requires (λ c. marked-long search) (λ c. totals-long search) returns-3
     (λ c κs. search needs) charge-requires add-f loop-less loop-again (λ c. marks-long search) (λ c. totals-long search) returns-4)
