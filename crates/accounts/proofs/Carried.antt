@@ -22,10 +22,10 @@ use Rattle.model.specs.Setters.{onDisk, setLimits, counted}
 use Rattle.model.specs.Questions.{questions}
 use Rattle.model.specs.Accounts
 use Rattle.model.specs.Accounts.{shifted}
-use Rattle.model.specs.AccountLaws.{length-shifted}
+use Rattle.model.specs.Laws.AccountLaws.{length-shifted}
 use Rattle.model.specs.Step.{Outcome, carried, result}
-use Rattle.model.specs.Own.{own}
-use Rattle.model.specs.OwnLaws.{own-yes}
+use Rattle.model.specs.Laws.Own.{own}
+use Rattle.model.specs.Laws.OwnLaws.{own-yes}
 use Rattle.accounts.specs.Seen.{seen}
 use Rattle.accounts.specs.Asks.{firstAsked, enough}
 use Rattle.accounts.specs.Contracts.{Counts}

@@ -17,8 +17,8 @@ use Rattle.model.specs.declared.frame.Frame.{Frame}
 use Rattle.model.specs.Payer.{payer}
 use Rattle.model.specs.State as S
 use Rattle.model.specs.State.{State, files, frameAt, noFrame, usedOf}
-use Rattle.model.specs.Bounds.{pages-most}
-use Rattle.model.specs.Woven.{wovenPage}
+use Rattle.model.specs.Laws.Bounds.{pages-most}
+use Rattle.model.specs.Laws.Woven.{wovenPage}
 use Rattle.leaves.specs.Payers.{Paying, paying, paying-below}
 use Rattle.rules.specs.Passes.{usedPage, usedTable, framedPage, framedTable}
 use Rattle.rules.proofs.Used.{total}

@@ -11,8 +11,8 @@ use Rattle.model.specs.Setters.{onDisk, onHeld, setLimits, setUsed, setFree, se
 use Rattle.model.specs.Accounts
 use Rattle.model.specs.Accounts.{shifted}
 use Rattle.model.specs.Step.{carried}
-use Rattle.model.specs.Ruled.{OfCounts}
-use Rattle.model.specs.Fit.{Fit}
+use Rattle.model.specs.Laws.Ruled.{OfCounts}
+use Rattle.model.specs.Laws.Fit.{Fit}
 use Rattle.leaves.specs.FreeMap.{freeMap, free-map}
 use Rattle.accounts.proofs.Carried.{usedThen}
 

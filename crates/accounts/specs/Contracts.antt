@@ -11,8 +11,8 @@ use Rattle.model.specs.Sizes.{mostAccounts}
 use Rattle.model.specs.State.{State, files, frames, frameAt, allPages, usedOf}
 use Rattle.model.specs.Lent.{Ref, Table}
 use Rattle.model.specs.Rules.{fit}
-use Rattle.model.specs.Fit.{Within}
-use Rattle.model.specs.Woven.{wovenPage}
+use Rattle.model.specs.Laws.Fit.{Within}
+use Rattle.model.specs.Laws.Woven.{wovenPage}
 use Rattle.leaves.specs.Packed.{unpacked, framesGiven, framesEntered}
 use Rattle.rules.specs.Passes.{Seated, mostEntries, countRoom, usedTable, framedTable}
 use Rattle.accounts.specs.Seen.{seen}

@@ -3,7 +3,7 @@ ghost use mathlib.Core.Path.{_≡_};
 ghost use Rattle.tables.specs.Rule.{test};
 ghost use Rattle.model.specs.declared.event.Account.the-variants as Account;
 ghost use Rattle.model.specs.declared.event.Event.the-variants as Event;
-ghost use Rattle.model.specs.Own.{own};
+ghost use Rattle.model.specs.Laws.Own.{own};
 ghost use Rattle.leaves.specs.Packed.{framesEntered};
 ghost use Rattle.accounts.specs.Asks.{staysPayer};
 ghost use Rattle.accounts.specs.Seen.{enteredAccount};

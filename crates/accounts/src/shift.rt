@@ -9,7 +9,7 @@ ghost use Rattle.tables.specs.Rule.{same, below, _and_, test};
 ghost use Rattle.model.specs.declared.event.Account.the-variants as Account;
 ghost use Rattle.model.specs.declared.event.Event.the-variants as Event;
 ghost use Rattle.model.specs.Accounts.{shifted};
-ghost use Rattle.model.specs.Own.{own};
+ghost use Rattle.model.specs.Laws.Own.{own};
 ghost use Rattle.accounts.specs.Asks.{isParent, kin, firstAsked, enough};
 ghost use Rattle.leaves.specs.Packed.{framesEntered};
 ghost use Rattle.accounts.specs.Seen.{enteredAccount};

@@ -12,10 +12,10 @@ use Rattle.model.specs.declared.request.Decoded.the-variants.{Known, Unknown}
 use Rattle.model.specs.State.{Held, State}
 use Rattle.model.specs.Setters.{onHeld}
 use Rattle.model.specs.Requests.{decoded}
-use Rattle.model.specs.Ruled.{rules}
-use Rattle.model.specs.Fit.{all-fit}
+use Rattle.model.specs.Laws.Ruled.{rules}
+use Rattle.model.specs.Laws.Fit.{all-fit}
 use Rattle.model.specs.Step.{Outcome}
-use Rattle.model.specs.Own.{own}
+use Rattle.model.specs.Laws.Own.{own}
 use Rattle.model.specs.ApplyAll.{Listed, requestAt, putAnswer, turned}
 use Rattle.invariant.proofs.Kept.{Good}
 use Rattle.invariant.proofs.AfterKept.{owned, apply-own}

@@ -11,7 +11,7 @@ use Rattle.model.specs.Setters.{onCore, onHeld}
 use Rattle.model.specs.declared.frame.Pool.{Pool}
 use Rattle.model.specs.declared.request.Request.{Request}
 use Rattle.model.specs.Step.{Outcome}
-use Rattle.model.specs.Fit.{fit}
+use Rattle.model.specs.Laws.Fit.{fit}
 use Rattle.model.specs.Calls.{framesOf, apply}
 use Rattle.model.specs.ApplyAll.{Listed, requestCount, refusals, lastRefusal, after, applyAll, one, refused-all}
 use Rattle.leaves.specs.Packed.{unpacked, unpacked-length}

@@ -2,7 +2,7 @@
 ghost use mathlib.Core.Path.{_≡_};
 ghost use Rattle.model.specs.Lent.{allEntered, allLeft};
 ghost use Rattle.model.specs.Calls.{framesOf, apply};
-ghost use Rattle.model.specs.Own.{leaves};
+ghost use Rattle.model.specs.Laws.Own.{leaves};
 ghost use Rattle.model.specs.Pool.{taken, deposited};
 use crate::numbers::as_numbers;
 use crate::turns::turns;

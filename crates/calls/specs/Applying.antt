@@ -10,7 +10,7 @@ use Rattle.model.specs.declared.request.Decoded.the-variants.{Known}
 use Rattle.model.specs.State.{State}
 use Rattle.model.specs.Requests.{decoded}
 use Rattle.model.specs.Step.{Outcome}
-use Rattle.model.specs.Own.{own}
+use Rattle.model.specs.Laws.Own.{own}
 use Rattle.model.specs.Calls.{apply}
 use Rattle.calls.specs.Common.{common, known-apply}
 

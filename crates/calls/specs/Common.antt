@@ -17,9 +17,9 @@ use Rattle.model.specs.Questions.{questions, lookQuestions}
 use Rattle.model.specs.Requests.{decoded}
 use Rattle.model.specs.Pages.{lookStart}
 use Rattle.model.specs.Step.{outcome, allFit, asked, answer, step, result, carried}
-use Rattle.model.specs.Own.{own, refusal, step-own}
+use Rattle.model.specs.Laws.Own.{own, refusal, step-own}
 use Rattle.model.specs.Calls.{unknown, stepOf, apply}
-use Rattle.model.specs.OwnLaws.{outcome-no}
+use Rattle.model.specs.Laws.OwnLaws.{outcome-no}
 use Rattle.model.specs.Part.{part, partOf, no-part}
 
 -- 0, or 1 or 2 where that question says no

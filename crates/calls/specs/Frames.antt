@@ -11,7 +11,7 @@ use Rattle.model.specs.declared.frame.Frame.{Frame}
 use Rattle.model.specs.State.{State}
 use Rattle.model.specs.Rules.{allRules}
 use Rattle.model.specs.Step.{allFit}
-use Rattle.model.specs.Fit.{fit}
+use Rattle.model.specs.Laws.Fit.{fit}
 use Rattle.model.specs.Calls.{framesOf, length-frames, frames-of}
 
 -- F frames lent, of an array of 64

@@ -13,8 +13,8 @@ use Rattle.model.specs.State.{State, LINE, allPages}
 use Rattle.model.specs.Setters.{setLine}
 use Rattle.model.specs.Lent.{noLine}
 use Rattle.model.specs.Rules.{allRules}
-use Rattle.model.specs.Ruled.{ruled, rules}
-use Rattle.model.specs.Fit.{fit, all-fit}
+use Rattle.model.specs.Laws.Ruled.{ruled, rules}
+use Rattle.model.specs.Laws.Fit.{fit, all-fit}
 use Rattle.model.specs.Step.{allFit}
 use Rattle.dispatch.specs.Beside.{fit-beside, ruled-beside, no-line-long, no-line-ruled}
 

@@ -10,12 +10,12 @@ use Rattle.model.specs.declared.frame.Frame.{Frame}
 use Rattle.model.specs.declared.applied.Part.{Part}
 use Rattle.model.specs.State.{State}
 use Rattle.model.specs.Rules.{allRules}
-use Rattle.model.specs.Ruled.{ruled}
+use Rattle.model.specs.Laws.Ruled.{ruled}
 use Rattle.model.specs.Questions.{lookQuestions}
 use Rattle.model.specs.Parts.{frameOf}
 use Rattle.model.specs.Pages.{lookStart}
 use Rattle.model.specs.Step.{allFit, look}
-use Rattle.model.specs.Fit.{fit}
+use Rattle.model.specs.Laws.Fit.{fit}
 use Rattle.model.specs.Part.{part, partOf, wordAt, part-look, part-refusal}
 use Rattle.pages.specs.Seen.{seen}
 use Rattle.pages.specs.Needs.{Seats}

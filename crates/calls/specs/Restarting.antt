@@ -11,7 +11,7 @@ use Rattle.model.specs.declared.event.Answer.{Answer}
 use Rattle.model.specs.State.{Disk, State}
 use Rattle.model.specs.Rules.{diskRules}
 use Rattle.model.specs.Setters.{setLine}
-use Rattle.model.specs.Own.{leaves}
+use Rattle.model.specs.Laws.Own.{leaves}
 use Rattle.model.specs.Step.{allFit, restart}
 use Rattle.model.specs.Restart.{restarted}
 use Rattle.model.specs.Calls.{framesOf}

@@ -3,7 +3,7 @@ ghost use mathlib.Core.Path.{_≡_};
 ghost use Rattle.model.specs.Lent.{diskOf, allEntered, allLeft};
 ghost use Rattle.model.specs.Calls.{framesOf};
 ghost use Rattle.model.specs.Step.{restart, format};
-ghost use Rattle.model.specs.Own.{leaves};
+ghost use Rattle.model.specs.Laws.Own.{leaves};
 use crate::common::common;
 use crate::lent::lent_fit;
 use model::applied::Pooled;

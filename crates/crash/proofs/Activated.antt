@@ -20,7 +20,7 @@ use Rattle.model.specs.Designs as Designs
 use Rattle.model.specs.Step.{carried}
 use Rattle.model.specs.Ledger.{Ledger, note}
 use Rattle.model.specs.Acts.{fed}
-use Rattle.model.specs.Index.{split-set}
+use Rattle.model.specs.Laws.Index.{split-set}
 use Rattle.crash.proofs.Writes.{split-over}
 use Rattle.crash.proofs.Link.{Tied}
 use Rattle.crash.proofs.Steps.{Before}

@@ -28,7 +28,7 @@ use Rattle.model.specs.Writeback.{looked, looking, zeros, recordIn, beginsWrite
 use Rattle.model.specs.Step.{carried}
 use Rattle.model.specs.Ledger.{Ledger, note, put, claimed, opened, voided, setLive}
 use Rattle.model.specs.Acts.{fed}
-use Rattle.model.specs.Index.{split-set}
+use Rattle.model.specs.Laws.Index.{split-set}
 use Rattle.invariant.proofs.Looks.{looking-takes}
 use Rattle.invariant.proofs.Stands.{seat-at}
 use Rattle.invariant.proofs.Stands as Stands

@@ -15,16 +15,16 @@ use Rattle.model.specs.declared.sizes.Sizes.{Sizes}
 use Rattle.model.specs.declared.event.Design.the-variants.{Create, Delete}
 use Rattle.model.specs.declared.event.Event.the-variants as Event
 use Rattle.model.specs.State.{State, frameAt, allPages, slotOf}
-use Rattle.model.specs.Ruled.{Ruled}
+use Rattle.model.specs.Laws.Ruled.{Ruled}
 use Rattle.model.specs.Setters.{onDisk, setNumbers, setAccounts, counted}
 use Rattle.model.specs.Parts.{ofSlot}
 use Rattle.model.specs.Designs as Designs
 use Rattle.model.specs.Step.{carried}
-use Rattle.model.specs.Fit.{Fit}
+use Rattle.model.specs.Laws.Fit.{Fit}
 use Rattle.model.specs.Ledger.{Ledger, Write, packDesign, note, put, over, setText, setDesign}
 use Rattle.model.specs.Acts.{fed}
 use Rattle.model.specs.Demand3.{lastUpdate}
-use Rattle.model.specs.Index.{split-set, slot-below, page-again}
+use Rattle.model.specs.Laws.Index.{split-set, slot-below, page-again}
 use Rattle.crash.proofs.Writes.{split-put, put-other, split-over, none-updated}
 use Rattle.crash.proofs.Link.{Owned, OfPage, Designs, Newborn, Tied}
 use Rattle.crash.proofs.Steps.{Step}

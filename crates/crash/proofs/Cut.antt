@@ -20,13 +20,13 @@ use Rattle.model.specs.declared.event.Writeback.the-variants.{PageDone, MapDone
 use Rattle.model.specs.declared.event.Event.{Event}
 use Rattle.model.specs.declared.event.Event.the-variants as Event
 use Rattle.model.specs.State.{Disk, State, files, frames, noFrame, READING, WRITING, allPages, slotOf}
-use Rattle.model.specs.Ruled.{Ruled}
+use Rattle.model.specs.Laws.Ruled.{Ruled}
 use Rattle.model.specs.Setters.{counted}
 use Rattle.model.specs.Parts.{ofSlot}
 use Rattle.model.specs.Questions.{questions}
 use Rattle.model.specs.Writeback as Writeback
 use Rattle.model.specs.Step.{carried}
-use Rattle.model.specs.Fit.{Fit}
+use Rattle.model.specs.Laws.Fit.{Fit}
 use Rattle.model.specs.Ledger.{Ledger, note, finishWrite, finishUpdate, finishWrites, finishUpdates}
 use Rattle.model.specs.Acts.{fed, landWrites, landUpdates}
 use Rattle.invariant.proofs.Kept.{carried-kept}

@@ -23,7 +23,7 @@ use Rattle.model.specs.Designs as Designs
 use Rattle.model.specs.Step.{carried}
 use Rattle.model.specs.Ledger.{Ledger, note}
 use Rattle.model.specs.Acts.{fed}
-use Rattle.model.specs.Index.{split-set, page-again}
+use Rattle.model.specs.Laws.Index.{split-set, page-again}
 use Rattle.invariant.proofs.Records.{would-live, live-would, was as entry-was, stays as entry-stays}
 use Rattle.crash.proofs.Writes.{split-over}
 use Rattle.crash.proofs.Link.{Away, Tied}

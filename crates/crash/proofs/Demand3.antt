@@ -14,9 +14,9 @@ use Rattle.model.specs.declared.sizes.Sizes.{Sizes}
 use Rattle.model.specs.declared.event.Event.{Event}
 use Rattle.model.specs.State.{Disk, Memory, State, files, allPages}
 use Rattle.model.specs.Rules.{diskRules}
-use Rattle.model.specs.Ruled as R
+use Rattle.model.specs.Laws.Ruled as R
 use Rattle.model.specs.Step.{outcome, answer, carried, result, step, restart, allFit, memoryLengths}
-use Rattle.model.specs.Fit.{Fit, disk-fit, memory-fit}
+use Rattle.model.specs.Laws.Fit.{Fit, disk-fit, memory-fit}
 use Rattle.model.specs.Restart.{formatted, restarted}
 use Rattle.model.specs.Ledger as L
 use Rattle.model.specs.Ledger.{Ledger, unwritten, note, lose, finishWrite, finishUpdate, finishWrites, finishUpdates}

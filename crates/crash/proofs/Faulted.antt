@@ -23,12 +23,12 @@ use Rattle.model.specs.Lines.{FREE, NULLED, LIVE}
 use Rattle.model.specs.State.{Held, State, files, noFrame, frameAt, NONE, allPages, pageOf, slotOf, live, freeCount}
 use Rattle.model.specs.Setters.{counted}
 use Rattle.model.specs.Parts.{pick}
-use Rattle.model.specs.Choice.{pick-below, pick-free}
+use Rattle.model.specs.Laws.Choice.{pick-below, pick-free}
 use Rattle.model.specs.Pages as Pages
 use Rattle.model.specs.Step.{carried}
 use Rattle.model.specs.Ledger.{Ledger, Note, note, put, faulted}
 use Rattle.model.specs.Acts.{fed}
-use Rattle.model.specs.Index.{split-set}
+use Rattle.model.specs.Laws.Index.{split-set}
 use Rattle.invariant.proofs.Stands.{seat-at}
 use Rattle.invariant.proofs.Stands as Stands
 use Rattle.crash.proofs.Writes.{put-other, put-same}

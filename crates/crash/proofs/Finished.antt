@@ -16,14 +16,14 @@ use Rattle.model.specs.declared.frame.Frame.{Frame}
 use Rattle.model.specs.declared.sizes.Sizes.{Sizes}
 use Rattle.model.specs.Lines.{LIVE, RELEASED, LEAVING}
 use Rattle.model.specs.State.{State, Files, files, noFrame, frameAt, WRITING, allPages, slotOf}
-use Rattle.model.specs.Ruled.{Ruled, OfRecords}
+use Rattle.model.specs.Laws.Ruled.{Ruled, OfRecords}
 use Rattle.model.specs.Setters.{counted}
 use Rattle.model.specs.Parts.{setPart, wordAt}
 use Rattle.model.specs.Writeback.{recordIn, freeFrame, storeFrame, writeGood}
-use Rattle.model.specs.Fit.{Fit}
+use Rattle.model.specs.Laws.Fit.{Fit}
 use Rattle.model.specs.Ledger.{Ledger, Write, ended, put, finishWrite, setFinished, setLive, setWrite}
 use Rattle.model.specs.Demand3.{lastInto}
-use Rattle.model.specs.Index.{split-set, slot-below}
+use Rattle.model.specs.Laws.Index.{split-set, slot-below}
 use Rattle.invariant.proofs.Stands.{seat-at, moving-place}
 use Rattle.crash.proofs.Writes.{In, Numbered, bounded, last-here, last-there, split-put, put-other, put-same}
 use Rattle.crash.proofs.Link.{Owned, OfPage, Latest, Newest, Holding, Opened, InFrame, Away, KeptAs, OnDisk, InMemory, Tied}

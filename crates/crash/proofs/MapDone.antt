@@ -22,7 +22,7 @@ use Rattle.model.specs.Step.{carried}
 use Rattle.model.specs.Ledger.{Ledger, Update, note, put, finishUpdate, strikeUpdate, setStored, setUpdate}
 use Rattle.model.specs.Acts.{fed}
 use Rattle.model.specs.Demand3.{lastInto, lastUpdate}
-use Rattle.model.specs.Index.{split-set, slot-below}
+use Rattle.model.specs.Laws.Index.{split-set, slot-below}
 use Rattle.crash.proofs.Writes.{split-put, split-update, put-other}
 use Rattle.crash.proofs.Link.{Newest, OnDisk, InMemory, Tied}
 use Rattle.crash.proofs.Steps.{Step, Before}

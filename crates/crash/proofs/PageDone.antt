@@ -13,12 +13,12 @@ use Rattle.tables.specs.Laws.{not-zero}
 use Rattle.model.specs.declared.frame.Frame.{Frame}
 use Rattle.model.specs.declared.sizes.Sizes.{Sizes}
 use Rattle.model.specs.State.{State, noFrame, frameAt, NONE, READING, WRITING}
-use Rattle.model.specs.Ruled.{Ruled}
+use Rattle.model.specs.Laws.Ruled.{Ruled}
 use Rattle.model.specs.Setters.{counted, setTransfer, setModified, setInitial}
 use Rattle.model.specs.Parts.{setPart, wordAt}
 use Rattle.model.specs.Pages.{fresh}
 use Rattle.model.specs.Writeback.{recordIn, freeFrame, readGood, readFailed, writeFailed}
-use Rattle.model.specs.Fit.{Fit}
+use Rattle.model.specs.Laws.Fit.{Fit}
 use Rattle.model.specs.Ledger.{Ledger, put, strikeWrite}
 use Rattle.invariant.proofs.Stands.{seat-at, moving-place}
 use Rattle.crash.proofs.Writes.{put-other, put-same}

@@ -17,7 +17,7 @@ use Rattle.model.specs.Parts.{frameOf}
 use Rattle.model.specs.Accounts
 use Rattle.model.specs.Pages
 use Rattle.model.specs.Step.{carried}
-use Rattle.model.specs.Fit.{Fit}
+use Rattle.model.specs.Laws.Fit.{Fit}
 use Rattle.model.specs.Ledger.{Ledger, note}
 use Rattle.model.specs.Acts.{fed}
 use Rattle.invariant.proofs.Stands.{frame-of}

@@ -10,12 +10,12 @@ use Rattle.tables.specs.Laws.{if-yes, if-no}
 use Rattle.model.specs.declared.sizes.Sizes.{Sizes}
 use Rattle.model.specs.declared.frame.Frame.{Frame}
 use Rattle.model.specs.State.{Disk, State, files, noFrame, frameAt, allPages, slotOf}
-use Rattle.model.specs.Ruled as R
+use Rattle.model.specs.Laws.Ruled as R
 use Rattle.model.specs.Setters.{counted}
 use Rattle.model.specs.Restart as Restart
 use Rattle.model.specs.Ledger.{Ledger, Write, note, restarted, lose, found, recount}
 use Rattle.model.specs.Demand3.{lastInto}
-use Rattle.model.specs.Index.{slot-below}
+use Rattle.model.specs.Laws.Index.{slot-below}
 use Rattle.invariant.proofs.RestartedRecords.{zero-at}
 use Rattle.crash.proofs.Writes.{In, again, last-into, greatest, last-again, in-again, length-again, numbered-again, counted-was, counts-on}
 use Rattle.crash.proofs.Link.{Owned, OfPage, Latest, Newest, OnDisk, Tied}

@@ -18,9 +18,9 @@ use Rattle.model.specs.declared.sizes.Sizes.{Sizes}
 use Rattle.model.specs.Sizes.{sizesFit}
 use Rattle.model.specs.State.{Disk, Memory, files}
 use Rattle.model.specs.Rules.{lower}
-use Rattle.model.specs.Ruled as R
+use Rattle.model.specs.Laws.Ruled as R
 use Rattle.model.specs.Step.{memoryLengths}
-use Rattle.model.specs.Fit.{DiskFit, within, memory-fit}
+use Rattle.model.specs.Laws.Fit.{DiskFit, within, memory-fit}
 use Rattle.model.specs.Restart.{formatted}
 use Rattle.model.specs.Ledger.{filled, packDesign, unwritten, noWrite, noUpdate}
 use Rattle.model.specs.Acts.{start}

@@ -7,11 +7,11 @@ use Rattle.tables.specs.Questions.{Asked, all-yes}
 use Rattle.model.specs.declared.sizes.Sizes.{Sizes}
 use Rattle.model.specs.declared.event.Event.{Event}
 use Rattle.model.specs.State.{State, files}
-use Rattle.model.specs.Ruled.{Ruled, ruled}
-use Rattle.model.specs.Ruled as R
+use Rattle.model.specs.Laws.Ruled.{Ruled, ruled}
+use Rattle.model.specs.Laws.Ruled as R
 use Rattle.model.specs.Questions.{questions}
 use Rattle.model.specs.Step.{answer, asked, carried, in-order}
-use Rattle.model.specs.Fit.{Fit, fit}
+use Rattle.model.specs.Laws.Fit.{Fit, fit}
 use Rattle.model.specs.Ledger.{Ledger, note}
 use Rattle.model.specs.Acts.{World, fed}
 use Rattle.crash.proofs.Link.{OnDisk, InMemory, Tied, Closed}

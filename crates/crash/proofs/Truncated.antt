@@ -24,7 +24,7 @@ use Rattle.model.specs.Writeback.{cutFrame, cutRecord}
 use Rattle.model.specs.Step.{carried}
 use Rattle.model.specs.Ledger.{Ledger, note, over}
 use Rattle.model.specs.Acts.{fed}
-use Rattle.model.specs.Index.{page-again}
+use Rattle.model.specs.Laws.Index.{page-again}
 use Rattle.invariant.proofs.Records.{was as entry-was, stays as entry-stays}
 use Rattle.crash.proofs.Writes.{split-over}
 use Rattle.crash.proofs.Link.{Away, Tied}

@@ -24,7 +24,7 @@ use Rattle.model.specs.Ledger as L
 use Rattle.model.specs.Ledger.{Ledger, note, put, begun}
 use Rattle.model.specs.Acts.{fed}
 use Rattle.model.specs.Demand3.{lastInto}
-use Rattle.model.specs.Index.{split-set, page-again}
+use Rattle.model.specs.Laws.Index.{split-set, page-again}
 use Rattle.invariant.proofs.Records.{would-live, live-would, was as entry-was, stays as entry-stays, turns as entry-turns}
 use Rattle.crash.proofs.Writes.{split-put}
 use Rattle.crash.proofs.Link.{Newest, Tied}

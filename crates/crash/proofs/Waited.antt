@@ -10,7 +10,7 @@ use Rattle.model.specs.State.{State}
 use Rattle.model.specs.Setters.{setLine}
 use Rattle.model.specs.Questions.{Turning, nobody, serves, goesBack, faults, claims, sendsAway, turning, turnQuestions}
 use Rattle.model.specs.Line
-use Rattle.model.specs.LineLaws.{Treats, faulting, treats}
+use Rattle.model.specs.Laws.LineLaws.{Treats, faulting, treats}
 use Rattle.model.specs.Step.{carried}
 use Rattle.model.specs.Ledger.{Ledger, note}
 use Rattle.model.specs.Acts.{fed, fedTurn}

@@ -20,7 +20,7 @@ use Rattle.model.specs.Pages
 use Rattle.model.specs.Step.{carried}
 use Rattle.model.specs.Ledger.{Ledger, note, put}
 use Rattle.model.specs.Acts.{fed}
-use Rattle.model.specs.Index.{split-set}
+use Rattle.model.specs.Laws.Index.{split-set}
 use Rattle.invariant.proofs.Stands.{frame-of}
 use Rattle.crash.proofs.Writes.{split-put, put-other, put-same}
 use Rattle.crash.proofs.Link.{Away, Tied}

@@ -19,8 +19,8 @@ use Rattle.model.specs.Parts.{ofSlot}
 use Rattle.model.specs.Questions.{questions}
 use Rattle.model.specs.Designs
 use Rattle.model.specs.Step.{Outcome, carried, result}
-use Rattle.model.specs.Own.{own}
-use Rattle.model.specs.OwnLaws.{own-yes}
+use Rattle.model.specs.Laws.Own.{own}
+use Rattle.model.specs.Laws.OwnLaws.{own-yes}
 
 -- the two lines
 pub filed-live : T (allowed FILED LIVE)

@@ -13,8 +13,8 @@ use Rattle.model.specs.Lines.{FREE}
 use Rattle.model.specs.State.{State, Files, Frames, files, frames, allPages, slotOf, payer, usedOf, freeCount}
 use Rattle.model.specs.Setters.{onHeld, setFree, setFreeMap, setUsed, counted}
 use Rattle.model.specs.Lent.{stateIn}
-use Rattle.model.specs.Ruled.{OfCounts}
-use Rattle.model.specs.Fit.{Fit}
+use Rattle.model.specs.Laws.Ruled.{OfCounts}
+use Rattle.model.specs.Laws.Fit.{Fit}
 use Rattle.leaves.specs.Counts.{counts, countsFor, usedCounts, used-counts, free-same}
 use Rattle.leaves.specs.FreeMap.{freeMap, free-map, free-map-same}
 

@@ -24,9 +24,9 @@ use Rattle.model.specs.Parts.{ofSlot}
 use Rattle.model.specs.Questions.{questions, wouldStore}
 use Rattle.model.specs.Designs
 use Rattle.model.specs.Step.{carried}
-use Rattle.model.specs.Index.{of-pages}
-use Rattle.model.specs.Ruled.{Ruled}
-use Rattle.model.specs.Fit.{Fit}
+use Rattle.model.specs.Laws.Index.{of-pages}
+use Rattle.model.specs.Laws.Ruled.{Ruled}
+use Rattle.model.specs.Laws.Fit.{Fit}
 use Rattle.leaves.specs.Counts.{counts}
 use Rattle.leaves.specs.Addresses.{live-split}
 use Rattle.designs.proofs.Kept.{after, split-in, split-out, counts-kept, counted-kept}

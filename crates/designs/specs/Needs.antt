@@ -5,7 +5,7 @@ use Prim.Native.Nat.{ℕ, _≤_}
 use lib.ListN.{length}
 use Rattle.model.specs.declared.sizes.Sizes.{Sizes}
 use Rattle.model.specs.State.{allPages}
-use Rattle.model.specs.Fit.{Within}
+use Rattle.model.specs.Laws.Fit.{Within}
 
 pub record Turning (z : Sizes) (maps addresses states owners : List ℕ) : Type 0 where
   pub sizes : Within z

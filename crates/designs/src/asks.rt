@@ -7,7 +7,7 @@ ghost use Rattle.tables.specs.Questions.{firstNo};
 ghost use Rattle.tables.specs.Rule.{test};
 ghost use Rattle.model.specs.declared.event.Design.the-variants as Design;
 ghost use Rattle.model.specs.declared.event.Event.the-variants as Event;
-ghost use Rattle.model.specs.Fit.{Within};
+ghost use Rattle.model.specs.Laws.Fit.{Within};
 ghost use Rattle.model.specs.Questions.{questions};
 ghost use Rattle.leaves.specs.Packed.{framesEntered};
 ghost use Rattle.designs.specs.Asks.{newNumber, heldAsked};

@@ -2,7 +2,7 @@
 ghost use mathlib.Core.Path.{_≡_};
 ghost use Rattle.model.specs.declared.event.Design.the-variants as Design;
 ghost use Rattle.model.specs.declared.event.Event.the-variants as Event;
-ghost use Rattle.model.specs.Own.{own};
+ghost use Rattle.model.specs.Laws.Own.{own};
 ghost use Rattle.leaves.specs.Packed.{framesEntered};
 ghost use Rattle.designs.specs.Needs.{Turning};
 ghost use Rattle.designs.specs.Seen.{enteredDeactivate};

@@ -2,8 +2,8 @@
 ghost use mathlib.Core.Path.{_≡_};
 ghost use Rattle.model.specs.declared.event.Design.the-variants as Design;
 ghost use Rattle.model.specs.declared.event.Event.the-variants as Event;
-ghost use Rattle.model.specs.Fit.{Within};
-ghost use Rattle.model.specs.Own.{own};
+ghost use Rattle.model.specs.Laws.Fit.{Within};
+ghost use Rattle.model.specs.Laws.Own.{own};
 ghost use Rattle.designs.specs.Seen.{enteredDelete};
 use crate::asks::ask_delete;
 use leaves::cells::put16;

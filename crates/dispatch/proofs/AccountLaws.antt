@@ -12,7 +12,7 @@ use Rattle.model.specs.State.{State, files, frames, payer, charged, usedOf}
 use Rattle.model.specs.Setters.{counted}
 use Rattle.model.specs.Accounts as Accounts
 use Rattle.model.specs.Step.{carried, result}
-use Rattle.model.specs.Own.{own, leaves}
+use Rattle.model.specs.Laws.Own.{own, leaves}
 use Rattle.rules.proofs.Used.{seated-by}
 use Rattle.tables.specs.Base.{at}
 use Rattle.accounts.specs.Seen.{seen}

@@ -12,7 +12,7 @@ use Rattle.tables.specs.Rule.{Rule, same, some, _and_, test, alike}
 use Rattle.model.specs.declared.sizes.Sizes.{Sizes}
 use Rattle.model.specs.declared.frame.Frame.{Frame}
 use Rattle.model.specs.State.{State, Files, Frames, files, frames, noFrame, frameAt, slotOf, woven, live, charged}
-use Rattle.model.specs.Index.{split-entry}
+use Rattle.model.specs.Laws.Index.{split-entry}
 use Rattle.leaves.specs.Counts.{counts, usedCounts, used-counts}
 use Rattle.leaves.specs.FreeMap.{freeMap, free-map}
 use Rattle.dispatch.specs.Kept.{Kept}

@@ -12,9 +12,9 @@ use Rattle.model.specs.State.{State}
 use Rattle.model.specs.Setters.{counted}
 use Rattle.model.specs.Questions.{wouldStore}
 use Rattle.model.specs.Designs as Designs
-use Rattle.model.specs.Fit.{Within}
+use Rattle.model.specs.Laws.Fit.{Within}
 use Rattle.model.specs.Step.{carried, result}
-use Rattle.model.specs.Own.{own, leaves}
+use Rattle.model.specs.Laws.Own.{own, leaves}
 use Rattle.designs.specs.Seen.{seenFiles, seenTurns}
 use Rattle.designs.specs.Needs.{Turning}
 use Rattle.designs.proofs.Kept.{after}

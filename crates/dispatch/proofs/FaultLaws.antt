@@ -26,14 +26,14 @@ use Rattle.model.specs.declared.event.Page.the-variants as Page
 use Rattle.model.specs.Lines.{FREE, NULLED, LIVE}
 use Rattle.model.specs.State.{Core, Held, State, Files, Frames, files, frames, noFrame, frameAt, pageOf, slotOf, allPages, framed, live, charged, payer, freeCount}
 use Rattle.model.specs.Setters.{counted}
-use Rattle.model.specs.Index.{slot-of-page, page-below}
+use Rattle.model.specs.Laws.Index.{slot-of-page, page-below}
 use Rattle.model.specs.Questions.{questions}
 use Rattle.model.specs.Pages as Pages
 use Rattle.model.specs.Lent.{stateIn, same-state}
 use Rattle.model.specs.Step.{Outcome, carried, result}
-use Rattle.model.specs.Own.{own, refusal, leaves}
-use Rattle.model.specs.OwnLaws.{done, own-no, own-yes}
-use Rattle.model.specs.Ruled.{once-free}
+use Rattle.model.specs.Laws.Own.{own, refusal, leaves}
+use Rattle.model.specs.Laws.OwnLaws.{done, own-no, own-yes}
+use Rattle.model.specs.Laws.Ruled.{once-free}
 use Rattle.leaves.specs.Counts.{usedCounts, counts-same, free-less}
 use Rattle.leaves.specs.FreeMap.{freeMap, free-map-clear}
 use Rattle.pages.specs.Seen.{seenFault}

@@ -8,8 +8,8 @@ use Rattle.model.specs.declared.event.Event.{Event}
 use Rattle.model.specs.State.{State}
 use Rattle.model.specs.Questions.{questions}
 use Rattle.model.specs.Step.{carried, result, in-order}
-use Rattle.model.specs.Own.{own, refusal, leaves}
-use Rattle.model.specs.OwnLaws.{done, own-no, own-yes}
+use Rattle.model.specs.Laws.Own.{own, refusal, leaves}
+use Rattle.model.specs.Laws.OwnLaws.{done, own-no, own-yes}
 
 -- t is the tables that the event sees
 pub own-by : (z : Sizes) (st t : State) (e : Event) {a : Answer} {left : State} → firstNo (questions z t e) ≡ firstNo (questions z st e) → result z t e ≡ result z st e → a ≡ own z t e .answer

@@ -16,7 +16,7 @@ use Rattle.model.specs.Parts.{frameOf}
 use Rattle.model.specs.Questions.{questions}
 use Rattle.model.specs.Pages as Pages
 use Rattle.model.specs.Step.{Outcome, outcome, carried, result}
-use Rattle.model.specs.Own.{own, leaves}
+use Rattle.model.specs.Laws.Own.{own, leaves}
 use Rattle.pages.specs.Seen.{seen}
 use Rattle.pages.specs.Needs.{Seats, RemovalList}
 use Rattle.dispatch.specs.Kept.{Kept}

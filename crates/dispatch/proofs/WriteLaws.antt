@@ -20,15 +20,15 @@ use Rattle.model.specs.declared.frame.Frame.{Frame}
 use Rattle.model.specs.declared.event.Answer.{Answer}
 use Rattle.model.specs.State.{Core, Held, State, Files, Frames, files, frames, noFrame, frameAt, pageOf, slotOf, allPages, framed, woven, charged, payer}
 use Rattle.model.specs.Setters.{onCore, setWords, setUsedSwitch, setModified, counted}
-use Rattle.model.specs.Index.{slot-of-page, page-below}
+use Rattle.model.specs.Laws.Index.{slot-of-page, page-below}
 use Rattle.model.specs.Parts.{frameOf}
 use Rattle.model.specs.Questions.{questions}
 use Rattle.model.specs.Pages as Pages
 use Rattle.model.specs.Pages.{onFrame}
 use Rattle.model.specs.Lent.{stateIn, same-state}
 use Rattle.model.specs.Step.{Outcome, outcome, carried, result}
-use Rattle.model.specs.Own.{own, leaves}
-use Rattle.model.specs.OwnLaws.{outcome-no}
+use Rattle.model.specs.Laws.Own.{own, leaves}
+use Rattle.model.specs.Laws.OwnLaws.{outcome-no}
 use Rattle.leaves.specs.Counts.{usedCounts, counts-more, counts-same}
 use Rattle.leaves.specs.Payers.{payer-below}
 use Rattle.pages.specs.Seen.{seenWrite}

@@ -17,8 +17,8 @@ use Rattle.model.specs.Parts.{frameOf}
 use Rattle.model.specs.Writeback
 use Rattle.model.specs.Lent.{stateIn, same-state, noPool}
 use Rattle.model.specs.Step.{Outcome, outcome, carried, result}
-use Rattle.model.specs.Own.{own, leaves}
-use Rattle.model.specs.OwnLaws.{own-yes, own-no, outcome-no}
+use Rattle.model.specs.Laws.Own.{own, leaves}
+use Rattle.model.specs.Laws.OwnLaws.{own-yes, own-no, outcome-no}
 use Rattle.model.specs.Pool.{deposited}
 use Rattle.writeback.specs.Claim.{usedThen}
 use Rattle.writeback.specs.Seen.{claim, truncate, update, pageDone, mapDone, seenClaim, seenTruncate, seenUpdate, seenPageDone, seenMapDone}

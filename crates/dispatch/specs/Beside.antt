@@ -33,9 +33,9 @@ use Rattle.model.specs.Pages.{onFrame, faultFrame, beginRead, serveZeros, takeR
 use Rattle.model.specs.Writeback
 use Rattle.model.specs.Writeback.{looking, looked, beginsWrite, zeros, recordIn, freeFrame, claim, readGood, readFailed, writeGood, writeFailed, storeFrame, pageDone, storeImage, leaver, updateOver, mapDone}
 use Rattle.model.specs.Step.{Outcome, outcome, carried, result}
-use Rattle.model.specs.Own.{own}
-use Rattle.model.specs.Ruled.{Ruled}
-use Rattle.model.specs.Fit.{Fit}
+use Rattle.model.specs.Laws.Own.{own}
+use Rattle.model.specs.Laws.Ruled.{Ruled}
+use Rattle.model.specs.Laws.Fit.{Fit}
 use Rattle.dispatch.specs.Kept.{Kept}
 
 -- the event is of one of the four families

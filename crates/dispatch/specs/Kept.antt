@@ -3,8 +3,8 @@ use Rattle.tables.specs.Rule.{Holds}
 use Rattle.model.specs.declared.sizes.Sizes.{Sizes}
 use Rattle.model.specs.State.{State}
 use Rattle.model.specs.Rules.{allRules}
-use Rattle.model.specs.Ruled.{Ruled, ruled}
-use Rattle.model.specs.Fit.{Fit, fit}
+use Rattle.model.specs.Laws.Ruled.{Ruled, ruled}
+use Rattle.model.specs.Laws.Fit.{Fit, fit}
 use Rattle.model.specs.Step.{allFit}
 
 pub record Kept (z : Sizes) (st : State) : Type 0 where

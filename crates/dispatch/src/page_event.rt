@@ -2,7 +2,7 @@
 ghost use mathlib.Core.Path.{_≡_};
 ghost use Rattle.model.specs.declared.event.Event.the-variants as Event;
 ghost use Rattle.model.specs.Lent.{given, entered, left};
-ghost use Rattle.model.specs.Own.{own, leaves};
+ghost use Rattle.model.specs.Laws.Own.{own, leaves};
 ghost use Rattle.model.specs.Pool.{taken, deposited};
 ghost use Rattle.leaves.specs.Packed.{framesGiven, framesEntered, framesLeft};
 ghost use Rattle.dispatch.specs.Kept.{Kept};

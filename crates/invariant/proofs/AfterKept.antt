@@ -13,7 +13,7 @@ use Rattle.model.specs.State.{State}
 use Rattle.model.specs.Rules.{allRules}
 use Rattle.model.specs.Requests.{decoded}
 use Rattle.model.specs.Step.{Outcome, outcome, allFit, asked}
-use Rattle.model.specs.Own.{own, refusal, first-yes, step-own}
+use Rattle.model.specs.Laws.Own.{own, refusal, first-yes, step-own}
 use Rattle.model.specs.Calls.{unknown, stepOf, apply}
 use Rattle.model.specs.ApplyAll.{Listed, requestAt, putAnswer, turned, after}
 use Rattle.invariant.proofs.Kept.{Good, kept}

@@ -11,8 +11,8 @@ use Rattle.model.specs.declared.sizes.Sizes.{Sizes}
 use Rattle.model.specs.declared.frame.Frame.{Frame}
 use Rattle.model.specs.State.{Core, State, Files, Frames, files, frames, frameAt, allPages, slotOf, mapWords, charged, payer, usedOf, freeWord}
 use Rattle.model.specs.Setters.{onCore, counted}
-use Rattle.model.specs.Ruled.{OfCounts}
-use Rattle.model.specs.Fit.{Fit}
+use Rattle.model.specs.Laws.Ruled.{OfCounts}
+use Rattle.model.specs.Laws.Fit.{Fit}
 use Rattle.invariant.proofs.Lengths.{Long, long-fit}
 use Rattle.invariant.proofs.Framed.{Framed, Framing}
 

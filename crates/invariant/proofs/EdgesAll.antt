@@ -30,18 +30,18 @@ use Rattle.model.specs.Sizes.{sizesFit}
 use Rattle.model.specs.State.{State, files, frames, frameAt, noFrame, READING, pageOf, framed, freeCount, freeWord, usedOf, mapWords}
 use Rattle.model.specs.Setters.{onCore, onHeld, setFrames, setFreeQueue, setRemovalList, setAddresses, setStates, setFreeMap, setFree, setUsed, counted}
 use Rattle.model.specs.Parts.{frameOf, fromPage, wordAt}
-use Rattle.model.specs.Index.{place-below}
+use Rattle.model.specs.Laws.Index.{place-below}
 use Rattle.model.specs.Questions.{questions}
 use Rattle.model.specs.Pages
 use Rattle.model.specs.Writeback
 use Rattle.model.specs.Writeback.{look, looking, warm, cooled, cutFrame, cutFrames, cutRecord}
-use Rattle.model.specs.LookLaws.{cool, cool-at}
-use Rattle.model.specs.Ruled.{Ruled, ruled, once-list}
-use Rattle.model.specs.Fit.{Fit, fit}
+use Rattle.model.specs.Laws.LookLaws.{cool, cool-at}
+use Rattle.model.specs.Laws.Ruled.{Ruled, ruled, once-list}
+use Rattle.model.specs.Laws.Fit.{Fit, fit}
 use Rattle.model.specs.Step.{Outcome, carried, result, step}
-use Rattle.model.specs.Own.{refusal, completed, first-yes, first-no, step-own}
-use Rattle.model.specs.OwnLaws.{own-no, own-yes}
-use Rattle.model.specs.EveryCall.{Call, sizesIn, lengths, outcomeOf, later, later-order, refused-unchanged}
+use Rattle.model.specs.Laws.Own.{refusal, completed, first-yes, first-no, step-own}
+use Rattle.model.specs.Laws.OwnLaws.{own-no, own-yes}
+use Rattle.model.specs.Laws.EveryCall.{Call, sizesIn, lengths, outcomeOf, later, later-order, refused-unchanged}
 use Rattle.invariant.proofs.Kept.{Good}
 use Rattle.invariant.proofs.Never as Never
 

@@ -3,8 +3,8 @@ use Prim.Native.Nat.{_<_}
 use Rattle.tables.specs.Base.{at}
 use Rattle.model.specs.declared.sizes.Sizes.{Sizes}
 use Rattle.model.specs.State.{State, files, frames}
-use Rattle.model.specs.Ruled.{OfQueues, OfFrames, OfCounts}
-use Rattle.model.specs.Fit.{Fit}
+use Rattle.model.specs.Laws.Ruled.{OfQueues, OfFrames, OfCounts}
+use Rattle.model.specs.Laws.Fit.{Fit}
 use Rattle.invariant.proofs.Lengths.{Long}
 
 pub record Framed (z : Sizes) (st : State) : Type 0 where

@@ -24,8 +24,8 @@ use Rattle.model.specs.Questions.{questions}
 use Rattle.model.specs.Pages.{onFrame}
 use Rattle.model.specs.Writeback
 use Rattle.model.specs.Writeback.{Looked, looking, freeFrame, recordIn, beginsWrite, zeros}
-use Rattle.model.specs.Ruled.{Ruled, once-list}
-use Rattle.model.specs.Fit.{Fit}
+use Rattle.model.specs.Laws.Ruled.{Ruled, once-list}
+use Rattle.model.specs.Laws.Fit.{Fit}
 use Rattle.invariant.proofs.Lengths.{Long, long}
 use Rattle.invariant.proofs.Framed.{Framed, Framing}
 use Rattle.invariant.proofs.Counts.{counted-framed}

@@ -23,8 +23,8 @@ use Rattle.model.specs.Parts.{setPart, wordAt}
 use Rattle.model.specs.Pages.{fresh}
 use Rattle.model.specs.Writeback
 use Rattle.model.specs.Writeback.{recordIn}
-use Rattle.model.specs.Ruled.{Ruled, once-list}
-use Rattle.model.specs.Fit.{Fit}
+use Rattle.model.specs.Laws.Ruled.{Ruled, once-list}
+use Rattle.model.specs.Laws.Fit.{Fit}
 use Rattle.invariant.proofs.Lengths.{long}
 use Rattle.invariant.proofs.Framed.{Framed, Framing}
 use Rattle.invariant.proofs.Counts.{counted-framed}

@@ -24,11 +24,11 @@ use Rattle.model.specs.State.{Held, State, files, frames, frameAt, allPages, sl
 use Rattle.model.specs.Setters.{onHeld}
 use Rattle.model.specs.Questions.{questions}
 use Rattle.model.specs.Parts.{pick}
-use Rattle.model.specs.Choice.{pick-below, pick-free}
+use Rattle.model.specs.Laws.Choice.{pick-below, pick-free}
 use Rattle.model.specs.Pages
 use Rattle.model.specs.Pages.{awaiting, fresh, faultFrame}
-use Rattle.model.specs.Ruled.{Ruled, once-free, once-list}
-use Rattle.model.specs.Fit.{Fit}
+use Rattle.model.specs.Laws.Ruled.{Ruled, once-free, once-list}
+use Rattle.model.specs.Laws.Fit.{Fit}
 use Rattle.invariant.proofs.Lengths.{HeldFit, long}
 use Rattle.invariant.proofs.Framed.{Framed, Framing}
 use Rattle.invariant.proofs.Counts.{counted-framed}

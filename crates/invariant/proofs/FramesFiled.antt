@@ -23,10 +23,10 @@ use Rattle.model.specs.Setters.{onDisk, setLimits, counted}
 use Rattle.model.specs.Questions.{questions}
 use Rattle.model.specs.Designs
 use Rattle.model.specs.Accounts
-use Rattle.model.specs.AccountLaws.{length-shifted}
+use Rattle.model.specs.Laws.AccountLaws.{length-shifted}
 use Rattle.model.specs.Writeback
-use Rattle.model.specs.Ruled.{Ruled}
-use Rattle.model.specs.Fit.{Fit, DiskFit}
+use Rattle.model.specs.Laws.Ruled.{Ruled}
+use Rattle.model.specs.Laws.Fit.{Fit, DiskFit}
 use Rattle.invariant.proofs.Lengths.{HeldFit, SlotsFit, long}
 use Rattle.invariant.proofs.Framed.{Framed, Framing}
 use Rattle.invariant.proofs.Counts.{counted-framed}

@@ -15,8 +15,8 @@ use Rattle.model.specs.Questions.{questions}
 use Rattle.model.specs.Setters.{setLine}
 use Rattle.model.specs.Line
 use Rattle.model.specs.Step.{carried}
-use Rattle.model.specs.Ruled.{Ruled}
-use Rattle.model.specs.Fit.{Fit}
+use Rattle.model.specs.Laws.Ruled.{Ruled}
+use Rattle.model.specs.Laws.Fit.{Fit}
 use Rattle.invariant.proofs.Framed.{Framed}
 use Rattle.invariant.proofs.Lengths.{long, long-fit}
 use Rattle.invariant.proofs.LineKept.{Lined, joined-line, by-turn}

@@ -14,7 +14,7 @@ use Rattle.model.specs.declared.sizes.Sizes.{Sizes}
 use Rattle.model.specs.declared.frame.Frame.{Frame}
 use Rattle.model.specs.State.{Disk, State, files, frames, LINE, noFrame, allPages}
 use Rattle.model.specs.Restart.{restarted, uncounted}
-use Rattle.model.specs.Fit.{Within, DiskFit}
+use Rattle.model.specs.Laws.Fit.{Within, DiskFit}
 use Rattle.invariant.proofs.Framed.{Framed, Framing}
 use Rattle.invariant.proofs.Counts.{counted-framed}
 use Rattle.invariant.proofs.Seats.{SeatAt, seated, textOf}

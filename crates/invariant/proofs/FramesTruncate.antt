@@ -28,8 +28,8 @@ use Rattle.model.specs.Questions.{questions}
 use Rattle.model.specs.Parts.{fromPage, frameOf}
 use Rattle.model.specs.Writeback
 use Rattle.model.specs.Writeback.{cutFrame, cutFrames, cutRecord}
-use Rattle.model.specs.Ruled.{Ruled, once-free}
-use Rattle.model.specs.Fit.{Fit}
+use Rattle.model.specs.Laws.Ruled.{Ruled, once-free}
+use Rattle.model.specs.Laws.Fit.{Fit}
 use Rattle.invariant.proofs.Lengths.{long}
 use Rattle.invariant.proofs.Framed.{Framed, Framing}
 use Rattle.invariant.proofs.Counts.{counted-framed}

@@ -11,8 +11,8 @@ use Rattle.model.specs.declared.sizes.Sizes.{Sizes}
 use Rattle.model.specs.declared.frame.Frame.{Frame}
 use Rattle.model.specs.State.{State, files, frames, frameAt, noFrame, allPages}
 use Rattle.model.specs.Writeback.{freeFrame, recordIn}
-use Rattle.model.specs.Ruled.{Ruled, once-free}
-use Rattle.model.specs.Fit.{Fit}
+use Rattle.model.specs.Laws.Ruled.{Ruled, once-free}
+use Rattle.model.specs.Laws.Fit.{Fit}
 use Rattle.invariant.proofs.Lengths.{Long}
 use Rattle.invariant.proofs.Framed.{Framing}
 use Rattle.invariant.proofs.Seats.{Cooler, Kept, textOf}

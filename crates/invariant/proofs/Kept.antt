@@ -14,11 +14,11 @@ use Rattle.model.specs.declared.event.Event.the-variants as Event
 use Rattle.model.specs.Sizes.{sizesFit}
 use Rattle.model.specs.State.{Memory, State, LINE, files, allPages}
 use Rattle.model.specs.Rules.{lower, diskRules, allRules}
-use Rattle.model.specs.Ruled.{OnDisk, Ruled, ruled, rules, disk-ruled, rules-disk}
+use Rattle.model.specs.Laws.Ruled.{OnDisk, Ruled, ruled, rules, disk-ruled, rules-disk}
 use Rattle.model.specs.Questions.{questions}
 use Rattle.model.specs.Restart as R
 use Rattle.model.specs.Step.{outcome, allFit, asked, answer, carried, result, step, restart, in-order}
-use Rattle.model.specs.Fit.{Fit, within, fit, all-fit}
+use Rattle.model.specs.Laws.Fit.{Fit, within, fit, all-fit}
 use Rattle.model.specs.Acts as A
 use Rattle.invariant.proofs.Framed.{Framed}
 use Rattle.invariant.proofs.FramesKept.{frames-kept}

@@ -4,7 +4,7 @@ use Prim.Native.Nat.{_*_}
 use lib.ListN.{length}
 use Rattle.model.specs.declared.sizes.Sizes.{Sizes}
 use Rattle.model.specs.State.{Core, Held, Slots, State, LINE, allPages, mapWords}
-use Rattle.model.specs.Fit.{Within, DiskFit, Fit}
+use Rattle.model.specs.Laws.Fit.{Within, DiskFit, Fit}
 
 pub record CoreFit (z : Sizes) (c : Core) : Type 0 where
   pub frames : length (c .frames) ≡ z .frames

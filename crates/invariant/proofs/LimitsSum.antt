@@ -24,11 +24,11 @@ use Rattle.model.specs.State.{Disk, Held, State, files, frames, WRITING}
 use Rattle.model.specs.Setters.{onDisk, onHeld, onSlots, setStates, setOwners, counted}
 use Rattle.model.specs.Rules.{diskRules}
 use Rattle.model.specs.Questions.{questions}
-use Rattle.model.specs.Ruled.{Ruled, ruled}
-use Rattle.model.specs.Fit.{Fit, fit}
+use Rattle.model.specs.Laws.Ruled.{Ruled, ruled}
+use Rattle.model.specs.Laws.Fit.{Fit, fit}
 use Rattle.model.specs.Designs
 use Rattle.model.specs.Accounts
-use Rattle.model.specs.AccountLaws.{sum, sum-shifted}
+use Rattle.model.specs.Laws.AccountLaws.{sum, sum-shifted}
 use Rattle.model.specs.Pages
 use Rattle.model.specs.Writeback
 use Rattle.model.specs.Line

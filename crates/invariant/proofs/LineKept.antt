@@ -22,9 +22,9 @@ use Rattle.model.specs.declared.event.Event.{Event}
 use Rattle.model.specs.declared.event.Event.the-variants as Event
 use Rattle.model.specs.State.{Disk, State, LINE, allPages, pageOf, slotOf}
 use Rattle.model.specs.Setters.{setLine, counted}
-use Rattle.model.specs.Index.{page-below}
+use Rattle.model.specs.Laws.Index.{page-below}
 use Rattle.model.specs.Questions.{Turning, nobody, serves, goesBack, faults, claims, sendsAway, nextPage, nextFault, turning, turnQuestions, pageQuestions, questions}
-use Rattle.model.specs.LineLaws.{Treats, back, faulting, treats}
+use Rattle.model.specs.Laws.LineLaws.{Treats, back, faulting, treats}
 use Rattle.model.specs.Designs
 use Rattle.model.specs.Accounts
 use Rattle.model.specs.Pages
@@ -32,8 +32,8 @@ use Rattle.model.specs.Writeback
 use Rattle.model.specs.Line
 use Rattle.model.specs.Restart as R
 use Rattle.model.specs.Step.{carried}
-use Rattle.model.specs.Ruled.{Ruled}
-use Rattle.model.specs.Fit.{Fit}
+use Rattle.model.specs.Laws.Ruled.{Ruled}
+use Rattle.model.specs.Laws.Fit.{Fit}
 use Rattle.invariant.proofs.Cases.{fault-by, claim-by, page-done-by}
 
 -- the line, whichever of two states it is taken from

@@ -16,8 +16,8 @@ use Rattle.model.specs.Lines.{allowed, RELEASED, LEAVING}
 use Rattle.model.specs.State.{State, files}
 use Rattle.model.specs.Setters.{counted}
 use Rattle.model.specs.Questions.{questions}
-use Rattle.model.specs.Ruled.{Ruled}
-use Rattle.model.specs.Fit.{Fit}
+use Rattle.model.specs.Laws.Ruled.{Ruled}
+use Rattle.model.specs.Laws.Fit.{Fit}
 use Rattle.model.specs.Designs
 use Rattle.model.specs.Accounts
 use Rattle.model.specs.Pages

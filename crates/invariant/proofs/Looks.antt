@@ -15,7 +15,7 @@ use Rattle.model.specs.declared.sizes.Sizes.{Sizes}
 use Rattle.model.specs.declared.frame.Frame.{Frame}
 use Rattle.model.specs.State.{State, frameAt}
 use Rattle.model.specs.Writeback.{Looked, look, looking, warm, cooled}
-use Rattle.model.specs.LookLaws.{cool, cool-at, warms, warms-le, fewer}
+use Rattle.model.specs.Laws.LookLaws.{cool, cool-at, warms, warms-le, fewer}
 use Rattle.invariant.proofs.Seats.{Cooler, cooler-same}
 
 cooler-trans : {a b c : Frame} → Cooler a b → Cooler b c → Cooler a c

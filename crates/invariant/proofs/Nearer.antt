@@ -21,8 +21,8 @@ use Rattle.model.specs.Questions.{nextFault, pageQuestions}
 use Rattle.model.specs.Pages
 use Rattle.model.specs.Writeback
 use Rattle.model.specs.Writeback.{looking}
-use Rattle.model.specs.Ruled.{Ruled}
-use Rattle.model.specs.Fit.{Fit}
+use Rattle.model.specs.Laws.Ruled.{Ruled}
+use Rattle.model.specs.Laws.Fit.{Fit}
 use Rattle.model.specs.Turns.{calm}
 use Rattle.invariant.proofs.Cases.{fault-by, claim-by, page-done-by}
 use Rattle.invariant.proofs.Looks.{looking-takes}

@@ -14,12 +14,12 @@ use Rattle.model.specs.declared.event.Event.{Event}
 use Rattle.model.specs.Sizes.{sizesFit}
 use Rattle.model.specs.State.{Disk, Memory, State, files}
 use Rattle.model.specs.Rules.{lower, diskRules, allRules}
-use Rattle.model.specs.Ruled.{ruled, disk-ruled, rules-disk}
+use Rattle.model.specs.Laws.Ruled.{ruled, disk-ruled, rules-disk}
 use Rattle.model.specs.Questions.{questions, lookQuestions}
 use Rattle.model.specs.Step.{outcome, diskLengths, memoryLengths, allFit, asked, answer, carried, result, step, restart, look, in-order}
 use Rattle.model.specs.Restart as R
-use Rattle.model.specs.Fit.{fit-disk, fit}
-use Rattle.model.specs.Own.{first-yes}
+use Rattle.model.specs.Laws.Fit.{fit-disk, fit}
+use Rattle.model.specs.Laws.Own.{first-yes}
 use Rattle.model.specs.Acts.{Act, event, looking, restarting, cutting, World, act, allowed, legal, run, start}
 use Rattle.model.specs.Acts as A
 use Rattle.invariant.proofs.Records.{disk-alone}

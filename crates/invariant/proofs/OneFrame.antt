@@ -8,7 +8,7 @@ use Rattle.tables.specs.Rule.{Holds}
 use Rattle.model.specs.declared.sizes.Sizes.{Sizes}
 use Rattle.model.specs.State.{State, Frames, files, frames}
 use Rattle.model.specs.Rules
-use Rattle.model.specs.Ruled.{OfFrames}
+use Rattle.model.specs.Laws.Ruled.{OfFrames}
 use Rattle.invariant.proofs.Lengths.{Long}
 use Rattle.invariant.proofs.Framed.{Framing}
 use Rattle.invariant.proofs.Seats.{Seat, SeatAt, textOf, seat, seated, Cooler, Kept, seat-kept}

@@ -14,7 +14,7 @@ use Rattle.model.specs.declared.sizes.Sizes.{Sizes}
 use Rattle.model.specs.Lines.{FREE, LIVE, RELEASED, line, lines, led, allowed}
 use Rattle.model.specs.State.{State, Files, files, allPages, slotOf, live}
 use Rattle.model.specs.Setters.{onDisk, setLimits, counted}
-use Rattle.model.specs.Ruled.{OnDisk, OfRecords}
+use Rattle.model.specs.Laws.Ruled.{OnDisk, OfRecords}
 use Rattle.model.specs.Questions.{wouldStore}
 
 -- the rules of disk, pages, records and slots

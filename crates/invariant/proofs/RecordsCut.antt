@@ -16,8 +16,8 @@ use Rattle.model.specs.Parts.{ofSlot}
 use Rattle.model.specs.Writeback.{storeFrame, storeImage}
 use Rattle.model.specs.Acts.{landWrites, landUpdates, landed}
 use Rattle.model.specs.Restart.{formatted}
-use Rattle.model.specs.Ruled.{OnDisk, Ruled}
-use Rattle.model.specs.Fit.{Fit, DiskFit}
+use Rattle.model.specs.Laws.Ruled.{OnDisk, Ruled}
+use Rattle.model.specs.Laws.Fit.{Fit, DiskFit}
 use Rattle.invariant.proofs.Records.{stays}
 use Rattle.invariant.proofs.RecordsLanded.{landed-keeps}
 

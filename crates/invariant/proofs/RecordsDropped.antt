@@ -16,10 +16,10 @@ use Rattle.model.specs.Setters.{counted}
 use Rattle.model.specs.Parts.{ofSlot, fromPage}
 use Rattle.model.specs.Questions.{questions, wouldStore}
 use Rattle.model.specs.Rules
-use Rattle.model.specs.Ruled.{OnDisk, OfRecords, Ruled}
-use Rattle.model.specs.Fit.{Fit}
+use Rattle.model.specs.Laws.Ruled.{OnDisk, OfRecords, Ruled}
+use Rattle.model.specs.Laws.Fit.{Fit}
 use Rattle.model.specs.Writeback
-use Rattle.model.specs.Index.{slot-below, split-set}
+use Rattle.model.specs.Laws.Index.{slot-below, split-set}
 use Rattle.invariant.proofs.Records.{disk-alone, Kept, Moves, Tidy, along-line, was, turns, stays, would-live}
 
 -- The records D, all of the slot, become x, and their pages lose the address. Where B s, an update begins: its image lists what its pages still hold.

@@ -8,8 +8,8 @@ use Rattle.tables.specs.Store.{Split}
 use Rattle.model.specs.declared.sizes.Sizes.{Sizes}
 use Rattle.model.specs.State.{Files, allPages, slotOf}
 use Rattle.model.specs.Rules.{once}
-use Rattle.model.specs.Ruled.{OnDisk, OfRecords}
-use Rattle.model.specs.Index.{slot-below}
+use Rattle.model.specs.Laws.Ruled.{OnDisk, OfRecords}
+use Rattle.model.specs.Laws.Index.{slot-below}
 use Rattle.invariant.proofs.Records.{map-owner, image-owner}
 
 -- The slots L, all active, have their images stored.

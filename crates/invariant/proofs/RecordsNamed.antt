@@ -13,10 +13,10 @@ use Rattle.model.specs.State.{State, Files, files, allPages, slotOf}
 use Rattle.model.specs.Setters.{counted}
 use Rattle.model.specs.Questions.{questions}
 use Rattle.model.specs.Rules
-use Rattle.model.specs.Ruled.{OnDisk, OfRecords, Ruled}
-use Rattle.model.specs.Fit.{Fit}
+use Rattle.model.specs.Laws.Ruled.{OnDisk, OfRecords, Ruled}
+use Rattle.model.specs.Laws.Fit.{Fit}
 use Rattle.model.specs.Designs
-use Rattle.model.specs.Index.{slot-below, split-set, of-pages}
+use Rattle.model.specs.Laws.Index.{slot-below, split-set, of-pages}
 use Rattle.invariant.proofs.Records.{Kept, turns, stays}
 
 -- Slot s takes number n, which no slot has, and account q; number 0 empties it.

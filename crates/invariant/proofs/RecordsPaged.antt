@@ -18,14 +18,14 @@ use Rattle.model.specs.declared.event.Page.the-variants.{Fault}
 use Rattle.model.specs.declared.event.Writeback.the-variants.{Claim, PageDone}
 use Rattle.model.specs.Lines.{FREE, NULLED, LIVE}
 use Rattle.model.specs.State.{State, Files, Frames, files, frames, noFrame, NONE, READING, allPages, pageOf, live, freeCount}
-use Rattle.model.specs.Choice.{pick-below, pick-free}
+use Rattle.model.specs.Laws.Choice.{pick-below, pick-free}
 use Rattle.model.specs.Parts.{pick}
 use Rattle.model.specs.Questions.{questions}
-use Rattle.model.specs.Ruled.{Ruled}
-use Rattle.model.specs.Fit.{Fit}
+use Rattle.model.specs.Laws.Ruled.{Ruled}
+use Rattle.model.specs.Laws.Fit.{Fit}
 use Rattle.model.specs.Pages
 use Rattle.model.specs.Writeback
-use Rattle.model.specs.Index.{slot-of-page, page-below}
+use Rattle.model.specs.Laws.Index.{slot-of-page, page-below}
 use Rattle.invariant.proofs.Records.{Kept, Done, counted-done}
 use Rattle.invariant.proofs.RecordsTaken.{moved, moved-kept, free-kept}
 

@@ -17,10 +17,10 @@ use Rattle.model.specs.State.{State, Files, files, allPages, slotOf}
 use Rattle.model.specs.Setters.{onDisk, onSlots, onHeld, setStates, setOwners}
 use Rattle.model.specs.Questions.{questions}
 use Rattle.model.specs.Rules
-use Rattle.model.specs.Ruled.{OnDisk, OfRecords, Ruled}
-use Rattle.model.specs.Fit.{Fit}
+use Rattle.model.specs.Laws.Ruled.{OnDisk, OfRecords, Ruled}
+use Rattle.model.specs.Laws.Fit.{Fit}
 use Rattle.model.specs.Writeback
-use Rattle.model.specs.Index.{slot-below, split-set}
+use Rattle.model.specs.Laws.Index.{slot-below, split-set}
 use Rattle.invariant.proofs.Records.{Kept, Done, Moves, Tidy, counted-done, along-line, was, turns, stays}
 use Rattle.invariant.proofs.RecordsLanded.{landed-keeps}
 

@@ -13,9 +13,9 @@ use Rattle.model.specs.State.{State, Files, files, allPages, slotOf}
 use Rattle.model.specs.Setters.{onHeld, setStates}
 use Rattle.model.specs.Pages
 use Rattle.model.specs.Rules
-use Rattle.model.specs.Ruled.{OnDisk, OfRecords, Ruled}
-use Rattle.model.specs.Fit.{Fit}
-use Rattle.model.specs.Index.{slot-below, split-set}
+use Rattle.model.specs.Laws.Ruled.{OnDisk, OfRecords, Ruled}
+use Rattle.model.specs.Laws.Fit.{Fit}
+use Rattle.model.specs.Laws.Index.{slot-below, split-set}
 use Rattle.invariant.proofs.Records.{disk-alone, Done, Moves, Tidy, along-line, was, turns, stays}
 
 -- Page i, of an active slot, holds record q then, nulled or live; before, it held q or had no address and q was free.

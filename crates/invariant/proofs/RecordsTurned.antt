@@ -15,10 +15,10 @@ use Rattle.model.specs.Setters.{counted}
 use Rattle.model.specs.Parts.{ofSlot}
 use Rattle.model.specs.Questions.{questions, wouldStore}
 use Rattle.model.specs.Rules
-use Rattle.model.specs.Ruled.{OnDisk, OfRecords, Ruled}
-use Rattle.model.specs.Fit.{Fit}
+use Rattle.model.specs.Laws.Ruled.{OnDisk, OfRecords, Ruled}
+use Rattle.model.specs.Laws.Fit.{Fit}
 use Rattle.model.specs.Designs
-use Rattle.model.specs.Index.{slot-below, split-set, of-pages}
+use Rattle.model.specs.Laws.Index.{slot-below, split-set, of-pages}
 use Rattle.invariant.proofs.Records.{disk-alone, Kept, Moves, Tidy, along-line, was, turns, stays, would-live, live-would}
 
 -- the two ways: on, filed to live, addresses from the map; off, live to filed, no address

@@ -16,9 +16,9 @@ use Rattle.model.specs.State.{Memory, State, Files, files, allPages, slotOf}
 use Rattle.model.specs.Setters.{counted}
 use Rattle.model.specs.Restart.{formatted, isListed, listedAt, restarted}
 use Rattle.model.specs.Rules
-use Rattle.model.specs.Ruled.{OnDisk}
-use Rattle.model.specs.Fit.{Within}
-use Rattle.model.specs.Index.{slot-below}
+use Rattle.model.specs.Laws.Ruled.{OnDisk}
+use Rattle.model.specs.Laws.Fit.{Within}
+use Rattle.model.specs.Laws.Index.{slot-below}
 use Rattle.invariant.proofs.Records.{disk-alone, Kept}
 
 pub zero-at : (n i : ℕ) → at (replicate n 0) i ≡ 0

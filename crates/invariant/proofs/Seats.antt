@@ -10,7 +10,7 @@ use Rattle.model.specs.declared.frame.Frame.{Frame}
 use Rattle.model.specs.Lines.{LIVE}
 use Rattle.model.specs.State.{Files, Frames, NONE, READING, WRITING, allPages, slotOf, live}
 use Rattle.model.specs.Rules
-use Rattle.model.specs.Ruled.{OfFrames}
+use Rattle.model.specs.Laws.Ruled.{OfFrames}
 
 -- the rules of frame g that stands so often in the free queue and in the list and has this text; `word` gives the records' words
 pub record Seat (z : Sizes) (v : Files) (word : ℕ → ℕ) (g : Frame) (queued removing : ℕ) (text : ℕ → ℕ) : Type 0 where

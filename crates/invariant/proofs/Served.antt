@@ -20,15 +20,15 @@ use Rattle.model.specs.declared.event.Waiting.the-variants.{Turn}
 use Rattle.model.specs.declared.event.Event.{Event}
 use Rattle.model.specs.declared.event.Event.the-variants as Event
 use Rattle.model.specs.State.{State, frames, pageOf, slotOf, framed}
-use Rattle.model.specs.Index.{page-again}
+use Rattle.model.specs.Laws.Index.{page-again}
 use Rattle.model.specs.Questions.{Turning, nobody, serves, goesBack, faults, claims, sendsAway, nextPage, nextFault, pageQuestions, questions, turnQuestions, turning}
 use Rattle.model.specs.Writeback
 use Rattle.model.specs.Line
-use Rattle.model.specs.LineLaws.{Treats, empty, served, back, faulting, claiming, away, treats}
+use Rattle.model.specs.Laws.LineLaws.{Treats, empty, served, back, faulting, claiming, away, treats}
 use Rattle.model.specs.Step.{Outcome, outcome, answer, result, carried, step}
-use Rattle.model.specs.Own.{own, step-own}
-use Rattle.model.specs.Ruled.{Ruled, ruled}
-use Rattle.model.specs.Fit.{Fit, fit}
+use Rattle.model.specs.Laws.Own.{own, step-own}
+use Rattle.model.specs.Laws.Ruled.{Ruled, ruled}
+use Rattle.model.specs.Laws.Fit.{Fit, fit}
 use Rattle.model.specs.Turns.{Deed, turn, pageDone, mapDone, turns, Gone, calm, after, calmTurns, gone, NoneRefused, Left}
 use Rattle.invariant.proofs.Kept.{Good, kept, asked-all}
 use Rattle.invariant.proofs.Never.{later}

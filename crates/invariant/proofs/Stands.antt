@@ -11,7 +11,7 @@ use Rattle.model.specs.declared.sizes.Sizes.{Sizes}
 use Rattle.model.specs.declared.frame.Frame.{Frame}
 use Rattle.model.specs.State.{State, Files, Frames, files, frames, NONE, framed}
 use Rattle.model.specs.Parts.{frameOf}
-use Rattle.model.specs.Ruled.{Ruled}
+use Rattle.model.specs.Laws.Ruled.{Ruled}
 use Rattle.invariant.proofs.Seats.{Seat, SeatAt, seat}
 
 -- the frame that a page is in

@@ -23,8 +23,8 @@ use Rattle.model.specs.State.{Disk, Memory, State, files}
 use Rattle.model.specs.Rules.{lower, diskRules}
 use Rattle.model.specs.Setters.{counted}
 use Rattle.model.specs.Questions.{questions}
-use Rattle.model.specs.Ruled.{OnDisk, Ruled, ruled, disk-ruled}
-use Rattle.model.specs.Fit.{Fit, Within, within, fit}
+use Rattle.model.specs.Laws.Ruled.{OnDisk, Ruled, ruled, disk-ruled}
+use Rattle.model.specs.Laws.Fit.{Fit, Within, within, fit}
 use Rattle.model.specs.Designs
 use Rattle.model.specs.Accounts
 use Rattle.model.specs.Pages

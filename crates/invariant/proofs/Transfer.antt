@@ -41,8 +41,8 @@ use Rattle.model.specs.Step.{outcome, asked, answer, carried, result, step}
 use Rattle.model.specs.Calls.{apply, stepOf, unknown}
 use Rattle.model.specs.Acts as A
 use Rattle.model.specs.Acts.{Act, World, act, run}
-use Rattle.model.specs.Ruled.{Ruled, ruled, once-free}
-use Rattle.model.specs.Fit.{Fit, fit}
+use Rattle.model.specs.Laws.Ruled.{Ruled, ruled, once-free}
+use Rattle.model.specs.Laws.Fit.{Fit, fit}
 use Rattle.invariant.proofs.LineKept.{by-turn}
 use Rattle.invariant.proofs.Looks.{Took, looking-takes}
 use Rattle.invariant.proofs.FrameParts.{part-other, word-other}

@@ -15,8 +15,8 @@ use Rattle.model.specs.declared.event.Answer.{Answer}
 use Rattle.model.specs.State.{State, noFrame}
 use Rattle.model.specs.Setters.{onCore, setFrames}
 use Rattle.model.specs.Step.{Outcome, allFit}
-use Rattle.model.specs.Fit.{fit}
-use Rattle.model.specs.Own.{refusal}
+use Rattle.model.specs.Laws.Fit.{fit}
+use Rattle.model.specs.Laws.Own.{refusal}
 use Rattle.model.specs.Calls.{framesOf, length-frames, frames-of}
 use Rattle.keeper.specs.Copies.{capped, copied, loaded, saved}
 

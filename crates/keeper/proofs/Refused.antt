@@ -17,7 +17,7 @@ use Rattle.model.specs.Questions.{lookQuestions}
 use Rattle.model.specs.Pages
 use Rattle.model.specs.Restart.{restarted}
 use Rattle.model.specs.Step.{Outcome, outcome, allFit, restart, look}
-use Rattle.model.specs.Own.{refusal, first-no, step-unfit}
+use Rattle.model.specs.Laws.Own.{refusal, first-no, step-unfit}
 use Rattle.model.specs.Calls.{unknown, stepOf, apply}
 use Rattle.model.specs.Part.{part, partOf}
 use Rattle.keeper.proofs.AnyLength.{Refuses}

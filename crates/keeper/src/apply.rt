@@ -1,7 +1,7 @@
 // An event asked for by a request, for firmware to link.
 ghost use mathlib.Core.Path.{_≡_};
 ghost use Rattle.model.specs.Lent.{allEntered, allLeft};
-ghost use Rattle.model.specs.Own.{leaves};
+ghost use Rattle.model.specs.Laws.Own.{leaves};
 ghost use Rattle.model.specs.Calls.{apply};
 use crate::frames::load;
 use crate::frames::save;

@@ -1,7 +1,7 @@
 // Restart, for firmware to link.
 ghost use mathlib.Core.Path.{_≡_};
 ghost use Rattle.model.specs.Lent.{allEntered, allLeft};
-ghost use Rattle.model.specs.Own.{leaves};
+ghost use Rattle.model.specs.Laws.Own.{leaves};
 ghost use Rattle.model.specs.Step.{restart};
 use crate::frames::load;
 use crate::frames::save;

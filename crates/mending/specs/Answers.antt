@@ -13,9 +13,9 @@ use Rattle.tables.specs.Rule.{Rule, Holds, non, below, _and_, sound}
 use Rattle.model.specs.declared.sizes.Sizes.{Sizes}
 use Rattle.model.specs.State.{allPages}
 use Rattle.model.specs.Sizes.{sizesFit}
-use Rattle.model.specs.Fit.{Within, within}
-use Rattle.model.specs.Bounds.{pages-most}
-use Rattle.model.specs.Own.{first-yes, first-no}
+use Rattle.model.specs.Laws.Fit.{Within, within}
+use Rattle.model.specs.Laws.Bounds.{pages-most}
+use Rattle.model.specs.Laws.Own.{first-yes, first-no}
 use Rattle.model.specs.Rules.{fit}
 use Rattle.model.specs.Step.{Outcome, outcome, diskLengths}
 use Rattle.mending.specs.Mend.{Pack, Lent, Change, allPlaces, changes, cleared, listed, after, listedBy, mended, allChanges, packOf, withPack, flat, mendedLent, mend}

@@ -12,7 +12,7 @@ use Rattle.model.specs.declared.event.Answer.{Answer}
 use Rattle.model.specs.State.{State}
 use Rattle.model.specs.Setters.{setParents}
 use Rattle.model.specs.Step.{Outcome, restart}
-use Rattle.model.specs.Lists.{said, junk}
+use Rattle.edges.specs.Lists.{said, junk}
 use Rattle.mending.specs.Mend.{Pack, Lent, placeAt, wants, cleared, gather, listed, after, listedBy, mended, allChanges, flat, mend}
 
 -- three slots of two pages, three records, two accounts

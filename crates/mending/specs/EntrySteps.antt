@@ -9,7 +9,7 @@ use Rattle.tables.specs.Rule.{Rule, Holds}
 use Rattle.tables.specs.StoreLoops.{Turned, turned-all, part-fits}
 use Rattle.model.specs.declared.sizes.Sizes.{Sizes}
 use Rattle.model.specs.State.{allPages, pageOf}
-use Rattle.model.specs.Bounds.{pages-most}
+use Rattle.model.specs.Laws.Bounds.{pages-most}
 use Rattle.model.specs.Rules.{fit}
 use Rattle.mending.specs.Mend.{Pack, number, account, entry, wants, changes}
 use Rattle.mending.specs.Places.{place-number, place-account}

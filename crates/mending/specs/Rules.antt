@@ -12,12 +12,12 @@ use Rattle.tables.specs.Rule.{Rule, Holds}
 use Rattle.model.specs.declared.sizes.Sizes.{Sizes}
 use Rattle.model.specs.State.{Disk, Memory, State, allPages, pageOf, slotOf}
 use Rattle.model.specs.Rules.{lower, diskRules}
-use Rattle.model.specs.Ruled.{disk-ruled, rules-disk}
+use Rattle.model.specs.Laws.Ruled.{disk-ruled, rules-disk}
 use Rattle.model.specs.Restart.{restarted}
-use Rattle.model.specs.Own.{refusal, first-yes, first-no}
+use Rattle.model.specs.Laws.Own.{refusal, first-yes, first-no}
 use Rattle.model.specs.Step.{outcome, diskLengths, memoryLengths, allFit, restart}
 use Rattle.model.specs.Sizes.{sizesFit}
-use Rattle.model.specs.Fit.{disk-fit, fit-disk}
+use Rattle.model.specs.Laws.Fit.{disk-fit, fit-disk}
 use Rattle.tables.specs.Questions.{none, ask, firstNo}
 use Rattle.mending.specs.Mend.{Pack, Place, number, account, entry, slotAt, held, wants, after, mended, packOf, withPack}
 use Rattle.mending.specs.Places.{PackFit, In, after-fit, after-held, down, stays-zero}

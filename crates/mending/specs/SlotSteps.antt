@@ -8,7 +8,7 @@ use Rattle.tables.specs.Base.{at}
 use Rattle.tables.specs.Rule.{Holds, below}
 use Rattle.tables.specs.StoreLoops.{Turned, turn-off, turned-at, part-fits}
 use Rattle.model.specs.declared.sizes.Sizes.{Sizes}
-use Rattle.model.specs.Bounds.{pages-most}
+use Rattle.model.specs.Laws.Bounds.{pages-most}
 use Rattle.mending.specs.Mend.{Pack, Place, number, account, entry, slotAt, wants, changes}
 use Rattle.mending.specs.Places.{PackFit, place-number}
 use Rattle.mending.specs.Passes.{packed, filled, Lost, lost-kept, lost-long, lost-list-long, Standing, zeroed, standing-off, place-turn, above, RowGiven, RowDone}

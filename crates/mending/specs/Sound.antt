@@ -12,7 +12,7 @@ use Rattle.tables.specs.Rule.{Holds, test, sound}
 use Rattle.model.specs.declared.sizes.Sizes.{Sizes}
 use Rattle.model.specs.State.{Disk, State, allPages, pageOf, slotOf}
 use Rattle.model.specs.Rules.{diskRules}
-use Rattle.model.specs.Ruled.{disk-ruled}
+use Rattle.model.specs.Laws.Ruled.{disk-ruled}
 use Rattle.model.specs.Step.{diskLengths}
 use Rattle.model.specs.Sizes.{sizesFit}
 use Rattle.mending.specs.Mend.{Pack, Place, number, account, entry, slotAt, placeAt, allPlaces, held, doubled, wants, changes, listed, gather, after, listedBy, mended, allChanges, packOf}

@@ -15,7 +15,7 @@ use Rattle.tables.specs.StoreLoops.{Turned, turn-off, turned-all, turned-none}
 use Rattle.model.specs.declared.sizes.Sizes.{Sizes}
 use Rattle.model.specs.State.{allPages}
 use Rattle.model.specs.Lent.{diskOf}
-use Rattle.model.specs.Fit.{Within}
+use Rattle.model.specs.Laws.Fit.{Within}
 use Rattle.mending.specs.Mend.{Pack, Lent, Place, number, account, entry, ofSlot, slotAt, allPlaces, changes, cleared, listed}
 use Rattle.mending.specs.Places.{PackFit, place-of, place-account}
 use Rattle.mending.specs.Passes.{packed, filled, noted, Lost, listedTo, Standing, ofEntry, zeroed, standing-none, standing-skip, place-turn, Agrees, RowDone}

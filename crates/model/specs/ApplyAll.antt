@@ -13,10 +13,10 @@ use Rattle.model.specs.declared.sizes.Sizes.{Sizes}
 use Rattle.model.specs.declared.event.Answer.{Answer}
 use Rattle.model.specs.declared.request.Request.{Request}
 use Rattle.model.specs.State.{State}
-use Rattle.model.specs.Own.{refusal}
+use Rattle.model.specs.Laws.Own.{refusal}
 use Rattle.model.specs.Step.{Outcome}
 use Rattle.model.specs.Calls.{apply}
-use Rattle.model.specs.EveryCall.{applying, refused-unchanged}
+use Rattle.model.specs.Laws.EveryCall.{applying, refused-unchanged}
 
 -- request k of a list of numbers
 abbrev pub requestAt : List ℕ → ℕ → Request

@@ -23,15 +23,15 @@ use Rattle.model.specs.declared.event.Event.the-variants as Event
 use Rattle.model.specs.declared.event.Page.the-variants as Page
 use Rattle.model.specs.Lines.{NULLED}
 use Rattle.model.specs.State.{State, files, pageOf, slotOf, live}
-use Rattle.model.specs.Index.{slot-of-page}
+use Rattle.model.specs.Laws.Index.{slot-of-page}
 use Rattle.model.specs.Parts.{pick, setPart}
 use Rattle.model.specs.Pool.{taken, taken-by}
 use Rattle.model.specs.Pages as Pages
 use Rattle.model.specs.Pages.{awaiting, fresh}
 use Rattle.model.specs.Questions.{questions}
 use Rattle.model.specs.Step.{carried, result}
-use Rattle.model.specs.Own.{own, refusal}
-use Rattle.model.specs.OwnLaws.{done, own-no, own-yes}
+use Rattle.model.specs.Laws.Own.{own, refusal}
+use Rattle.model.specs.Laws.OwnLaws.{done, own-no, own-yes}
 use Rattle.leaves.specs.FrameLaws.{take-frame}
 use Rattle.pages.specs.Seen.{seenFault}
 use Rattle.pages.specs.Needs.{Queued}

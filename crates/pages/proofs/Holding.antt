@@ -12,8 +12,8 @@ use Rattle.model.specs.declared.frame.Pool.{Pool}
 use Rattle.model.specs.Lines.{FREE, NULLED, allowed}
 use Rattle.model.specs.State.{freeCount}
 use Rattle.model.specs.Parts.{pick}
-use Rattle.model.specs.Choice.{pick-below, pick-free}
-use Rattle.model.specs.Fit.{Within}
+use Rattle.model.specs.Laws.Choice.{pick-below, pick-free}
+use Rattle.model.specs.Laws.Fit.{Within}
 use Rattle.tables.specs.Marks.{bitOf}
 use Rattle.leaves.specs.FreeMap.{toldBy, freeMap, free-map, bit-on, word-inside}
 use Rattle.leaves.specs.Picks.{pick-told}

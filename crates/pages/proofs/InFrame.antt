@@ -25,8 +25,8 @@ use Rattle.model.specs.Part.{part, no-part}
 use Rattle.model.specs.Setters.{setUsedSwitch, setWired, setInitial}
 use Rattle.model.specs.Parts.{frameOf}
 use Rattle.model.specs.Step.{carried, result}
-use Rattle.model.specs.OwnLaws.{done, own-no, own-yes}
-use Rattle.model.specs.Own.{own, refusal, first-no}
+use Rattle.model.specs.Laws.OwnLaws.{done, own-no, own-yes}
+use Rattle.model.specs.Laws.Own.{own, refusal, first-no}
 use Rattle.leaves.specs.Asks.{slotAsked}
 use Rattle.leaves.specs.FrameLaws.{frameIn, frame-take, isUnwired}
 use Rattle.pages.specs.Asks.{frameAsked, unwiredAsked, wiredAsked}

@@ -19,8 +19,8 @@ use Rattle.model.specs.Parts.{frameOf}
 use Rattle.model.specs.Pages as Pages
 use Rattle.model.specs.Questions.{questions, served, still, payable}
 use Rattle.model.specs.Step.{Outcome, outcome, carried}
-use Rattle.model.specs.Own.{own, refusal, first-no}
-use Rattle.model.specs.OwnLaws.{done, own-no, own-yes, outcome-no}
+use Rattle.model.specs.Laws.Own.{own, refusal, first-no}
+use Rattle.model.specs.Laws.OwnLaws.{done, own-no, own-yes, outcome-no}
 use Rattle.leaves.specs.Asks.{slotAsked}
 use Rattle.leaves.specs.FrameLaws.{frameIn, frame-take}
 use Rattle.leaves.specs.Payers.{whoPays}

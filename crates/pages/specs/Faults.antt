@@ -19,7 +19,7 @@ use Rattle.model.specs.State.{State, files, pageOf, framed}
 use Rattle.model.specs.Lent.{Table}
 use Rattle.model.specs.Parts.{pick}
 use Rattle.model.specs.Questions.{questions}
-use Rattle.model.specs.Own.{own}
+use Rattle.model.specs.Laws.Own.{own}
 use Rattle.leaves.specs.FrameLaws.{framesOf, isStill}
 use Rattle.pages.specs.Asks.{ofFrame}
 

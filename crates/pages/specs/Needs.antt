@@ -11,7 +11,7 @@ use Rattle.model.specs.declared.frame.Frame.{Frame}
 use Rattle.model.specs.declared.frame.Pool.{Pool}
 use Rattle.model.specs.State.{frameAt, mapWords, freeCount, freeWord}
 use Rattle.model.specs.Rules.{once}
-use Rattle.model.specs.Fit.{Within}
+use Rattle.model.specs.Laws.Fit.{Within}
 
 -- no page is in two frames
 pub record Seats (z : Sizes) (fs : List Frame) : Type 0 where

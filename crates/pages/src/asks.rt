@@ -6,7 +6,7 @@ ghost use Rattle.tables.specs.Questions.{firstNo};
 ghost use Rattle.tables.specs.Also.{_also_};
 ghost use Rattle.tables.specs.Rule.{test};
 ghost use Rattle.model.specs.State.{pageOf};
-ghost use Rattle.model.specs.Fit.{Within};
+ghost use Rattle.model.specs.Laws.Fit.{Within};
 ghost use Rattle.leaves.specs.Asks.{slotAsked};
 ghost use Rattle.leaves.specs.FrameLaws.{frameIn};
 ghost use Rattle.leaves.specs.Packed.{unpacked, framesGiven, framesEntered};

@@ -9,7 +9,7 @@ ghost use Rattle.model.specs.declared.event.Event.the-variants as Event;
 ghost use Rattle.model.specs.declared.event.Page.the-variants as Page;
 ghost use Rattle.model.specs.State.{pageOf};
 ghost use Rattle.model.specs.Pool.{taken};
-ghost use Rattle.model.specs.Own.{own};
+ghost use Rattle.model.specs.Laws.Own.{own};
 ghost use Rattle.pages.specs.Seen.{enteredFault};
 ghost use Rattle.leaves.specs.Asks.{slotAsked};
 ghost use Rattle.leaves.specs.Packed.{framesGiven, framesEntered, framesLeft};

@@ -11,7 +11,7 @@ ghost use Rattle.tables.specs.Rule.{Holds};
 ghost use Rattle.model.specs.Lines.{NULLED};
 ghost use Rattle.model.specs.Parts.{setPart};
 ghost use Rattle.model.specs.Pages.{awaiting, fresh};
-ghost use Rattle.model.specs.Fit.{Within};
+ghost use Rattle.model.specs.Laws.Fit.{Within};
 ghost use Rattle.leaves.specs.Packed.{unpacked, framesGiven, framesEntered};
 ghost use Rattle.pages.specs.Needs.{Seats, Pooled};
 ghost use Rattle.pages.specs.Faults.{wayOf, awayAsked, supplyAsked, cleared, chosen};

@@ -1,6 +1,6 @@
 // Write: one word of a page in a frame takes a value; the frame's used and modified switches go on. A page's first write is charged.
 ghost use mathlib.Core.Path.{_≡_};
-ghost use Rattle.model.specs.Own.{own};
+ghost use Rattle.model.specs.Laws.Own.{own};
 ghost use Rattle.leaves.specs.Packed.{framesGiven, framesEntered, framesLeft};
 ghost use Rattle.pages.specs.Seen.{enteredWrite};
 ghost use Rattle.pages.specs.Needs.{Seats};

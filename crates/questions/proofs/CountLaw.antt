@@ -7,8 +7,8 @@ use Rattle.tables.specs.Base.{at}
 use Rattle.tables.specs.Rule.{Holds}
 use Rattle.model.specs.declared.sizes.Sizes.{Sizes}
 use Rattle.model.specs.State.{State, files, frames, payer, usedOf, freeCount, freeWord}
-use Rattle.model.specs.Ruled.{OfFrames, OfCounts}
-use Rattle.model.specs.Woven.{wovenPage}
+use Rattle.model.specs.Laws.Ruled.{OfFrames, OfCounts}
+use Rattle.model.specs.Laws.Woven.{wovenPage}
 use Rattle.rules.specs.Passes.{usedTable, framedTable}
 use Rattle.rules.proofs.Used.{seated-by, total}
 use Rattle.questions.specs.Groups.{countPasses}

@@ -9,7 +9,7 @@ use Rattle.tables.specs.Rule.{Rule, Holds, test, alike}
 use Rattle.model.specs.declared.sizes.Sizes.{Sizes}
 use Rattle.model.specs.State.{State, files}
 use Rattle.model.specs.Rules.{once, diskRules}
-use Rattle.model.specs.Ruled.{OnDisk, disk-ruled, rules-disk}
+use Rattle.model.specs.Laws.Ruled.{OnDisk, disk-ruled, rules-disk}
 use Rattle.rules.specs.Passes.{newNumbers}
 use Rattle.questions.specs.Groups.{diskPasses, DiskLong}
 use Rattle.questions.proofs.Shapes.{by-row, of-row}

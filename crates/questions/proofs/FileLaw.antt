@@ -7,7 +7,7 @@ use Rattle.tables.specs.Base.{at}
 use Rattle.tables.specs.Rule.{Holds}
 use Rattle.model.specs.declared.sizes.Sizes.{Sizes}
 use Rattle.model.specs.State.{State, files}
-use Rattle.model.specs.Ruled.{OfRecords}
+use Rattle.model.specs.Laws.Ruled.{OfRecords}
 use Rattle.rules.specs.Passes.{heldEntries, imagedEntries}
 use Rattle.questions.specs.Groups.{filePasses, FilesLong}
 use Rattle.questions.proofs.Shapes.{by-row, of-row}

@@ -8,7 +8,7 @@ use Rattle.tables.specs.Rule.{_and_, Holds}
 use Rattle.model.specs.declared.frame.Frame.{Frame}
 use Rattle.model.specs.declared.sizes.Sizes.{Sizes}
 use Rattle.model.specs.State.{State, files, frames}
-use Rattle.model.specs.Ruled.{OfFrames, OfQueues}
+use Rattle.model.specs.Laws.Ruled.{OfFrames, OfQueues}
 use Rattle.rules.specs.Passes.{frameRow, cleanFrame}
 use Rattle.questions.specs.Groups.{framePasses}
 

@@ -17,7 +17,7 @@ use Rattle.model.specs.declared.frame.Frame.{Frame}
 use Rattle.model.specs.declared.sizes.Sizes.{Sizes}
 use Rattle.model.specs.State.{frameAt}
 use Rattle.model.specs.Rules.{fit, once}
-use Rattle.model.specs.Bounds.{pages-most}
+use Rattle.model.specs.Laws.Bounds.{pages-most}
 use Rattle.rules.specs.Passes.{distinct, marked, counted, addressOf, frameRows, recordRow, recordRows, HeldFit, ImagedFit, FramesFit}
 use Rattle.questions.specs.Groups.{recordHeld, recordsHeld, framePasses, FilesLong, FramesLong}
 use Rattle.questions.proofs.Shapes.{each-same}

@@ -18,10 +18,10 @@ use Rattle.model.specs.declared.frame.Frame.{Frame}
 use Rattle.model.specs.declared.sizes.Sizes.{Sizes}
 use Rattle.model.specs.State.{State, LINE, allPages, files, frames, frameAt, noFrame, payer}
 use Rattle.model.specs.Lent.{noLine}
-use Rattle.model.specs.Fit.{Fit}
+use Rattle.model.specs.Laws.Fit.{Fit}
 use Rattle.model.specs.Rules.{allRules}
-use Rattle.model.specs.Ruled.{OfFrames, OfQueues, ruled, rules}
-use Rattle.model.specs.Woven.{wovenPage}
+use Rattle.model.specs.Laws.Ruled.{OfFrames, OfQueues, ruled, rules}
+use Rattle.model.specs.Laws.Woven.{wovenPage}
 use Rattle.leaves.specs.Payers.{Paying}
 use Rattle.rules.specs.Passes.{usedPage, usedTable, framedPage, framedTable}
 use Rattle.questions.specs.Groups.{diskPasses, filePasses, framePasses, countPasses, DiskLong, FilesLong, FramesLong, CountsLong}

@@ -12,7 +12,7 @@ use Rattle.model.specs.Sizes.{mostAccounts}
 use Rattle.model.specs.State.{Disk, Memory, frameAt}
 use Rattle.model.specs.Lent.{Ref, Table, diskOf, memoryOf}
 use Rattle.model.specs.Rules.{fit}
-use Rattle.model.specs.Woven.{wovenPage}
+use Rattle.model.specs.Laws.Woven.{wovenPage}
 use Rattle.rules.specs.Passes.{distinct, marked, usedTable, framedTable, countRoom}
 use Rattle.questions.specs.Groups.{filePasses, framePasses, FilesLong, FramesLong}
 

@@ -11,7 +11,7 @@ use Rattle.model.specs.declared.frame.Frame.{Frame}
 use Rattle.model.specs.declared.sizes.Sizes.{Sizes}
 use Rattle.model.specs.Lines.{FREE, FILED, NULLED, LIVE, LEAVING}
 use Rattle.model.specs.Rules.{lower}
-use Rattle.model.specs.Fit.{Within}
+use Rattle.model.specs.Laws.Fit.{Within}
 use Rattle.rules.specs.Passes.{distinct, diskSlot, newNumbers, emptyRows, memorySlot, allEntries, frameRow, cleanFrame, freeWords}
 
 -- ── the passes together, by subject ──

@@ -11,12 +11,12 @@ use Rattle.model.specs.declared.frame.Frame.{Frame}
 use Rattle.model.specs.declared.frame.Pool.{Pool}
 use Rattle.model.specs.State.{Disk, Memory, State, files, charged, payer, usedOf}
 use Rattle.model.specs.Rules.{diskRules}
-use Rattle.model.specs.Ruled.{OnDisk, disk-ruled}
+use Rattle.model.specs.Laws.Ruled.{OnDisk, disk-ruled}
 use Rattle.model.specs.Lent.{stateOf, same-state}
-use Rattle.model.specs.Fit.{Fit, fit}
+use Rattle.model.specs.Laws.Fit.{Fit, fit}
 use Rattle.model.specs.Setters.{counted}
 use Rattle.model.specs.Restart.{restarted, isListed, listedAt}
-use Rattle.model.specs.Own.{refusal}
+use Rattle.model.specs.Laws.Own.{refusal}
 use Rattle.model.specs.Step.{Outcome, outcome, allFit, restart}
 use Rattle.restarts.specs.Restarts.{seen}
 

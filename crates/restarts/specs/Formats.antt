@@ -13,7 +13,7 @@ use Rattle.model.specs.State.{Disk}
 use Rattle.model.specs.Sizes.{sizesFit}
 use Rattle.model.specs.Rules.{lower}
 use Rattle.model.specs.Lent.{diskOf}
-use Rattle.model.specs.Fit.{DiskFit, disk-fit}
+use Rattle.model.specs.Laws.Fit.{DiskFit, disk-fit}
 use Rattle.model.specs.Restart.{formatted}
 use Rattle.model.specs.Step.{Outcome, outcome, formatLengths, format}
 

@@ -17,16 +17,16 @@ use Rattle.model.specs.declared.frame.Pool.{Pool}
 use Rattle.model.specs.State
 use Rattle.model.specs.State.{Disk, State, files, noFrame, allPages, mapWords, freeCount}
 use Rattle.model.specs.Payer.{payer}
-use Rattle.model.specs.Index.{slot-below}
+use Rattle.model.specs.Laws.Index.{slot-below}
 use Rattle.model.specs.Sizes.{mostSlots}
 use Rattle.model.specs.Lines.{FREE}
 use Rattle.model.specs.Lent.{diskOf}
-use Rattle.model.specs.Fit.{Within, Fit}
-use Rattle.model.specs.Ruled.{OnDisk}
+use Rattle.model.specs.Laws.Fit.{Within, Fit}
+use Rattle.model.specs.Laws.Ruled.{OnDisk}
 use Rattle.model.specs.Rules.{fit, once}
 use Rattle.model.specs.Setters.{counted}
 use Rattle.model.specs.Restart.{restarted, isListed, listedAt}
-use Rattle.model.specs.Bounds.{pages-most}
+use Rattle.model.specs.Laws.Bounds.{pages-most}
 use Rattle.leaves.specs.FreeMap.{freeMap}
 use Rattle.leaves.specs.Payers.{who-below}
 use Rattle.leaves.specs.ByEntry.{Filled, filled-tab}

@@ -14,9 +14,9 @@ use Rattle.tables.specs.Laws.{count-same, count-more}
 use Rattle.tables.specs.Rule.{Rule, same, _or_, some, Holds, test, told, untold, decided, alike}
 use Rattle.model.specs.declared.sizes.Sizes.{Sizes}
 use Rattle.model.specs.State.{State, Files, Frames, files, frames, allPages, slotOf, live, woven, charged, payer, usedOf}
-use Rattle.model.specs.Index.{slot-below}
-use Rattle.model.specs.Ruled.{OfFrames}
-use Rattle.model.specs.Woven.{wovenPage, woven-is, is-woven}
+use Rattle.model.specs.Laws.Index.{slot-below}
+use Rattle.model.specs.Laws.Ruled.{OfFrames}
+use Rattle.model.specs.Laws.Woven.{wovenPage, woven-is, is-woven}
 use Rattle.rules.specs.Passes.{Seated, usedPages, usedTable, framedPage, framedPages, framedTable}
 
 -- the rules of frames give it

@@ -11,7 +11,7 @@ use Rattle.model.specs.Sizes.{mostAccounts}
 use Rattle.model.specs.State.{frameAt}
 use Rattle.model.specs.Lent.{Ref, Table}
 use Rattle.model.specs.Rules.{fit}
-use Rattle.model.specs.Woven.{wovenPage}
+use Rattle.model.specs.Laws.Woven.{wovenPage}
 use Rattle.rules.specs.Passes.{Prefix, distinct, marked, heldRow, imagedRow, allEntries, addressOf, frameRows, usedTable, framedTable, HeldFit, ImagedFit, FramesFit, countRoom}
 
 -- ── the row of one slot ──

@@ -9,7 +9,7 @@ ghost use lib.Dec.{eqb};
 ghost use Rattle.model.specs.Sizes.{mostAccounts};
 ghost use Rattle.model.specs.State.{NONE, WRITING};
 ghost use Rattle.model.specs.Rules.{fit};
-ghost use Rattle.model.specs.Woven.{wovenPage};
+ghost use Rattle.model.specs.Laws.Woven.{wovenPage};
 ghost use Rattle.leaves.specs.Packed.{unpacked};
 ghost use Rattle.rules.specs.Passes.{switches, onePlace, bare, activePage, heldPage, frameRow, addressOf, framedPage};
 ghost use Rattle.rules.specs.Contracts.{FramesGiven, framesEntered, FramesLeft};

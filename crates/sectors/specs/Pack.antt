@@ -6,7 +6,7 @@ use Rattle.tables.specs.Questions.{none, ask, firstNo}
 use Rattle.tables.specs.Rule.{Rule, below, _and_, Holds, test}
 use Rattle.model.specs.declared.event.Answer.{Answer}
 use Rattle.model.specs.Step.{outcome}
-use Rattle.model.specs.Own.{first-yes, first-no}
+use Rattle.model.specs.Laws.Own.{first-yes, first-no}
 
 -- 100 cylinders of 100 sectors
 abbrev pub cylinders : ℕ

@@ -15,9 +15,9 @@ use Rattle.model.specs.declared.event.Waiting.the-variants.{Turn}
 use Rattle.model.specs.State.{Disk, Core, Held, Slots, State, slotOf}
 use Rattle.model.specs.Setters.{onHeld, setHand, setFree}
 use Rattle.model.specs.Questions.{nextPage, nextFault}
-use Rattle.model.specs.LineLaws.{Waiting, InFrame}
+use Rattle.model.specs.Laws.LineLaws.{Waiting, InFrame}
 use Rattle.model.specs.Lent.{stateIn}
-use Rattle.model.specs.Own.{own, leaves}
+use Rattle.model.specs.Laws.Own.{own, leaves}
 use Rattle.pages.specs.Seen.{seenFault}
 use Rattle.pages.specs.Faults.{FaultLeft}
 use Rattle.writeback.specs.Needs.{Queues, Claimable}

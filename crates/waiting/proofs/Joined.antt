@@ -11,7 +11,7 @@ use Rattle.model.specs.State.{State}
 use Rattle.model.specs.Setters.{setLine}
 use Rattle.model.specs.Line
 use Rattle.model.specs.Step.{carried, result}
-use Rattle.model.specs.Own.{own, leaves}
+use Rattle.model.specs.Laws.Own.{own, leaves}
 use Rattle.dispatch.proofs.Outcomes.{own-by}
 use Rattle.waiting.specs.Seen.{seenLine}
 

@@ -23,10 +23,10 @@ use Rattle.model.specs.State.{State, frames, framed, frameAt, allPages, NONE}
 use Rattle.model.specs.Setters.{setLine}
 use Rattle.model.specs.Questions.{Turning, nobody, serves, goesBack, faults, claims, sendsAway, still, nextPage, nextFault, byFault, turning, turnQuestions, questions}
 use Rattle.model.specs.Line.{turned, treated, turn, turnResult}
-use Rattle.model.specs.LineLaws.{faultNumber, Waiting, InFrame}
+use Rattle.model.specs.Laws.LineLaws.{faultNumber, Waiting, InFrame}
 use Rattle.model.specs.Step.{Outcome, outcome, carried, result}
-use Rattle.model.specs.Own.{own, leaves, refusal, completed}
-use Rattle.model.specs.OwnLaws.{done, own-no, own-yes}
+use Rattle.model.specs.Laws.Own.{own, leaves, refusal, completed}
+use Rattle.model.specs.Laws.OwnLaws.{done, own-no, own-yes}
 use Rattle.leaves.specs.FrameLaws.{frameIn, isStill}
 use Rattle.pages.specs.Asks.{ofFrame}
 use Rattle.pages.specs.Needs.{Seats}

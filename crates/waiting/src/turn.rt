@@ -10,7 +10,7 @@ ghost use Rattle.model.specs.declared.event.Event.the-variants as Event;
 ghost use Rattle.model.specs.declared.event.Waiting.the-variants as Waiting;
 ghost use Rattle.model.specs.State.{NONE};
 ghost use Rattle.model.specs.Lent.{allGiven, allEntered, allLeft};
-ghost use Rattle.model.specs.Own.{own, leaves};
+ghost use Rattle.model.specs.Laws.Own.{own, leaves};
 ghost use Rattle.model.specs.Pool.{taken, deposited};
 ghost use Rattle.leaves.specs.FrameLaws.{frameIn};
 ghost use Rattle.leaves.specs.Packed.{unpacked, framesGiven, framesEntered, framesLeft};

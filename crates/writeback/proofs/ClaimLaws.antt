@@ -22,12 +22,12 @@ use Rattle.model.specs.Lines.{FREE, NULLED, LIVE}
 use Rattle.model.specs.State.{State, Files, Frames, files, frames, frameAt, noFrame, WRITING, slotOf, allPages, payer, charged, usedOf, live, woven}
 use Rattle.model.specs.Setters.{onCore, onHeld, setStates, setTransfer, counted}
 use Rattle.model.specs.Pages.{onFrame}
-use Rattle.model.specs.Index.{split-entry, split-set, slot-below}
+use Rattle.model.specs.Laws.Index.{split-entry, split-set, slot-below}
 use Rattle.model.specs.Writeback.{looked, looking, beginsWrite, recordIn, freeFrame}
 use Rattle.model.specs.Writeback
 use Rattle.model.specs.Step.{carried}
-use Rattle.model.specs.Fit.{Fit}
-use Rattle.model.specs.Ruled.{Ruled}
+use Rattle.model.specs.Laws.Fit.{Fit}
+use Rattle.model.specs.Laws.Ruled.{Ruled}
 use Rattle.model.specs.Lent.{stateIn, same-state}
 use Rattle.leaves.specs.Counts.{counts, countsFor, usedCounts, counts-less}
 use Rattle.leaves.specs.Payers as Payers

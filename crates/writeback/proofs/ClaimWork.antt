@@ -26,9 +26,9 @@ use Rattle.model.specs.Questions.{questions}
 use Rattle.model.specs.Writeback.{Looked, look, looked, looking, beginsWrite, zeros, recordIn, freeFrame}
 use Rattle.model.specs.Writeback
 use Rattle.model.specs.Step.{Outcome, outcome, carried, result}
-use Rattle.model.specs.Own.{own, refusal, completed, first-no}
+use Rattle.model.specs.Laws.Own.{own, refusal, completed, first-no}
 use Rattle.leaves.specs.FrameLaws.{frame-take, take-frame}
-use Rattle.model.specs.OwnLaws.{own-yes, own-no}
+use Rattle.model.specs.Laws.OwnLaws.{own-yes, own-no}
 use Rattle.leaves.specs.Payers.{whoPays}
 use Rattle.writeback.specs.Claim.{payerOf, usedThen, usedLeft, LooksEnded}
 use Rattle.writeback.specs.Needs.{Queues, Listed, Claimable}

@@ -17,12 +17,12 @@ use Rattle.model.specs.declared.frame.Frame.{Frame}
 use Rattle.model.specs.Lines.{FREE, LIVE}
 use Rattle.model.specs.State.{State, Files, Frames, files, frames, frameAt, noFrame, READING, slotOf, allPages, payer, charged, live, woven}
 use Rattle.model.specs.Setters.{counted}
-use Rattle.model.specs.Index.{split-entry, split-set}
+use Rattle.model.specs.Laws.Index.{split-entry, split-set}
 use Rattle.model.specs.Questions.{questions}
 use Rattle.model.specs.Writeback
 use Rattle.model.specs.Step.{carried}
-use Rattle.model.specs.Fit.{Fit}
-use Rattle.model.specs.Ruled.{Ruled}
+use Rattle.model.specs.Laws.Fit.{Fit}
+use Rattle.model.specs.Laws.Ruled.{Ruled}
 use Rattle.model.specs.Lent.{stateIn, same-state}
 use Rattle.leaves.specs.Counts.{counts}
 use Rattle.writeback.specs.Seen.{pageDone}

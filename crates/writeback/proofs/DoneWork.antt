@@ -21,8 +21,8 @@ use Rattle.model.specs.Pages.{fresh}
 use Rattle.model.specs.Questions.{questions}
 use Rattle.model.specs.Writeback
 use Rattle.model.specs.Step.{Outcome, carried, result}
-use Rattle.model.specs.Own.{own, completed}
-use Rattle.model.specs.OwnLaws.{own-yes, own-no}
+use Rattle.model.specs.Laws.Own.{own, completed}
+use Rattle.model.specs.Laws.OwnLaws.{own-yes, own-no}
 use Rattle.writeback.specs.Needs.{Queues, InTransfer, Transfers}
 use Rattle.writeback.specs.Seen.{pageDone, seenPageDone}
 use Rattle.leaves.specs.FrameLaws.{frame-take, take-frame}

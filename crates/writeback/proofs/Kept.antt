@@ -11,8 +11,8 @@ use Rattle.model.specs.declared.sizes.Sizes.{Sizes}
 use Rattle.model.specs.Lines.{FREE}
 use Rattle.model.specs.State.{State, Files, Frames, files, frames, slotOf, allPages, mapWords, payer, charged, usedOf, freeWord}
 use Rattle.model.specs.Setters.{counted}
-use Rattle.model.specs.Fit.{Fit}
-use Rattle.model.specs.Ruled.{OfCounts}
+use Rattle.model.specs.Laws.Fit.{Fit}
+use Rattle.model.specs.Laws.Ruled.{OfCounts}
 use Rattle.leaves.specs.Counts.{counts, counts-same, free-same}
 use Rattle.leaves.specs.FreeMap.{free-map-same}
 

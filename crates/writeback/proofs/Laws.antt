@@ -18,8 +18,8 @@ use Rattle.model.specs.Setters.{counted}
 use Rattle.model.specs.Questions.{questions}
 use Rattle.model.specs.Writeback
 use Rattle.model.specs.Step.{carried}
-use Rattle.model.specs.Fit.{Fit}
-use Rattle.model.specs.Ruled.{Ruled}
+use Rattle.model.specs.Laws.Fit.{Fit}
+use Rattle.model.specs.Laws.Ruled.{Ruled}
 use Rattle.model.specs.Lent.{stateIn, same-state}
 use Rattle.writeback.specs.Seen.{mapDone, update}
 use Rattle.leaves.specs.Counts.{counts}

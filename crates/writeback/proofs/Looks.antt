@@ -14,7 +14,7 @@ use Rattle.tables.specs.Rule.{Holds}
 use Rattle.model.specs.declared.frame.Frame.{Frame}
 use Rattle.model.specs.State.{frameAt}
 use Rattle.model.specs.Writeback.{Looked, look, warm, cooled}
-use Rattle.model.specs.LookLaws.{cool, cool-at, warms, warms-le, fewer}
+use Rattle.model.specs.Laws.LookLaws.{cool, cool-at, warms, warms-le, fewer}
 use Rattle.leaves.specs.FrameLaws.{frame-take, take-frame}
 use Rattle.writeback.specs.Claim.{LooksEnded}
 

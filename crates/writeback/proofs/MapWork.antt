@@ -21,13 +21,13 @@ use Rattle.model.specs.Lent.{noPool}
 use Rattle.model.specs.Questions.{questions}
 use Rattle.model.specs.Writeback
 use Rattle.model.specs.Step.{Outcome, carried, result}
-use Rattle.model.specs.Own.{own, completed}
+use Rattle.model.specs.Laws.Own.{own, completed}
 use Rattle.model.specs.Pool.{deposited, deposited-counts}
 use Rattle.leaves.specs.Counts.{free-same, free-most}
 use Rattle.leaves.specs.FreeMap.{freeMap, free-map-same}
 use Rattle.leaves.specs.Freed.{Freed, leaverOf}
 use Rattle.writeback.specs.declared.map_done.Freed as Handed
-use Rattle.model.specs.OwnLaws.{own-yes, own-no}
+use Rattle.model.specs.Laws.OwnLaws.{own-yes, own-no}
 use Rattle.writeback.specs.Needs.{Mapped}
 use Rattle.writeback.specs.Seen.{mapDone, seenMapDone}
 use Rattle.tables.specs.StoreLoops.{part-fits}

@@ -12,8 +12,8 @@ use Rattle.tables.specs.Laws.{not-zero}
 use Rattle.model.specs.declared.sizes.Sizes.{Sizes}
 use Rattle.model.specs.Lines.{NULLED, LIVE}
 use Rattle.model.specs.State.{State, Frames, NONE, files, frames, allPages}
-use Rattle.model.specs.Fit.{Fit}
-use Rattle.model.specs.Ruled.{Ruled, once-free, once-list}
+use Rattle.model.specs.Laws.Fit.{Fit}
+use Rattle.model.specs.Laws.Ruled.{Ruled, once-free, once-list}
 use Rattle.writeback.specs.Needs.{Sized, Queues, Addressed, Transfers, Mapped}
 use Rattle.writeback.proofs.Kept.{map-is}
 

@@ -23,13 +23,13 @@ use Rattle.model.specs.declared.frame.Frame.{Frame}
 use Rattle.model.specs.Lines.{FREE, NULLED, LIVE, RELEASED}
 use Rattle.model.specs.State.{State, Files, Frames, files, frames, frameAt, noFrame, slotOf, pageOf, allPages, payer, charged, usedOf}
 use Rattle.model.specs.Setters.{counted}
-use Rattle.model.specs.Index.{slot-of-page, place-of-page, page-below, from-page}
+use Rattle.model.specs.Laws.Index.{slot-of-page, place-of-page, page-below, from-page}
 use Rattle.model.specs.Parts.{fromPage}
 use Rattle.model.specs.Questions.{questions}
 use Rattle.model.specs.Writeback
 use Rattle.model.specs.Step.{carried}
-use Rattle.model.specs.Fit.{Fit}
-use Rattle.model.specs.Ruled.{Ruled, once-free, once-list}
+use Rattle.model.specs.Laws.Fit.{Fit}
+use Rattle.model.specs.Laws.Ruled.{Ruled, once-free, once-list}
 use Rattle.model.specs.Lent.{stateIn, same-state}
 use Rattle.leaves.specs.Counts.{counts, countsFor, usedCounts}
 use Rattle.leaves.specs.Payers as Payers

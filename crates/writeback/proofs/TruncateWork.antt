@@ -29,9 +29,9 @@ use Rattle.model.specs.Parts.{fromPage}
 use Rattle.model.specs.Questions.{questions}
 use Rattle.model.specs.Writeback
 use Rattle.model.specs.Step.{Outcome, outcome, carried, result}
-use Rattle.model.specs.Own.{own, completed}
+use Rattle.model.specs.Laws.Own.{own, completed}
 use Rattle.leaves.specs.FrameLaws.{frameIn, frame-take, frame-found}
-use Rattle.model.specs.OwnLaws.{own-yes, own-no}
+use Rattle.model.specs.Laws.OwnLaws.{own-yes, own-no}
 use Rattle.leaves.specs.Payers.{whoPays}
 use Rattle.writeback.specs.Needs.{Sized, Queues, Placed, Addressed, Releasable, Paid}
 use Rattle.writeback.specs.Pages.{framed, live, charged, liveFrom, chargesFrom}

@@ -20,9 +20,9 @@ use Rattle.model.specs.Setters.{counted}
 use Rattle.model.specs.Questions.{questions, wouldStore}
 use Rattle.model.specs.Writeback
 use Rattle.model.specs.Step.{Outcome, carried, result}
-use Rattle.model.specs.Own.{own}
+use Rattle.model.specs.Laws.Own.{own}
 use Rattle.leaves.specs.FrameLaws.{frame-take}
-use Rattle.model.specs.OwnLaws.{own-yes, own-no}
+use Rattle.model.specs.Laws.OwnLaws.{own-yes, own-no}
 use Rattle.leaves.specs.Addresses.{liveAddress}
 use Rattle.writeback.specs.Needs.{Sized, Addressed}
 use Rattle.writeback.specs.Seen.{update, seenUpdate}

@@ -10,7 +10,7 @@ ghost use Rattle.leaves.specs.Packed.{framesGiven, framesEntered, framesLeft};
 ghost use Rattle.leaves.specs.Payers.{whoPays};
 ghost use Rattle.model.specs.Lines.{NULLED, LIVE};
 ghost use Rattle.model.specs.Writeback.{warm};
-ghost use Rattle.model.specs.Own.{own};
+ghost use Rattle.model.specs.Laws.Own.{own};
 ghost use Rattle.writeback.specs.Claim.{usedLeft, LooksGiven, LooksLeft};
 ghost use Rattle.writeback.specs.Needs.{Queues, Claimable};
 ghost use Rattle.writeback.specs.Seen.{claim, enteredClaim};

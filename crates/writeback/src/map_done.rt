@@ -6,7 +6,7 @@ ghost use Rattle.model.specs.declared.frame.Pool.{Pool};
 ghost use Rattle.model.specs.State.{freeCount};
 ghost use Rattle.model.specs.Pool.{deposited};
 ghost use Rattle.model.specs.Questions.{questions};
-ghost use Rattle.model.specs.Own.{own};
+ghost use Rattle.model.specs.Laws.Own.{own};
 ghost use Rattle.model.specs.Lent.{noPool};
 ghost use Rattle.writeback.specs.Needs.{Mapped};
 ghost use Rattle.writeback.specs.Seen.{mapDone, enteredMapDone, askedMapDone};

@@ -5,7 +5,7 @@ ghost use mathlib.Core.Logic.{_⊎_};
 ghost use Rattle.tables.specs.Base.{at};
 ghost use Rattle.tables.specs.Questions.{firstNo};
 ghost use Rattle.model.specs.Lines.{NULLED, LIVE};
-ghost use Rattle.model.specs.Own.{own};
+ghost use Rattle.model.specs.Laws.Own.{own};
 ghost use Rattle.model.specs.Questions.{questions};
 ghost use Rattle.leaves.specs.Packed.{framesGiven, framesEntered, framesLeft};
 ghost use Rattle.writeback.specs.Needs.{Queues, Transfers};

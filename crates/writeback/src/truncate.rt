@@ -5,7 +5,7 @@ ghost use Prim.Native.Nat.{_<_};
 ghost use Rattle.tables.specs.Base.{if};
 ghost use Rattle.tables.specs.Questions.{firstNo};
 ghost use Rattle.tables.specs.Rule.{test};
-ghost use Rattle.model.specs.Own.{own};
+ghost use Rattle.model.specs.Laws.Own.{own};
 ghost use Rattle.model.specs.Questions.{questions};
 ghost use Rattle.leaves.specs.Packed.{unpacked, framesGiven, framesEntered, framesLeft};
 ghost use Rattle.writeback.specs.ByPage.{modifiedEntry, chargedEntry};

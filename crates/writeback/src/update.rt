@@ -6,7 +6,7 @@ ghost use Rattle.tables.specs.Base.{at};
 ghost use Rattle.tables.specs.Questions.{firstNo};
 ghost use Rattle.tables.specs.Rule.{Holds, same};
 ghost use Rattle.tables.specs.Store.{store, Split};
-ghost use Rattle.model.specs.Own.{own};
+ghost use Rattle.model.specs.Laws.Own.{own};
 ghost use Rattle.model.specs.Questions.{questions};
 ghost use Rattle.model.specs.State.{allPages};
 ghost use Rattle.leaves.specs.Addresses.{liveAddress};

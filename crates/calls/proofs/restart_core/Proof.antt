@@ -10,7 +10,7 @@ use Rattle.model.specs.State.{State}
 use Rattle.model.specs.Rules.{diskRules}
 use Rattle.model.specs.Lent.{stateOf, allOf}
 use Rattle.model.specs.Step.{allFit}
-use Rattle.model.specs.Fit.{sizes-fit, fit-disk}
+use Rattle.model.specs.Laws.Fit.{sizes-fit, fit-disk}
 use Rattle.model.specs.Calls.{framesOf, length-frames}
 use Rattle.restarts.specs.Restarts.{seen, ready}
 use Rattle.restarts.specs.Answers.{fit-told, disk-told, restarted-tables, restart-unfit, restart-unruled}

@@ -3,7 +3,7 @@ use borrow.Author.Needs.{needs}
 use native.Mathlib.Omega.{arith}
 use Rattle.tables.specs.Rule.{Holds}
 use Rattle.tables.specs.Turn.{said-yes, said-no}
-use Rattle.model.specs.Fit.{within}
+use Rattle.model.specs.Laws.Fit.{within}
 use Rattle.mending.specs.Mend.{Lent}
 use Rattle.mending.specs.Steps.{lentOf}
 use Rattle.mending.specs.Answers.{fits, roomy, mend-unfit, mend-short, places-most, given-first, chain-none, chain-next, given-next, given-accounts, given-maps, chain-fit, chain-most, chain-all}

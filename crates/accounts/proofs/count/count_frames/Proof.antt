@@ -5,7 +5,7 @@ use Prim.Native.Nat.{_-_, _<_, _≤_}
 use native.Mathlib.Omega.{arith}
 use lib.ListN.{length}
 use Rattle.model.specs.State.{frameAt}
-use Rattle.model.specs.Woven.{wovenPage, woven-least}
+use Rattle.model.specs.Laws.Woven.{wovenPage, woven-least}
 use Rattle.leaves.specs.Packed.{unpacked}
 use Rattle.rules.proofs.Charges.{Tallied, tallied-none, tallied-next, tallied-few, tallied-all}
 use Rattle.accounts.proofs.count.count_frames.Statement.{statement}

@@ -6,7 +6,7 @@ use Prim.Native.Nat.{ℕ}
 use native.Mathlib.Omega.{arith}
 use lib.ListN.{length-replicate}
 use Rattle.tables.specs.Laws.{at-zeros}
-use Rattle.model.specs.Bounds.{pages-most}
+use Rattle.model.specs.Laws.Bounds.{pages-most}
 use Rattle.leaves.specs.Packed.{unpacked}
 use Rattle.accounts.proofs.Counted.{payers-enough, payers-few, pages-inside, sums-few, counts}
 use Rattle.accounts.proofs.count.count_used.Statement.{statement}

@@ -14,8 +14,8 @@ use Rattle.model.specs.declared.event.Account.{Account}
 use Rattle.model.specs.declared.event.Account.the-variants.{Limit}
 use Rattle.model.specs.declared.event.Event.the-variants as Event
 use Rattle.model.specs.State.{State}
-use Rattle.model.specs.Own.{first-no}
-use Rattle.model.specs.OwnLaws.{own-no}
+use Rattle.model.specs.Laws.Own.{first-no}
+use Rattle.model.specs.Laws.OwnLaws.{own-no}
 use Rattle.leaves.specs.Packed.{unpacked}
 use Rattle.accounts.specs.Seen.{seen}
 use Rattle.accounts.specs.Asks.{staysPayer}

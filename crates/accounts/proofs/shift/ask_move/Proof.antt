@@ -5,7 +5,7 @@ use Rattle.tables.specs.Base.{at}
 use Rattle.tables.specs.Questions.{yes-all}
 use Rattle.tables.specs.Rule.{Rule, Holds, below, _and_, test}
 use Rattle.tables.specs.Turn.{learn, unlearn}
-use Rattle.model.specs.Own.{first-yes, first-no}
+use Rattle.model.specs.Laws.Own.{first-yes, first-no}
 use Rattle.accounts.specs.Asks.{kin}
 use Rattle.accounts.proofs.shift.ask_move.Statement.{statement}
 use Rattle.accounts.proofs.shift.ask_move.Tie as tie

@@ -18,8 +18,8 @@ use Rattle.model.specs.Accounts.{shifted}
 use Rattle.model.specs.Accounts as Accounts
 use Rattle.model.specs.Setters.{counted}
 use Rattle.model.specs.Questions.{questions}
-use Rattle.model.specs.Own.{first-yes, first-no}
-use Rattle.model.specs.OwnLaws.{own-no}
+use Rattle.model.specs.Laws.Own.{first-yes, first-no}
+use Rattle.model.specs.Laws.OwnLaws.{own-no}
 use Rattle.leaves.specs.Packed.{unpacked}
 use Rattle.accounts.specs.Seen.{seen}
 use Rattle.accounts.specs.Asks.{firstAsked, kin, enough}

@@ -4,8 +4,8 @@ use native.Mathlib.Omega.{arith}
 use lib.ListN.{take}
 use Rattle.model.specs.State.{State}
 use Rattle.model.specs.Lent.{allGiven}
-use Rattle.model.specs.Fit.{Fit, fit}
-use Rattle.model.specs.Bounds.{pages-most}
+use Rattle.model.specs.Laws.Fit.{Fit, fit}
+use Rattle.model.specs.Laws.Bounds.{pages-most}
 use Rattle.leaves.specs.Packed.{unpacked}
 use Rattle.calls.specs.Lined.{fit-quiet, ruled-told-lined}
 use Rattle.calls.proofs.lent.lent_rules.Statement.{statement}

@@ -11,7 +11,7 @@ use Rattle.model.specs.State.{State}
 use Rattle.model.specs.Rules.{allRules}
 use Rattle.model.specs.Lent.{allGiven}
 use Rattle.model.specs.Step.{allFit}
-use Rattle.model.specs.Fit.{fit}
+use Rattle.model.specs.Laws.Fit.{fit}
 use Rattle.model.specs.Calls.{framesOf}
 use Rattle.leaves.specs.Packed.{unpacked, unpacked-length}
 use Rattle.calls.specs.Frames.{lent-first}

@@ -4,7 +4,7 @@ use mathlib.Core.Path.{_≡_, sym, _∙_}
 use Rattle.tables.specs.Questions.{Questions, ask, firstNo, yes-all}
 use Rattle.tables.specs.Also.{_also_}
 use Rattle.tables.specs.Rule.{Rule, below}
-use Rattle.model.specs.Own.{first-no}
+use Rattle.model.specs.Laws.Own.{first-no}
 use Rattle.leaves.specs.Asks.{askFilled, one-below, part-no, part-yes}
 use Rattle.designs.specs.Asks.{inactiveAsked}
 use Rattle.designs.proofs.asks.ask_activate.Statement.{statement}

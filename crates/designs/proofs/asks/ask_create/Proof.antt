@@ -3,7 +3,7 @@ use borrow.Author.Needs.{needs}
 use mathlib.Core.Path.{sym, _∙_}
 use Rattle.tables.specs.Questions.{yes-all}
 use Rattle.tables.specs.Turn.{said-yes, said-no}
-use Rattle.model.specs.Own.{first-yes, first-no}
+use Rattle.model.specs.Laws.Own.{first-yes, first-no}
 use Rattle.designs.specs.Asks.{newNumber}
 use Rattle.designs.proofs.Tests.{three-yes, three-no}
 use Rattle.designs.proofs.asks.ask_create.Statement.{statement}

@@ -6,8 +6,8 @@ use Rattle.tables.specs.Questions.{Questions, ask, firstNo, yes-all}
 use Rattle.tables.specs.Also.{_also_}
 use Rattle.tables.specs.Rule.{Rule, below}
 use Rattle.tables.specs.Turn.{said-yes, said-no}
-use Rattle.model.specs.Own.{first-yes, first-no}
-use Rattle.model.specs.Bounds.{slot-most}
+use Rattle.model.specs.Laws.Own.{first-yes, first-no}
+use Rattle.model.specs.Laws.Bounds.{slot-most}
 use Rattle.leaves.specs.Asks.{askFilled, one-below, part-no, part-yes, part-range}
 use Rattle.designs.specs.Asks.{zeroMap, emptyAsked}
 use Rattle.designs.proofs.asks.ask_delete.Statement.{statement}

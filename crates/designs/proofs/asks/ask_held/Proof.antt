@@ -6,8 +6,8 @@ use lib.ListN.{take}
 use Rattle.tables.specs.Questions.{yes-all}
 use Rattle.tables.specs.Rule.{Rule, Holds}
 use Rattle.tables.specs.Turn.{said-yes, said-no}
-use Rattle.model.specs.Own.{first-yes, first-no}
-use Rattle.model.specs.Bounds.{slot-most}
+use Rattle.model.specs.Laws.Own.{first-yes, first-no}
+use Rattle.model.specs.Laws.Bounds.{slot-most}
 use Rattle.leaves.specs.Packed.{unpacked}
 use Rattle.designs.specs.Asks.{unframed, trueMap, settled}
 use Rattle.designs.proofs.Tests.{unframed-taken}

@@ -10,7 +10,7 @@ use Rattle.model.specs.declared.event.Design.the-variants as Design
 use Rattle.model.specs.declared.event.Event.the-variants as Event
 use Rattle.model.specs.State.{State}
 use Rattle.model.specs.Questions.{questions}
-use Rattle.model.specs.OwnLaws.{own-no}
+use Rattle.model.specs.Laws.OwnLaws.{own-no}
 use Rattle.leaves.specs.Packed.{unpacked}
 use Rattle.designs.specs.Seen.{seenTurns}
 use Rattle.designs.proofs.Carried.{carried-out, deactivate-addresses, deactivate-states, deactivate-active, live-filed}

@@ -2,7 +2,7 @@
 use borrow.Author.Needs.{needs}
 use mathlib.Core.Path.{sym, _∙_}
 use Rattle.tables.specs.Questions.{yes-all}
-use Rattle.model.specs.Own.{first-yes, first-no}
+use Rattle.model.specs.Laws.Own.{first-yes, first-no}
 use Rattle.leaves.proofs.asks.ask_filled.Statement.{statement}
 use Rattle.leaves.proofs.asks.ask_filled.Tie as tie
 

@@ -3,7 +3,7 @@ use borrow.Author.Needs.{needs}
 use mathlib.Core.Path.{_≡_, sym, _∙_}
 use Rattle.tables.specs.Questions.{firstNo, yes-all}
 use Rattle.tables.specs.Also.{also-yes, also-no}
-use Rattle.model.specs.Own.{first-no}
+use Rattle.model.specs.Laws.Own.{first-no}
 use Rattle.leaves.specs.Asks.{slotAsked, askNoUpdate, idleAsked}
 use Rattle.leaves.proofs.asks.ask_idle.Statement.{statement}
 use Rattle.leaves.proofs.asks.ask_idle.Tie as tie

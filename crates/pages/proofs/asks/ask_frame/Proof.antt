@@ -6,7 +6,7 @@ use Prim.Native.Nat.{_<_}
 use Rattle.tables.specs.Questions.{yes-all}
 use Rattle.tables.specs.Rule.{sound, complete}
 use Rattle.model.specs.State.{frameAt}
-use Rattle.model.specs.Own.{first-yes, first-no}
+use Rattle.model.specs.Laws.Own.{first-yes, first-no}
 use Rattle.pages.proofs.ItsFrame.{its-none, its-some, its-tells, its-told}
 use Rattle.leaves.specs.FrameLaws.{frameIn}
 use Rattle.leaves.specs.Packed.{unpacked}

@@ -1,7 +1,7 @@
 -- `page_of` meets its contract: the place is far below what a word holds.
 use borrow.Author.Needs.{needs}
 use native.Mathlib.Omega.{arith}
-use Rattle.model.specs.Bounds.{slot-most}
+use Rattle.model.specs.Laws.Bounds.{slot-most}
 use Rattle.pages.proofs.asks.page_of.Statement.{statement}
 use Rattle.pages.proofs.asks.page_of.Tie as tie
 

@@ -1,7 +1,7 @@
 -- `word_of` meets its contract: the place is far below what a word holds.
 use borrow.Author.Needs.{needs}
 use native.Mathlib.Omega.{arith}
-use Rattle.model.specs.Bounds.{frame-most}
+use Rattle.model.specs.Laws.Bounds.{frame-most}
 use Rattle.pages.proofs.asks.word_of.Statement.{statement}
 use Rattle.pages.proofs.asks.word_of.Tie as tie
 

@@ -6,7 +6,7 @@ use Rattle.tables.specs.Laws.{T→true}
 use Rattle.tables.specs.Questions.{firstNo, all-yes}
 use Rattle.tables.specs.Also.{also-yes, also-no}
 use Rattle.model.specs.State.{pageOf}
-use Rattle.model.specs.Bounds.{page-most}
+use Rattle.model.specs.Laws.Bounds.{page-most}
 use Rattle.leaves.specs.Asks.{slotAsked}
 use Rattle.leaves.specs.Packed.{framesGiven}
 use Rattle.pages.specs.Faults.{awayAsked, supplyAsked}

@@ -5,7 +5,7 @@ use native.Mathlib.Omega.{arith}
 use Rattle.tables.specs.Base.{at}
 use Rattle.tables.specs.Queue.{size, queue}
 use Rattle.tables.specs.Rule.{Holds}
-use Rattle.model.specs.Bounds.{page-most}
+use Rattle.model.specs.Laws.Bounds.{page-most}
 use lib.ListN.{length}
 use Prim.Native.Nat.{_<_}
 use Rattle.leaves.specs.Packed.{unpacked}

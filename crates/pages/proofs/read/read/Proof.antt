@@ -6,7 +6,7 @@ use mathlib.Core.List.{[]}
 use Rattle.model.specs.declared.event.Event.{Event}
 use Rattle.model.specs.declared.event.Event.the-variants as Event
 use Rattle.model.specs.declared.event.Page.the-variants as Page
-use Rattle.model.specs.OwnLaws.{own-no, own-yes}
+use Rattle.model.specs.Laws.OwnLaws.{own-no, own-yes}
 use Rattle.leaves.specs.Packed.{unpacked}
 use Rattle.pages.proofs.Served.{Call, state, word-range}
 use Rattle.pages.proofs.InFrame.{word-answer, read-answer, read-frames}

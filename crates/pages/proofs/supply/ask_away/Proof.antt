@@ -6,7 +6,7 @@ use Prim.Native.Nat.{_<_, _≤_}
 use mathlib.Core.List.{List}
 use Rattle.tables.specs.Questions.{yes-all}
 use Rattle.model.specs.State.{frameAt}
-use Rattle.model.specs.Own.{first-yes, first-no}
+use Rattle.model.specs.Laws.Own.{first-yes, first-no}
 use Rattle.model.specs.declared.frame.Frame.{Frame}
 use Rattle.leaves.specs.FrameLaws.{frameIn, isStill}
 use Rattle.leaves.specs.Packed.{unpacked}

@@ -9,7 +9,7 @@ use Rattle.tables.specs.Base.{if, at}
 use Rattle.tables.specs.Questions.{yes-all}
 use Rattle.tables.specs.QueueEntries.{size-zero, size-more}
 use Rattle.tables.specs.Rule.{same, below, non, _or_, test, sound, complete}
-use Rattle.model.specs.Own.{first-yes, first-no}
+use Rattle.model.specs.Laws.Own.{first-yes, first-no}
 use Rattle.pages.proofs.Ways.{supplied-told}
 use Rattle.pages.proofs.supply.ask_supply.Statement.{statement}
 use Rattle.pages.proofs.supply.ask_supply.Tie as tie

@@ -2,8 +2,8 @@
 use mathlib.Core.Bool.{and-assoc}
 use native.Mathlib.Omega.{arith}
 use Rattle.tables.specs.Rule.{test}
-use Rattle.model.specs.Fit.{within}
-use Rattle.model.specs.Bounds.{pages-most, record-words-most}
+use Rattle.model.specs.Laws.Fit.{within}
+use Rattle.model.specs.Laws.Bounds.{pages-most, record-words-most}
 use Rattle.questions.proofs.question1.disk_lengths_fit.Statement.{statement}
 use Rattle.questions.proofs.question1.disk_lengths_fit.Tie as tie
 

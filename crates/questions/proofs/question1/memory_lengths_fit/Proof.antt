@@ -6,8 +6,8 @@ use lib.ListN.{length}
 use native.Mathlib.Omega.{arith}
 use Rattle.tables.specs.Queue.{packed}
 use Rattle.tables.specs.Rule.{test}
-use Rattle.model.specs.Fit.{within}
-use Rattle.model.specs.Bounds.{pages-most, frame-words-most}
+use Rattle.model.specs.Laws.Fit.{within}
+use Rattle.model.specs.Laws.Bounds.{pages-most, frame-words-most}
 use Rattle.questions.proofs.GroupLaws.{twelve}
 use Rattle.questions.proofs.question1.memory_lengths_fit.Statement.{statement}
 use Rattle.questions.proofs.question1.memory_lengths_fit.Tie as tie

@@ -9,11 +9,11 @@ use Rattle.tables.specs.Base.{at}
 use Rattle.tables.specs.Turn.{learn}
 use Rattle.tables.specs.Laws.{at-zeros}
 use Rattle.model.specs.State.{State, allPages, files, frameAt}
-use Rattle.model.specs.Ruled.{OnDisk}
+use Rattle.model.specs.Laws.Ruled.{OnDisk}
 use Rattle.leaves.specs.Packed.{unpacked}
 use Rattle.leaves.specs.Payers.{Paying, paying, paying-below}
-use Rattle.model.specs.Fit.{Fit, fit}
-use Rattle.model.specs.Bounds.{pages-most}
+use Rattle.model.specs.Laws.Fit.{Fit, fit}
+use Rattle.model.specs.Laws.Bounds.{pages-most}
 use Rattle.model.specs.Lent.{stateOf}
 use Rattle.questions.proofs.Shapes.{all-zero}
 use Rattle.questions.proofs.DiskLaw.{on-disk}

@@ -5,7 +5,7 @@ use Prim.Native.Nat.{ℕ}
 use native.Mathlib.Omega.{arith}
 use lib.ListN.{length-replicate}
 use Rattle.tables.specs.Laws.{at-zeros}
-use Rattle.model.specs.Fit.{within}
+use Rattle.model.specs.Laws.Fit.{within}
 use Rattle.model.specs.Lent.{diskOf}
 use Rattle.questions.proofs.DiskLaw.{disk-told}
 use Rattle.questions.proofs.question2.disk_rules.Statement.{statement}

@@ -11,7 +11,7 @@ use Rattle.tables.specs.Rule.{_and_, below, named, test}
 use Rattle.tables.specs.Turn.{Passed, none, again, done, learn, unlearn, yes-so, not-so, both}
 use Rattle.model.specs.declared.frame.Frame.{Frame}
 use Rattle.model.specs.State.{frameAt}
-use Rattle.model.specs.Woven.{wovenPage, woven-least}
+use Rattle.model.specs.Laws.Woven.{wovenPage, woven-least}
 use Rattle.leaves.specs.Packed.{unpacked}
 use Rattle.rules.specs.Passes.{Prefix, unmarked, noted, addressOf, frameRow, cleanFrame}
 use Rattle.rules.proofs.Entries.{part, named-le}

@@ -10,11 +10,11 @@ use Rattle.model.specs.declared.event.Event.{Event}
 use Rattle.model.specs.declared.event.Event.the-variants as Event
 use Rattle.model.specs.declared.event.Waiting.the-variants as Waiting
 use Rattle.model.specs.State.{State, LINE, allPages, pageOf}
-use Rattle.model.specs.Bounds.{page-most}
+use Rattle.model.specs.Laws.Bounds.{page-most}
 use Rattle.model.specs.Line.{join}
 use Rattle.model.specs.Step.{carried, result}
-use Rattle.model.specs.Own.{first-yes, first-no}
-use Rattle.model.specs.OwnLaws.{own-no, own-yes}
+use Rattle.model.specs.Laws.Own.{first-yes, first-no}
+use Rattle.model.specs.Laws.OwnLaws.{own-no, own-yes}
 use Rattle.pages.proofs.Served.{pageRange, page-test, page-range}
 use Rattle.waiting.specs.Seen.{seenLine}
 use Rattle.waiting.proofs.join.join.Statement.{statement}

@@ -6,7 +6,7 @@ use Rattle.model.specs.State.{State}
 use Rattle.model.specs.Lent.{allGiven}
 use Rattle.model.specs.Pool.{taken, deposited}
 use Rattle.leaves.specs.Packed.{framesGiven, unpacked}
-use Rattle.model.specs.LineLaws.{InFrame}
+use Rattle.model.specs.Laws.LineLaws.{InFrame}
 use Rattle.pages.specs.Faults.{fault-left}
 use Rattle.pages.proofs.ItsFrame.{its-in}
 use Rattle.dispatch.proofs.FaultLaws.{fault-ready}

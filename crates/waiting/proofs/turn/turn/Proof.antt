@@ -10,13 +10,13 @@ use Rattle.tables.specs.Rule.{test}
 use Rattle.model.specs.declared.frame.Frame.{Frame}
 use Rattle.model.specs.State.{State, NONE, frameAt}
 use Rattle.model.specs.Setters.{setLine}
-use Rattle.model.specs.Bounds.{pages-most}
+use Rattle.model.specs.Laws.Bounds.{pages-most}
 use Rattle.model.specs.Lent.{allGiven}
 use Rattle.model.specs.Pool.{taken, deposited}
 use Rattle.leaves.specs.Packed.{framesGiven, unpacked}
 use Rattle.model.specs.Questions.{still, nextPage}
-use Rattle.model.specs.LineLaws.{Waiting, InFrame}
-use Rattle.model.specs.Own.{leaves}
+use Rattle.model.specs.Laws.LineLaws.{Waiting, InFrame}
+use Rattle.model.specs.Laws.Own.{leaves}
 use Rattle.leaves.specs.FrameLaws.{frameIn}
 use Rattle.pages.proofs.ItsFrame.{its-some}
 use Rattle.dispatch.proofs.PageLaws.{served-ready}

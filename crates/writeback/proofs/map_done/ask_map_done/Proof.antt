@@ -3,7 +3,7 @@ use borrow.Author.Needs.{needs}
 use mathlib.Core.Path.{sym, _∙_}
 use native.Mathlib.Omega.{arith}
 use Rattle.tables.specs.Questions.{yes-all}
-use Rattle.model.specs.Own.{first-yes, first-no}
+use Rattle.model.specs.Laws.Own.{first-yes, first-no}
 use Rattle.writeback.proofs.map_done.ask_map_done.Statement.{statement}
 use Rattle.writeback.proofs.map_done.ask_map_done.Tie as tie
 

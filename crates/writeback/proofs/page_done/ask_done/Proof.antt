@@ -4,7 +4,7 @@ use mathlib.Core.Path.{ap, sym, _∙_}
 use native.Mathlib.Omega.{arith}
 use Rattle.tables.specs.Questions.{yes-all}
 use Rattle.model.specs.declared.frame.Frame.{Frame}
-use Rattle.model.specs.Own.{first-yes, first-no}
+use Rattle.model.specs.Laws.Own.{first-yes, first-no}
 use Rattle.leaves.specs.FrameLaws.{frame-take}
 use Rattle.leaves.specs.Packed.{unpacked}
 use Rattle.writeback.proofs.page_done.ask_done.Statement.{statement}

@@ -11,7 +11,7 @@ use Rattle.tables.specs.Questions.{firstNo, yes-all}
 use Rattle.tables.specs.Rule.{Holds}
 use Rattle.model.specs.declared.frame.Frame.{Frame}
 use Rattle.model.specs.State.{frameAt}
-use Rattle.model.specs.Own.{first-yes, first-no}
+use Rattle.model.specs.Laws.Own.{first-yes, first-no}
 use Rattle.leaves.specs.Packed.{unpacked}
 use Rattle.writeback.specs.Truncate.{quiet, allQuiet, askFrames}
 use Rattle.writeback.proofs.Cut.{not-false}

@@ -5,7 +5,7 @@ use native.Mathlib.Omega.{arith}
 use Rattle.tables.specs.StoreLoops.{part-fits}
 use Rattle.model.specs.declared.sizes.Sizes.{Sizes}
 use Rattle.model.specs.State.{allPages, pageOf}
-use Rattle.model.specs.Fit.{Within}
+use Rattle.model.specs.Laws.Fit.{Within}
 
 product : (a b m n : ℕ) → a < m + 1 → b < n + 1 → a * b ≤ m * n
 product a b m n h k = mul-le-mul {n₂ = m} {m₂ = n} (omega arith) (omega arith)

@@ -2,16 +2,16 @@
 use mathlib.Core.Path.{_≡_, refl}
 use mathlib.Core.List.{List, [], _∷_, _++_}
 use Prim.Native.Nat.{ℕ}
 use Rattle.model.specs.declared.sizes.Sizes.{Sizes}
 use Rattle.model.specs.declared.event.Account.the-variants.{Limit}
 use Rattle.model.specs.declared.event.Event.the-variants as Event
 use Rattle.model.specs.State.{State, READING, WRITING}
 use Rattle.model.specs.Setters.{onDisk, onCore, onHeld, onSlots, setRecords, setNumbers, setAccounts, setMaps, setParents, setWords, setFreeQueue, setRemovalList, setAddresses, setStates, setOwners, setFreeMap, setHand, setFree, setActive, setUpdating, setImages, setUsed, setUsedSwitch, setModified, setWired, setInitial, setTransfer, counted}
 use Rattle.model.specs.Pages.{onFrame, fresh}
 use Rattle.model.specs.Step
-use Rattle.model.specs.Lists.{create, activate, deactivate, fault, write, wire, claim, truncate, update, pageDone, mapDone, restart, small, says, leaves}
-use Rattle.model.specs.Edges.{opened, listing}
-use Rattle.model.specs.RuleList.{ofDisk, ofAll, saysNo}
+use Rattle.edges.specs.Lists.{create, activate, deactivate, fault, write, wire, claim, truncate, update, pageDone, mapDone, restart, small, says, leaves}
+use Rattle.edges.specs.Edges.{opened, listing}
+use Rattle.edges.specs.RuleList.{ofDisk, ofAll, saysNo}
 
 -- ── the tables ──
 -- the event program's sizes, with a second account

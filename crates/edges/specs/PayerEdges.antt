@@ -3,13 +3,13 @@ use mathlib.Core.Path.{_≡_, refl}
 use mathlib.Core.List.{List, [], _∷_, _++_}
 use Prim.Native.Nat.{ℕ, _+_}
 use lib.ListN.{replicate}
 use Rattle.model.specs.declared.sizes.Sizes.{Sizes}
 use Rattle.model.specs.State.{Disk, State}
 use Rattle.model.specs.Setters.{onDisk, setParents}
 use Rattle.model.specs.Restart.{formatted}
 use Rattle.model.specs.Step
 use Rattle.model.specs.Acts.{Act, run}
-use Rattle.model.specs.Lists.{limit, move, create, delete, activate, fault, write, restart, said, beginWith, saysFrom}
+use Rattle.edges.specs.Lists.{limit, move, create, delete, activate, fault, write, restart, said, beginWith, saysFrom}
 
 -- four accounts
 abbrev four : Sizes

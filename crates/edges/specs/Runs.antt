@@ -4,12 +4,12 @@ use mathlib.Core.List.{List, [], _∷_, _++_}
 use Prim.Native.Nat.{ℕ}
 use lib.Dec.{T, eqb}
 use Rattle.tables.specs.Rule.{test}
 use Rattle.model.specs.Rules.{allRules}
 use Rattle.model.specs.Acts.{Act, World, act, legal}
 use Rattle.model.specs.Demand3.{lastInto, lastUpdate, eachOf, someOf, ownWords, liveListed, liveReads, demand3}
 use Rattle.model.specs.FromPack.{writtenWords, packWords, writtenReads, packReads, birthMaps, fromPack}
-use Rattle.model.specs.Linked.{linked}
-use Rattle.model.specs.Lists.{limit, create, delete, activate, deactivate, fault, read, write, wire, unwire, claim, truncate, update, pageDone, mapDone, look, restart, small, cut, said, begin}
+use Rattle.edges.specs.Linked.{linked}
+use Rattle.edges.specs.Lists.{limit, create, delete, activate, deactivate, fault, read, write, wire, unwire, claim, truncate, update, pageDone, mapDone, look, restart, small, cut, said, begin}
 
 -- the claim from any pack and the invariant hold, and once restarted the rules
 unfoldable pub right : World → Bool

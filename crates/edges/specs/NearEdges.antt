@@ -2,9 +2,9 @@
 use mathlib.Core.Path.{_≡_, refl}
 use mathlib.Core.List.{List, [], _∷_, _++_}
 use Prim.Native.Nat.{ℕ}
 use Rattle.model.specs.declared.sizes.Sizes.{Sizes}
 use Rattle.model.specs.Acts.{Act}
-use Rattle.model.specs.Lists.{limit, create, activate, fault, write, claim, truncate, update, pageDone, mapDone, restart, sized, trace, says, leaves}
+use Rattle.edges.specs.Lists.{limit, create, activate, fault, write, claim, truncate, update, pageDone, mapDone, restart, sized, trace, says, leaves}
 
 -- two active designs, in slots 0 and 1
 abbrev opened : List Act

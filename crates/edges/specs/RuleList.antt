@@ -5,10 +5,10 @@ use Prim.Native.Nat.{ℕ, suc}
 use Rattle.tables.specs.Base.{if, at}
 use Rattle.tables.specs.Queue.{queue, queueOf}
 use Rattle.tables.specs.Rule.{Rule, same, below, each, _and_, test}
 use Rattle.model.specs.declared.sizes.Sizes.{Sizes}
 use Rattle.model.specs.State.{State, Files, Frames, files, frames, LINE, allPages, mapWords, freeCount, freeWord, usedOf}
 use Rattle.model.specs.Rules
-use Rattle.model.specs.Lists.{said}
+use Rattle.edges.specs.Lists.{said}
 
 module _ (z : Sizes) (st : State) where
   abbrev v : Files

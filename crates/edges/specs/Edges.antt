@@ -4,11 +4,11 @@ use mathlib.Core.Bool.{Bool, true, false, _&&_}
 use mathlib.Core.List.{List, [], _∷_, _++_}
 use Prim.Native.Nat.{ℕ}
 use lib.Dec.{T, eqb}
 use Rattle.model.specs.declared.frame.Frame.{Frame}
 use Rattle.model.specs.State.{State}
 use Rattle.model.specs.Step
 use Rattle.model.specs.Acts.{Act}
-use Rattle.model.specs.Lists.{limit, create, activate, fault, read, write, wire, unwire, claim, truncate, update, pageDone, mapDone, restart, sized, small, junk, cut, trace, begin, says, leaves}
+use Rattle.edges.specs.Lists.{limit, create, activate, fault, read, write, wire, unwire, claim, truncate, update, pageDone, mapDone, restart, sized, small, junk, cut, trace, begin, says, leaves}
 
 -- a design of limit n with page 0 in a frame
 abbrev pub opened : ℕ → List Act

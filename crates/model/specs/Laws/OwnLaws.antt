@@ -7,7 +7,7 @@ use Rattle.model.specs.declared.event.Event.{Event}
 use Rattle.model.specs.State.{State}
 use Rattle.model.specs.Questions.{questions}
 use Rattle.model.specs.Step.{Outcome, outcome, carried, result}
-use Rattle.model.specs.Own.{own, refusal, completed}
+use Rattle.model.specs.Laws.Own.{own, refusal, completed}
 
 pub outcome-no : {A : Type 0} (n result : ℕ) (old new : A) → ¬ (n ≡ 0) → outcome n result old new ≡ record { answer = record { refusal = n; result = 0 }; left = old }
 outcome-no zero result old new h = absurd (h refl)

@@ -5,16 +5,16 @@ use Prim.Native.Nat.{ℕ}
 use lib.Dec.{T}
 use lib.ListN.{replicate}
 use Rattle.tables.specs.Queue.{members}
 use Rattle.model.specs.declared.frame.Frame.{Frame}
 use Rattle.model.specs.declared.sizes.Sizes.{Sizes}
 use Rattle.model.specs.declared.event.Waiting.the-variants.{Turn}
 use Rattle.model.specs.declared.event.Event.the-variants as Event
 use Rattle.model.specs.State.{State, frameAt, WRITING}
 use Rattle.model.specs.Setters.{setUsed}
 use Rattle.model.specs.Step.{step}
 use Rattle.model.specs.Acts.{Act}
-use Rattle.model.specs.Lists.{create, fault, write, wire, claim, pageDone, restart, join, turn, small, sized, says, leaves}
-use Rattle.model.specs.Edges.{opened, listing, tables, equal}
+use Rattle.edges.specs.Lists.{create, fault, write, wire, claim, pageDone, restart, join, turn, small, sized, says, leaves}
+use Rattle.edges.specs.Edges.{opened, listing, tables, equal}
 
 -- the pages that wait, once the list is carried out
 unfoldable waiting : Sizes → List Act → List ℕ

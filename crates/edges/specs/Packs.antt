@@ -4,15 +4,15 @@ use mathlib.Core.Bool.{Bool, _&&_}
 use mathlib.Core.List.{List, [], _∷_, _++_}
 use Prim.Native.Nat.{ℕ}
 use lib.Dec.{T}
 use Rattle.model.specs.State.{Disk}
 use Rattle.model.specs.Setters.{onDisk, setRecords, setMaps}
 use Rattle.model.specs.Acts.{Act, World, legal, run, start}
 use Rattle.model.specs.Demand3.{lastInto, lastUpdate, eachOf, someOf, inOnePlaceOfMaps, liveListed}
 use Rattle.model.specs.FromPack.{writtenWords, packWords, writtenReads, packReads, birthMaps, fromPack}
-use Rattle.model.specs.Lists.{create, delete, activate, deactivate, fault, read, write, claim, truncate, update, pageDone, mapDone, restart, small, junk, cut, said, trace}
-use Rattle.model.specs.RuleList.{saysNo}
-use Rattle.model.specs.Runs.{right, always}
-use Rattle.model.specs.Worlds.{onState}
+use Rattle.edges.specs.Lists.{create, delete, activate, deactivate, fault, read, write, claim, truncate, update, pageDone, mapDone, restart, small, junk, cut, said, trace}
+use Rattle.edges.specs.RuleList.{saysNo}
+use Rattle.edges.specs.Runs.{right, always}
+use Rattle.edges.specs.Worlds.{onState}
 
 -- ── the packs ──
 -- slot 1 has design 8, page 0 in record 1 and page 2 in record 0; slot 0 is empty

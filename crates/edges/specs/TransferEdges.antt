@@ -2,12 +2,12 @@
 use mathlib.Core.Path.{_≡_, refl}
 use mathlib.Core.List.{List, [], _∷_, _++_}
 use Prim.Native.Nat.{ℕ}
 use Rattle.model.specs.declared.frame.Frame.{Frame}
 use Rattle.model.specs.State.{frameAt, noFrame, NONE, WRITING}
 use Rattle.model.specs.Step
 use Rattle.model.specs.Acts.{Act}
-use Rattle.model.specs.Lists.{fault, read, write, wire, unwire, claim, truncate, pageDone, look, small, says, leaves}
-use Rattle.model.specs.Edges.{opened, listing}
+use Rattle.edges.specs.Lists.{fault, read, write, wire, unwire, claim, truncate, pageDone, look, small, says, leaves}
+use Rattle.edges.specs.Edges.{opened, listing}
 
 -- page 0 is being written, in frame 0: its words are 0 and 9
 abbrev writing : List Act

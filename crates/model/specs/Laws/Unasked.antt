@@ -12,12 +12,12 @@ use Rattle.model.specs.declared.event.Event.the-variants as Event
 use Rattle.model.specs.declared.event.Writeback.the-variants.{MapDone}
 use Rattle.model.specs.Lines.{LEAVING}
 use Rattle.model.specs.State.{State, files, pageOf}
-use Rattle.model.specs.Ruled.{ruled}
-use Rattle.model.specs.Index.{page-below}
+use Rattle.model.specs.Laws.Ruled.{ruled}
+use Rattle.model.specs.Laws.Index.{page-below}
 use Rattle.model.specs.Questions.{questions}
 use Rattle.model.specs.Step.{asked, answer}
-use Rattle.model.specs.Fit.{fit}
-use Rattle.model.specs.Implied.{no-leaving-imaged}
+use Rattle.model.specs.Laws.Fit.{fit}
+use Rattle.model.specs.Laws.Implied.{no-leaving-imaged}
 
 -- one question more, asked last
 abbrev pub asking : Questions → ℕ → Rule → Questions

@@ -4,17 +4,17 @@ use mathlib.Core.List.{List, [], _∷_, _++_}
 use Prim.Native.Nat.{ℕ}
 use lib.Dec.{T}
 use Rattle.tables.specs.Base.{at}
 use Rattle.model.specs.declared.event.Page.the-variants.{Read}
 use Rattle.model.specs.declared.event.Event.the-variants as Event
 use Rattle.model.specs.State.{Disk, State, pageOf}
 use Rattle.model.specs.Setters.{onDisk, onCore, setRecords, setMaps, setWords}
 use Rattle.model.specs.Step
 use Rattle.model.specs.Ledger.{setDesign}
 use Rattle.model.specs.Acts.{Act, World, run}
 use Rattle.model.specs.Demand3.{lastInto, lastUpdate, eachOf, someOf, inOnePlaceOfMaps, ownWords, liveListed, liveReads, demand3}
-use Rattle.model.specs.Lists.{limit, create, activate, deactivate, fault, write, claim, truncate, update, pageDone, mapDone, restart, small, cut, said, begin}
-use Rattle.model.specs.RuleList.{saysNo}
-use Rattle.model.specs.Runs.{holds}
+use Rattle.edges.specs.Lists.{limit, create, activate, deactivate, fault, write, claim, truncate, update, pageDone, mapDone, restart, small, cut, said, begin}
+use Rattle.edges.specs.RuleList.{saysNo}
+use Rattle.edges.specs.Runs.{holds}
 
 -- ── the lists ──
 -- page 0 of a design is written: 9, and then 5 into the same record

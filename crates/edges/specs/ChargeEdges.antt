@@ -2,9 +2,9 @@
 use mathlib.Core.Path.{_≡_, refl}
 use mathlib.Core.List.{List, [], _∷_, _++_}
 use Prim.Native.Nat.{ℕ}
 use Rattle.model.specs.Acts.{Act}
-use Rattle.model.specs.Lists.{limit, fault, read, write, wire, unwire, claim, truncate, pageDone, look, restart, small, says, leaves}
-use Rattle.model.specs.Edges.{opened, listing}
+use Rattle.edges.specs.Lists.{limit, fault, read, write, wire, unwire, claim, truncate, pageDone, look, restart, small, says, leaves}
+use Rattle.edges.specs.Edges.{opened, listing}
 
 -- the account's used count
 unfoldable pub used : List Act → List ℕ

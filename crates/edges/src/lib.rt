@@ -1,0 +1,1 @@
+// Edges, runs and worlds: the definitions computed on small examples, and wrong worlds denied.
