@@ -17,7 +17,7 @@ use Rattle.model.specs.Laws.Fit.{all-fit}
 use Rattle.model.specs.Step.{Outcome}
 use Rattle.model.specs.Laws.Own.{own}
 use Rattle.model.specs.ApplyAll.{Listed, requestAt, putAnswer, turned}
-use Rattle.invariant.proofs.Kept.{Good}
+use Rattle.model.specs.Terms.{Good}
 use Rattle.invariant.proofs.AfterKept.{owned, apply-own}
 use Rattle.dispatch.specs.Kept.{Kept}
 

@@ -96,9 +96,13 @@ module _ (z : Sizes) (s : ℕ) (st : State) (l : Ledger) (b : Before z st l (Eve
         | inl x ↦ let q = not-zero (map i) (x .0 .1) in (pred (map i), elim (address-split i h) [ inl y ↦ y .1 ∙ q | inr y ↦ absurd (y .0 (x .0 .0)) ], filed-live i h (pred (map i)) (x .0 .0) q)
         | inr x ↦ let o = m .lives i h (rw (x .1) at t) in (o .0, keeps i h (o .0) (o .1), stays i h (o .0) (o .1) ∙ o .2)
       ];
+      alive = λ i h r p e. elim (split-over (l .pages .live) (λ i. ofSlot z s i and non (same (map i) 0)) true i) [
+        | inl y ↦ rw (y .1) tt
+        | inr y ↦ rw (y .1) (elim (was i h r p e) [ inl x ↦ absurd (y .0 (x .0, λ q. omega (arith, q, x .1))) | inr x ↦ m .alive i h r (x .0) (x .1) ])
+      ];
       framed = λ f h. in-frame-same (m .framed f h) (alike-same refl) (λ n c. refl) refl refl refl (λ i p. (
         let q = not-zero (address i) (b .ruled .frames .held f h i p .0) in keeps i (b .ruled .frames .fit f h .0 i p) (pred (address i)) q ∙ sym q,
-        (refl, (λ n. refl, (λ t. t, λ t. t))),
+        (refl, (λ n. refl, (refl, λ t. t))),
       ));
       away = record {
         paged = λ i h a r p e n c. elim (was i h r p e) [ inl x ↦ sym (m .filed i h (off i (x .0)) n c .1 r (x .1)) | inr x ↦ m .away .paged i h a r (x .0) (x .1) n c ];

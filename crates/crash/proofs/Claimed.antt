@@ -10,8 +10,8 @@ use lib.Dec.{T, eqb, eqb→eq}
 use lib.ListN.{set}
 use lib.Seq.{getD-set-same}
 use borrow.Author.Tests.{eq-eqb, ne-eqb}
-use Rattle.tables.specs.Base.{at, if}
-use Rattle.tables.specs.Laws.{T→true, and-intro, if-yes, if-no, eq→T, all-elim, all-intro, not-zero}
+use Rattle.tables.specs.Base.{at, if, all}
+use Rattle.tables.specs.Laws.{T→true, and-intro, and-left, if-yes, if-no, eq→T, all-elim, all-intro, not-zero}
 use Rattle.tables.specs.Queue.{members, times}
 use Rattle.tables.specs.QueueLaws.{members-within}
 use Rattle.tables.specs.Store.{Split}
@@ -33,7 +33,7 @@ use Rattle.invariant.proofs.Looks.{looking-takes}
 use Rattle.invariant.proofs.Stands.{seat-at}
 use Rattle.invariant.proofs.Stands as Stands
 use Rattle.crash.proofs.Writes.{split-put, put-other, put-same}
-use Rattle.crash.proofs.Link.{Away, Lives, Holding, Tied}
+use Rattle.crash.proofs.Link.{Away, Lives, Alive, Holding, Tied}
 use Rattle.crash.proofs.Steps.{Before, tied-at}
 use Rattle.crash.proofs.OneFrame.{Alike, alike-trans, one-frame, other-frame, away-but, Elsewhere, Out}
 
@@ -100,7 +100,7 @@ module _ (z : Sizes) (st : State) (l : Ledger) (b : Before z st l (Event.Writeba
 
   -- ── the frame is freed ──
   module _ (states′ : List ℕ) (live′ : ℕ → Bool) (was : (r : ℕ) → at states′ r ≡ LIVE → state r ≡ LIVE)
-      (stays : (i : ℕ) → i < allPages z → ¬ (i ≡ i₀) → (r : ℕ) → address i ≡ suc r → state r ≡ LIVE → at states′ r ≡ LIVE) (live : Lives z address (at states′) live′)
+      (stays : (i : ℕ) → i < allPages z → ¬ (i ≡ i₀) → (r : ℕ) → address i ≡ suc r → state r ≡ LIVE → at states′ r ≡ LIVE) (live : Lives z address (at states′) live′) (alive : Alive z address (at states′) live′)
       (paged : (r : ℕ) → address i₀ ≡ suc r → at states′ r ≡ LIVE → (n : ℕ) → n < z .words → at (st .disk .records) (r * z .words + n) ≡ text i₀ n)
       (void : ((r : ℕ) → address i₀ ≡ suc r → ¬ (at states′ r ≡ LIVE)) → (n : ℕ) → n < z .words → text i₀ n ≡ 0) where
     freed : Tied z (counted z (freeFrame f (onHeld (λ h. setStates states′ h) (looked z st)))) (setLive live′ l)
@@ -113,10 +113,11 @@ module _ (z : Sizes) (st : State) (l : Ledger) (b : Before z st l (Event.Writeba
       noted = λ g e. refl;
       flag = λ g e. refl;
       write = λ g e. refl;
-      others = λ g h e i q. (refl, (λ n. refl, λ t. t));
+      others = λ g h e i q. (refl, (λ n. refl, refl));
       here = record { holding = λ i q. absurd (omega (arith, q)); only = λ t. absurd (unflagged t); opened = λ e. absurd (omega (arith, e)) };
       was = λ i h r q e. (q, was r e);
       live = live;
+      alive = alive;
       paged = λ i h a r q e n k. elim (ℕ-discrete i i₀) [
         | yes d ↦ subst (λ (j : ℕ). at (st .disk .records) (r * z .words + n) ≡ text j n) (sym d) (paged r (sym (ap address d) ∙ q) e n k)
         | no d ↦ m .away .paged i h (was-away i d (a .0)) r q (was r e) n k
@@ -135,19 +136,20 @@ module _ (z : Sizes) (st : State) (l : Ledger) (b : Before z st l (Event.Writeba
   -- unmodified: the page's words are its live record's, or zeros
   unmodified : ¬ (old .modified ≡ 1) → Tied z (counted z (freeFrame f (looked z st))) (note z l (claimed f 0))
   unfolding note
-  unmodified d = go (voided z l (l .pending .noted f .place))
+  unmodified d = go (voided z l (l .pending .noted f .place)) refl
     where
       clean : (r : ℕ) → address i₀ ≡ suc r → (n : ℕ) → n < z .words → at (st .memory .core .words) (f * z .words + n) ≡ if (eqb (state r) LIVE) (at (st .disk .records) (r * z .words + n)) 0
       clean r q n h = b .ruled .frames .clean f hf i₀ page still (omega (arith, d, b .ruled .frames .fit f hf .1 .1 .0)) r q n h
 
-      as-freed : (live′ : ℕ → Bool) → ((i : ℕ) → T (live′ i) → T (l .pages .live i)) → Tied z (counted z (freeFrame f (looked z st))) (setLive live′ l)
-      as-freed live′ less = freed (st .memory .held .states) live′ (λ r e. e) (λ i h e r q u. u) (λ i h t. b .tied .memory .lives i h (less i t))
+      -- the page is not written since its fault
+      untouched : ¬ (T (l .pages .touched (l .pending .noted f .place)))
+      untouched t = d (holds .turned (subst (λ (i : ℕ). T (l .pages .touched i)) (holds .place) t))
+
+      go : (v : Bool) → voided z l (l .pending .noted f .place) ≡ v → Tied z (counted z (freeFrame f (looked z st))) (if v (setLive (put (l .pages .live) (l .pending .noted f .place) false) l) l)
+      go true e = absurd (untouched (and-left (l .pages .touched (l .pending .noted f .place)) (all (z .words) (λ w. eqb (text (l .pending .noted f .place) w) 0)) (rw e tt)))
+      go false e = freed (st .memory .held .states) (l .pages .live) (λ r e. e) (λ i h e r q u. u) (b .tied .memory .lives) (b .tied .memory .alive)
           (λ r q e n h. sym (if-yes (state r) LIVE _ 0 e) ∙ sym (clean r q n h) ∙ said n h)
           (λ v n h. sym (said n h) ∙ clean r₀ held n h ∙ if-no (state r₀) LIVE _ 0 (v r₀ held))
-
-      go : (v : Bool) → Tied z (counted z (freeFrame f (looked z st))) (if v (setLive (put (l .pages .live) (l .pending .noted f .place) false) l) l)
-      go true = as-freed (put (l .pages .live) (l .pending .noted f .place) false) (λ i t. elim (split-put (l .pages .live) (l .pending .noted f .place) false i) [ inl x ↦ absurd (rw (x .1) at t) | inr x ↦ rw (x .1) at t ])
-      go false = as-freed (l .pages .live) (λ i t. t)
 
   -- modified and all zeros: the page is nulled
   nulled : old .modified ≡ 1 → T (zeros z st f) → Tied z (counted z (freeFrame f (onHeld (λ h. setStates (set (h .states) r₀ NULLED) h) (looked z st)))) (note z l (claimed f 0))
@@ -158,6 +160,7 @@ module _ (z : Sizes) (st : State) (l : Ledger) (b : Before z st l (Event.Writeba
         | inl x ↦ absurd (rw (x .1) at t)
         | inr x ↦ let o = b .tied .memory .lives i h (rw (x .1) at t) in (o .0, o .1, stays i h (λ e. x .0 (e ∙ sym (holds .place))) (o .0) (o .1) (o .2))
       ])
+      (λ i h r q e. let w = was r e in rw (put-other (l .pages .live) (l .pending .noted f .place) false i (λ c. w .0 (omega (arith, sym (ap address (c ∙ holds .place)) ∙ q, held)))) (b .tied .memory .alive i h r q (w .1)))
       (λ r q e. absurd (was r e .0 (omega (arith, q, held)))) (λ v. zero-text))
     where
       zero-text : (n : ℕ) → n < z .words → text i₀ n ≡ 0
@@ -186,13 +189,15 @@ module _ (z : Sizes) (st : State) (l : Ledger) (b : Before z st l (Event.Writeba
     noted = λ g e. refl;
     flag = λ g e. put-other (l .pending .writing) f true g e;
     write = λ g e. put-other (l .pending .write) f (opened z l f r₀) g e;
-    others = λ g h e i q. (refl, (λ n. refl, λ t. t));
+    others = λ g h e i q. (refl, (λ n. refl, refl));
     here = record {
       holding = λ i q. let p = sym (cooled f .page) ∙ q in let h = m .framed f hf .holding i p in record {
         place = h .place;
         design = h .design;
         written = λ t. h .written md;
         clean = λ t. h .clean md;
+        turned = λ t. cooled f .modified ∙ md;
+        awaited = λ e. absurd (omega (arith, e));
         said = λ t. h .said (λ e. omega (arith, e, still));
         opened = λ t. rw (put-same (l .pending .write) f (opened z l f r₀)) (record {
           design = h .design;
@@ -206,6 +211,7 @@ module _ (z : Sizes) (st : State) (l : Ledger) (b : Before z st l (Event.Writeba
     };
     was = λ i h r q e. (q, e);
     live = m .lives;
+    alive = m .alive;
     paged = λ i h a. m .away .paged i h (was-away i a);
     void = λ i h o a. m .away .void i h o (was-away i a);
     asleep = λ i h a n. refl;

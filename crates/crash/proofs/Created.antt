@@ -90,6 +90,7 @@ module _ (z : Sizes) (st : State) (l : Ledger) (fit : Fit z st) (rules : Ruled z
             }
             | inr x ↦ let o = k .disk .listing .newborn i h (subst (λ (c : ℕ). ¬ (lastUpdate c (l .stored) .design ≡ c)) (x .1) u) in record { old = λ e. o .old (sym (x .1) ∙ e); young = λ e. o .young (λ c. e (x .1 ∙ c)) }
           ];
+          promised = λ i h r p. subst (λ (c : ℕ). lastUpdate c (l .stored) .design ≡ c → T (lastUpdate c (l .stored) .live (i % z .pages))) (sym (same-of (slotOf z i) (map-other i h r p))) (k .disk .listing .promised i h r p);
         };
       };
       memory = let m = k .memory in record {
@@ -105,9 +106,11 @@ module _ (z : Sizes) (st : State) (l : Ledger) (fit : Fit z st) (rules : Ruled z
           design = λ t h e. u .design t h e ∙ sym (same-of t (updating-other t h e));
           ahead = u .ahead;
           listed = λ i h e t. let o = u .listed i h e t in (o .0, o .1, λ y j q g. o .2 y j (of-page i y (image-other i h (o .0) (o .1)) q) g);
+          promised = u .promised;
         };
         lives = m .lives;
-        framed = λ f h. in-frame-same (m .framed f h) (alike-same refl) (λ n c. refl) refl refl refl (λ i p. let e = frame-other f h i p in (refl, (same-of (slotOf z i) e, (text-other i e, (λ t. t, kept-was i)))));
+        alive = m .alive;
+        framed = λ f h. in-frame-same (m .framed f h) (alike-same refl) (λ n c. refl) refl refl refl (λ i p. let e = frame-other f h i p in (refl, (same-of (slotOf z i) e, (text-other i e, (refl, kept-was i)))));
         away = record {
           paged = λ i h a r p e n c. m .away .paged i h a r p e n c ∙ sym (text-other i (address-other i h r p) n);
           void = λ i h o a v n c. text-other i (λ e. off (rw e at o)) n ∙ m .away .void i h o a v n c;

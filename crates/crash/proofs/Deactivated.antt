@@ -102,9 +102,13 @@ module _ (z : Sizes) (s : ℕ) (st : State) (l : Ledger) (b : Before z st l (Eve
         | inl x ↦ absurd (rw (x .1) at t)
         | inr x ↦ let o = m .lives i h (rw (x .1) at t) in let y = stays i h (x .0) (o .0) (o .1) in (o .0, y .0, y .1 ∙ o .2)
       ];
+      alive = λ i h r p e. elim (split-over (l .pages .live) (ofSlot z s) false i) [
+        | inl y ↦ elim (address-split i h) [ inl x ↦ absurd (omega (arith, x .1, p)) | inr x ↦ absurd (x .0 (y .0)) ]
+        | inr y ↦ let x = was i h r p e in rw (y .1) (m .alive i h r (x .0) (x .1))
+      ];
       framed = λ f h. in-frame-same (m .framed f h) (alike-same refl) (λ n c. refl) refl refl refl (λ i p. (
         let q = not-zero (address i) (b .ruled .frames .held f h i p .0) in stays i (b .ruled .frames .fit f h .0 i p) (λ e. no-frame i e f h p) (pred (address i)) q .0 ∙ sym q,
-        (refl, (λ n. refl, (λ t. t, λ t. t))),
+        (refl, (λ n. refl, (refl, λ t. t))),
       ));
       away = record {
         paged = λ i h a r p e. let x = was i h r p e in m .away .paged i h a r (x .0) (x .1);

@@ -22,14 +22,14 @@ use Rattle.model.specs.Ledger as L
 use Rattle.model.specs.Ledger.{Ledger, unwritten, note, lose, finishWrite, finishUpdate, finishWrites, finishUpdates}
 use Rattle.model.specs.Acts.{Act, event, looking, restarting, cutting, World, fed, landed, noted, act, allowed, legal, run, start}
 use Rattle.model.specs.Demand3.{Demand3}
-use Rattle.model.specs.FromPack.{FromPack}
+use Rattle.model.specs.FromPack.{FromPack, ListedLive}
 use Rattle.invariant.proofs.Kept.{carried-kept, restarted-good}
 use Rattle.invariant.proofs.RestartedRecords.{zero-at}
 use Rattle.crash.proofs.Writes.{no-write, no-update}
 use Rattle.crash.proofs.Link.{OnDisk, Tied}
 use Rattle.crash.proofs.Steps.{Good, before}
 use Rattle.crash.proofs.Events.{steps}
-use Rattle.crash.proofs.Says.{says, says-from-pack}
+use Rattle.crash.proofs.Says.{says, says-from-pack, listed-live}
 use Rattle.crash.proofs.Start.{start-good, format-good}
 use Rattle.crash.proofs.Restarted.{restart-tied}
 use Rattle.crash.proofs.Cut.{all-landed}
@@ -133,3 +133,9 @@ pub demand3 : Demand3
 unfolding start unwritten formatted
 demand3 z parents junk acts sizes low lengths t = let w = start z (formatted z parents) junk in
     says z (run z w acts) (run-keeps z acts w t (format-good z parents junk sizes low lengths)) (λ i. ap (λ (d : Disk). at (d .maps) i) (same-pack z acts w) ∙ zero-at (allPages z) i)
+
+-- Beyond the papers: a listed page was live when its design's last finished update began, or is the pack's.
+pub listed-was-live : ListedLive
+unfolding start unwritten
+listed-was-live z pack junk acts sizes disk lengths rules t =
+    listed-live z (run z (start z pack junk) acts) (run-keeps z acts (start z pack junk) t (start-good z pack junk sizes (disk-fit z pack disk) lengths (R.disk-ruled z (record { disk = pack; memory = junk }) rules)))

@@ -89,8 +89,12 @@ module _ (z : Sizes) (s p : ℕ) (st : State) (l : Ledger) (b : Before z st l (E
   abbrev noting : Note
   noting = record { design = l .design s; place = i₀ }
 
-  touched-other : (g : ℕ) → g < z .frames → (i : ℕ) → fs g .page ≡ suc i → T (l .pages .touched i) → T (put (l .pages .touched) i₀ false i)
-  touched-other g h i q t = rw (put-other (l .pages .touched) i₀ false i (apart g h i q)) t
+  touched-other : (g : ℕ) → g < z .frames → (i : ℕ) → fs g .page ≡ suc i → put (l .pages .touched) i₀ false i ≡ l .pages .touched i
+  touched-other g h i q = put-other (l .pages .touched) i₀ false i (apart g h i q)
+
+  -- the page is not written since its fault
+  untouched : (i : ℕ) → i ≡ i₀ → ¬ (T (put (l .pages .touched) i₀ false i))
+  untouched i e t = rw (e, put-same (l .pages .touched) i₀ false) at t
 
   noted-here : put (l .pending .noted) f noting f ≡ noting
   noted-here = put-same (l .pending .noted) f noting
@@ -113,6 +117,8 @@ module _ (z : Sizes) (s p : ℕ) (st : State) (l : Ledger) (b : Before z st l (E
         design = ap (λ (n : Note). n .design) noted-here ∙ ap (l .design) (sym slot ∙ ap (slotOf z) (sym e));
         written = λ x. absurd (omega (arith, x));
         clean = λ x. absurd (omega (arith, x));
+        turned = λ x. absurd (untouched i e x);
+        awaited = λ x. untouched i e;
         said = λ x. absurd (x refl);
         opened = λ x. absurd (omega (arith, x));
       };
@@ -121,6 +127,7 @@ module _ (z : Sizes) (s p : ℕ) (st : State) (l : Ledger) (b : Before z st l (E
     };
     was = λ i h r q e. (q, e);
     live = m .lives;
+    alive = m .alive;
     paged = λ i h a. m .away .paged i h (was-away i (a .0));
     void = λ i h o a. m .away .void i h o (was-away i (a .0));
     asleep = λ i h a n. refl;
@@ -150,6 +157,8 @@ module _ (z : Sizes) (s p : ℕ) (st : State) (l : Ledger) (b : Before z st l (E
           design = ap (λ (n : Note). n .design) noted-here ∙ ap (l .design) (sym slot ∙ ap (slotOf z) (sym e));
           written = λ x. absurd (omega (arith, x));
           clean = λ x. absurd (omega (arith, x));
+          turned = λ x. absurd (untouched i e x);
+          awaited = λ x. untouched i e;
           said = λ x n k. elim (at-part z (st .memory .core .words) f (λ a. 0) (z .frames) f n (b .fit .memory .words) hf k) [
             | inl y ↦ y .1 ∙ sym (ap (λ (j : ℕ). l .pages .text j n) e ∙ m .away .void i₀ within active (λ g h a. absurd (apart g h i₀ a refl)) nulled n k)
             | inr y ↦ absurd (y .0 refl)
@@ -161,6 +170,7 @@ module _ (z : Sizes) (s p : ℕ) (st : State) (l : Ledger) (b : Before z st l (E
       };
       was = λ i h r q e. was i r q e;
       live = λ i h t. let o = m .lives i h t in let x = stays i (o .0) (o .1) (o .2) in (o .0, x .0, x .1);
+      alive = λ i h r q e. let x = was i r q e in m .alive i h r (x .0) (x .1);
       paged = λ i h a r q e. let x = was i r q e in m .away .paged i h (was-away i (a .0)) r (x .0) (x .1);
       void = λ i h o a d. m .away .void i h o (was-away i (a .0)) (λ r q e. let x = stays i r q e in d r (x .0) (x .1));
       asleep = λ i h a n. refl;

@@ -223,6 +223,7 @@ module _ (z : Sizes) (st : State) (l : Ledger) (fit : Fit z st) (rules : Ruled z
       after = λ n. omega (arith, d .after n);
       listed = λ i h p. let b = d .listed i h p in (b .0, b .1, newest i _ (b .0) (d .after (of (slotOf z i))) (b .2));
       newborn = d .newborn;
+      promised = d .promised;
     };
   }
 
@@ -241,10 +242,15 @@ module _ (z : Sizes) (st : State) (l : Ledger) (fit : Fit z st) (rules : Ruled z
       design = u .design;
       ahead = λ s h e. omega (arith, u .ahead s h e);
       listed = λ i h e p. let b = u .listed i h e p in (b .0, b .1, newest i _ (b .0) (u .ahead (slotOf z i) (slot-below z (fit .sizes .pages) i h) e) (b .2));
+      promised = u .promised;
     };
     lives = λ i h p. elim (split-put (l .pages .live) (l .pending .noted f .place) true i) [
       | inl y ↦ (r₀, ap address (y .0 ∙ holds .place) ∙ held, live-r₀)
       | inr y ↦ let b = m .lives i h (rw (y .1) at p) in (b .0, b .1, stays-live (b .0) (b .2))
+    ];
+    alive = λ i h r p e. elim (split-put (l .pages .live) (l .pending .noted f .place) true i) [
+      | inl y ↦ rw (y .1) tt
+      | inr y ↦ rw (y .1) (m .alive i h r p (was-live r (λ d. y .0 (rules .records .held-once i h i₀ within r₀ (p ∙ ap suc d) held ∙ sym (holds .place))) e))
     ];
     framed = λ g h. elim (ℕ-discrete g f) [
       | yes e ↦ subst (λ (j : ℕ). InFrame z (fs′ j) (λ n. at (st .memory .core .words) (j * z .words + n)) address of text (l .pages .touched) (l .pages .kept) (l .pending .noted j) (put (l .pending .writing) f false j) (l .pending .write j)) (sym e) (record {
@@ -252,7 +258,7 @@ module _ (z : Sizes) (st : State) (l : Ledger) (fit : Fit z st) (rules : Ruled z
         only = λ y. absurd (rw (put-same (l .pending .writing) f false) at y);
         opened = λ y. absurd (omega (arith, sym (ap (λ (c : Frame). c .transfer) freed-f) ∙ y));
       })
-      | no e ↦ in-frame-same (m .framed g h) (alike-same (was-frame g e)) (λ n c. refl) refl (put-other (l .pending .writing) f false g e) refl (λ i p. (refl, (refl, (λ n. refl, (λ y. y, λ y. y)))))
+      | no e ↦ in-frame-same (m .framed g h) (alike-same (was-frame g e)) (λ n c. refl) refl (put-other (l .pending .writing) f false g e) refl (λ i p. (refl, (refl, (λ n. refl, (refl, λ y. y)))))
     ];
     away = record {
       paged = λ i h a r p e n c. elim (words-split r n (rules .records .address-fit i h r p) c) [

@@ -25,3 +25,4 @@ pub mod Events
 pub mod Cut
 pub mod Pack
 pub mod Demand3
+pub mod ListCall

@@ -72,6 +72,8 @@ pub record Listing (z : Sizes) (pack : Disk) (word map of : ℕ → ℕ) (finish
   pub listed : (i : ℕ) → i < allPages z → (let u = lastUpdate (of (slotOf z i)) stored in T (u .live (i % z .pages)) → (r : ℕ) × (map i ≡ suc r) × Newest z of finished i (u .after) (lastInto r finished))
   -- until an update of its design is finished, a page is listed as at the design's birth
   pub newborn : (i : ℕ) → i < allPages z → ¬ (lastUpdate (of (slotOf z i)) stored .design ≡ of (slotOf z i)) → Newborn z pack map of i
+  -- from then on a listed page was live when the last finished one began
+  pub promised : (i : ℕ) → i < allPages z → (r : ℕ) → map i ≡ suc r → (let u = lastUpdate (of (slotOf z i)) stored in u .design ≡ of (slotOf z i) → T (u .live (i % z .pages)))
 
 -- ── the memory, once restarted ──
 -- the records that a begun image and a live address name; a live one's last write, and that of an inactive design's listed page, is the page's newest
@@ -89,10 +91,16 @@ pub record Begun (z : Sizes) (image updating of : ℕ → ℕ) (finished : List 
   pub ahead : (s : ℕ) → s < z .slots → updating s ≡ 1 → update s .after ≤ length finished
   pub listed : (i : ℕ) → i < allPages z → updating (slotOf z i) ≡ 1
       → (let u = update (slotOf z i) in T (u .live (i % z .pages)) → (r : ℕ) × (image i ≡ suc r) × Newest z of finished i (u .after) (lastInto r finished))
+  -- and no others have
+  pub promised : (i : ℕ) → i < allPages z → updating (slotOf z i) ≡ 1 → (r : ℕ) → image i ≡ suc r → T (update (slotOf z i) .live (i % z .pages))
 
 -- live in the ledger: a live address
 abbrev pub Lives : Sizes → (ℕ → ℕ) → (ℕ → ℕ) → (ℕ → Bool) → Type 0
 Lives z address state live = (i : ℕ) → i < allPages z → T (live i) → (r : ℕ) × (address i ≡ suc r) × (state r ≡ LIVE)
+
+-- and a live address is live in the ledger
+abbrev pub Alive : Sizes → (ℕ → ℕ) → (ℕ → ℕ) → (ℕ → Bool) → Type 0
+Alive z address state live = (i : ℕ) → i < allPages z → (r : ℕ) → address i ≡ suc r → state r ≡ LIVE → T (live i)
 
 -- an open write is of its frame's page, to that page's record, with the page's text
 pub record Opened (z : Sizes) (address of : ℕ → ℕ) (text : ℕ → ℕ → ℕ) (i : ℕ) (x : Write) : Type 0 where
@@ -101,13 +109,15 @@ pub record Opened (z : Sizes) (address of : ℕ → ℕ) (text : ℕ → ℕ →
   pub record′ : address i ≡ suc (x .record′)
   pub words : (k : ℕ) → k < z .words → x .words k ≡ text i k
 
--- a frame with a page carries the ledger's note of that design and page; modified, it was written since its fault and since the restart;
+-- a frame with a page carries the ledger's note of that design and page; modified, it was written since its fault and since the restart, and only then; none is written while it is being read;
 -- unless it is being read, it holds the page's text (word: the frame's words)
 pub record Holding (z : Sizes) (g : Frame) (word : ℕ → ℕ) (address of : ℕ → ℕ) (text : ℕ → ℕ → ℕ) (touched kept : ℕ → Bool) (n : Note) (x : Write) (i : ℕ) : Type 0 where
   pub place : n .place ≡ i
   pub design : n .design ≡ of (slotOf z i)
   pub written : g .modified ≡ 1 → T (touched i)
   pub clean : g .modified ≡ 1 → ¬ (T (kept i))
+  pub turned : T (touched i) → g .modified ≡ 1
+  pub awaited : g .transfer ≡ READING → ¬ (T (touched i))
   pub said : ¬ (g .transfer ≡ READING) → (k : ℕ) → k < z .words → word k ≡ text i k
   pub opened : g .transfer ≡ WRITING → Opened z address of text i x
 
@@ -156,6 +166,7 @@ pub record InMemory (z : Sizes) (st : State) (l : Ledger) : Type 0 where
   pub named : Named z (l .pack) (at (st .disk .records)) (at (st .disk .maps)) (at (st .memory .held .addresses)) (at (st .memory .held .states)) (at (st .memory .slots .active)) (at (st .memory .slots .images)) (l .design) (l .finished)
   pub begun : Begun z (at (st .memory .slots .images)) (at (st .memory .slots .updating)) (l .design) (l .finished) (l .pending .updating) (l .pending .update)
   pub lives : Lives z (at (st .memory .held .addresses)) (at (st .memory .held .states)) (l .pages .live)
+  pub alive : Alive z (at (st .memory .held .addresses)) (at (st .memory .held .states)) (l .pages .live)
   pub framed : InFrames z (frameAt (st .memory .core .frames)) (at (st .memory .core .words)) (at (st .memory .held .addresses)) (l .design) (l .pages .text) (l .pages .touched) (l .pages .kept) (l .pending .noted) (l .pending .writing) (l .pending .write)
   pub away : AwayText z (at (st .disk .records)) (at (st .memory .held .addresses)) (at (st .memory .held .states)) (at (st .memory .slots .active)) (frameAt (st .memory .core .frames)) (l .pages .text)
   pub filed : FiledText z (at (st .disk .records)) (at (st .disk .maps)) (at (st .memory .slots .active)) (l .pages .text)

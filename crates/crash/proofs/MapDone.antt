@@ -83,8 +83,10 @@ module _ (z : Sizes) (s good : ℕ) (st : State) (l : Ledger) (b : Before z st l
         design = λ t h e. u .design t h (other-slot t e .1);
         ahead = λ t h e. u .ahead t h (other-slot t e .1);
         listed = λ i h e p. let x = other-slot (slotOf z i) e in let y = u .listed i h (x .1) p in (y .0, elim (image-split i h) [ inl c ↦ absurd (x .0 (c .0)) | inr c ↦ c .1 ∙ y .1 ], y .2);
+        promised = λ i h e r p. u .promised i h (other-slot (slotOf z i) e .1) r (elsewhere i h r p);
       };
       lives = λ i h e. let y = m .lives i h e in (y .0, y .1, stays (y .0) (fit i h (y .0) (y .1)) (y .2));
+      alive = λ i h r p e. m .alive i h r p (was r (fit i h r p) e);
       framed = m .framed;
       away = record { paged = λ i h a r p e. m .away .paged i h a r p (was r (fit i h r p) e); void = λ i h o a d. m .away .void i h o a (λ r p e. d r p (stays r (fit i h r p) e)) };
       filed = λ i h a n c. let e = other-map i h (λ e. a (rw e on)) in let o = m .filed i h a n c in (λ p. o .0 (sym e ∙ p), λ r p. o .1 r (sym e ∙ p));
@@ -149,6 +151,13 @@ module _ (z : Sizes) (s good : ℕ) (st : State) (l : Ledger) (b : Before z st l
         | inl y ↦ absurd (v (ap (λ (x : Update). x .design) (y .1) ∙ of-s ∙ sym (y .0)))
         | inr y ↦ let o = k .listing .newborn i h (subst (λ (x : Update). ¬ (x .design ≡ of (slotOf z i))) (y .1) v) in
             let same : at maps′ i ≡ map i = elim (map-split i h) [ inl x ↦ absurd (y .0 (ap of (x .0))) | inr x ↦ x .1 ] in record { old = λ e. same ∙ o .old e; young = λ e. same ∙ o .young e }
+      ];
+      promised = λ i h r p e. elim (which (of (slotOf z i))) [
+        | inl y ↦ let a = one-slot (slotOf z i) (slot-below z (b .fit .sizes .pages) i h) (y .0) in
+            let c = u .promised i h (rw a under-way) r (elim (map-split i h) [ inl x ↦ sym (x .1) ∙ p | inr x ↦ absurd (x .0 a) ]) in
+            subst (λ (x : Update). T (x .live (i % z .pages))) (sym (y .1 ∙ ap (l .pending .update) (sym a))) c
+        | inr y ↦ let c = k .listing .promised i h r (elim (map-split i h) [ inl x ↦ absurd (y .0 (ap of (x .0))) | inr x ↦ sym (x .1) ∙ p ]) (subst (λ (x : Update). x .design ≡ of (slotOf z i)) (y .1) e) in
+            subst (λ (x : Update). T (x .live (i % z .pages))) (sym (y .1)) c
       ];
     };
   }

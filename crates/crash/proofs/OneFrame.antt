@@ -47,14 +47,16 @@ away-but z frame f i a b g h p = elim (ℕ-discrete g f) [ yes e ↦ rw e (b (rw
 -- what the ledger says of a frame, where the frame, its page and the notes are alike
 module _ {z : Sizes} {g g′ : Frame} {word word′ address address′ of of′ : ℕ → ℕ} {text text′ : ℕ → ℕ → ℕ} {touched touched′ kept kept′ : ℕ → Bool} {n n′ : Note} {flag flag′ : Bool} {x x′ : Write} where
   pub in-frame-same : InFrame z g word address of text touched kept n flag x → Alike g′ g → ((k : ℕ) → k < z .words → word′ k ≡ word k) → n′ ≡ n → flag′ ≡ flag → x′ ≡ x
-      → ((i : ℕ) → g .page ≡ suc i → (address′ i ≡ address i) × ((of′ (slotOf z i) ≡ of (slotOf z i)) × (((k : ℕ) → text′ i k ≡ text i k) × ((T (touched i) → T (touched′ i)) × (T (kept′ i) → T (kept i))))))
+      → ((i : ℕ) → g .page ≡ suc i → (address′ i ≡ address i) × ((of′ (slotOf z i) ≡ of (slotOf z i)) × (((k : ℕ) → text′ i k ≡ text i k) × ((touched′ i ≡ touched i) × (T (kept′ i) → T (kept i))))))
       → InFrame z g′ word′ address′ of′ text′ touched′ kept′ n′ flag′ x′
   in-frame-same o a ws en ef ex page = record {
     holding = λ i p. let q = sym (a .page) ∙ p in let c = page i q in let h = o .holding i q in record {
       place = ap (λ (m : Note). m .place) en ∙ h .place;
       design = ap (λ (m : Note). m .design) en ∙ h .design ∙ sym (c .1 .0);
-      written = λ e. c .1 .1 .1 .0 (h .written (sym (a .modified) ∙ e));
+      written = λ e. subst (λ (b : Bool). T b) (sym (c .1 .1 .1 .0)) (h .written (sym (a .modified) ∙ e));
       clean = λ e t. h .clean (sym (a .modified) ∙ e) (c .1 .1 .1 .1 t);
+      turned = λ t. a .modified ∙ h .turned (subst (λ (b : Bool). T b) (c .1 .1 .1 .0) t);
+      awaited = λ e t. h .awaited (sym (a .transfer) ∙ e) (subst (λ (b : Bool). T b) (c .1 .1 .1 .0) t);
       said = λ e k l. ws k l ∙ h .said (λ b. e (a .transfer ∙ b)) k l ∙ sym (c .1 .1 .0 k);
       opened = λ e. let b = h .opened (sym (a .transfer) ∙ e) in subst (λ (y : Write). Opened z address′ of′ text′ i y) (sym ex) (record {
         design = b .design ∙ sym (c .1 .0);
@@ -113,12 +115,13 @@ module _ (z : Sizes) (st : State) (l : Ledger) (f : ℕ) (new : Frame) (core′ 
     pub flag : (g : ℕ) → ¬ (g ≡ f) → flag′ g ≡ l .pending .writing g
     pub write : (g : ℕ) → ¬ (g ≡ f) → write′ g ≡ l .pending .write g
     -- the pages in them
-    pub others : (g : ℕ) → g < z .frames → ¬ (g ≡ f) → (i : ℕ) → frame g .page ≡ suc i → (address′ i ≡ address i) × (((n : ℕ) → pages′ .text i n ≡ l .pages .text i n) × (T (l .pages .touched i) → T (pages′ .touched i)))
+    pub others : (g : ℕ) → g < z .frames → ¬ (g ≡ f) → (i : ℕ) → frame g .page ≡ suc i → (address′ i ≡ address i) × (((n : ℕ) → pages′ .text i n ≡ l .pages .text i n) × (pages′ .touched i ≡ l .pages .touched i))
     -- the frame
     pub here : InFrame z new (λ k. at (core′ .words) (f * z .words + k)) address′ (l .design) (pages′ .text) (pages′ .touched) (pages′ .kept) (noted′ f) (flag′ f) (write′ f)
     -- the pages
     pub was : (i : ℕ) → i < allPages z → (r : ℕ) → address′ i ≡ suc r → state′ r ≡ LIVE → (address i ≡ suc r) × (state r ≡ LIVE)
     pub live : (i : ℕ) → i < allPages z → T (pages′ .live i) → (r : ℕ) × (address′ i ≡ suc r) × (state′ r ≡ LIVE)
+    pub alive : (i : ℕ) → i < allPages z → (r : ℕ) → address′ i ≡ suc r → state′ r ≡ LIVE → T (pages′ .live i)
     pub paged : (i : ℕ) → i < allPages z → Out z frame f new i → (r : ℕ) → address′ i ≡ suc r → state′ r ≡ LIVE → (n : ℕ) → n < z .words → at (st .disk .records) (r * z .words + n) ≡ pages′ .text i n
     pub void : (i : ℕ) → i < allPages z → active (slotOf z i) ≡ 1 → Out z frame f new i → ((r : ℕ) → address′ i ≡ suc r → ¬ (state′ r ≡ LIVE)) → (n : ℕ) → n < z .words → pages′ .text i n ≡ 0
     pub asleep : (i : ℕ) → i < allPages z → ¬ (active (slotOf z i) ≡ 1) → (n : ℕ) → pages′ .text i n ≡ l .pages .text i n
@@ -136,6 +139,7 @@ module _ (z : Sizes) (st : State) (l : Ledger) (f : ℕ) (new : Frame) (core′ 
       };
       begun = m .begun;
       lives = c .live;
+      alive = c .alive;
       framed = λ g h. elim (ℕ-discrete g f) [
         | yes e ↦ subst (λ (y : ℕ). InFrame z (frame′ y) (λ n. at (core′ .words) (y * z .words + n)) address′ (l .design) (pages′ .text) (pages′ .touched) (pages′ .kept) (noted′ y) (flag′ y) (write′ y)) (sym e)
             (subst (λ (y : Frame). InFrame z y (λ n. at (core′ .words) (f * z .words + n)) address′ (l .design) (pages′ .text) (pages′ .touched) (pages′ .kept) (noted′ f) (flag′ f) (write′ f)) (sym (c .stored)) (c .here))

@@ -53,10 +53,11 @@ module _ (z : Sizes) (st : State) (l : Ledger) (fit : Fit z st) (rules : Ruled z
     noted = λ g e. refl;
     flag = λ g e. put-other (l .pending .writing) f false g e;
     write = λ g e. refl;
-    others = λ g h e i q. (refl, (λ n. refl, λ x. x));
+    others = λ g h e i q. (refl, (λ n. refl, refl));
     here = record { holding = λ i q. absurd (omega (arith, q)); only = λ x. absurd (struck x); opened = λ e. absurd (omega (arith, e)) };
     was = λ i h r q e. (q, e);
     live = m .lives;
+    alive = m .alive;
     paged = λ i h a. m .away .paged i h (away-but z fs f i (a .0) (λ q. t));
     void = λ i h o a. m .away .void i h o (away-but z fs f i (a .0) (λ q. t));
     asleep = λ i h a n. refl;
@@ -74,13 +75,15 @@ module _ (z : Sizes) (st : State) (l : Ledger) (fit : Fit z st) (rules : Ruled z
     noted = λ g e. refl;
     flag = λ g e. put-other (l .pending .writing) f false g e;
     write = λ g e. refl;
-    others = λ g h e i q. (refl, (λ n. refl, λ x. x));
+    others = λ g h e i q. (refl, (λ n. refl, refl));
     here = record {
       holding = λ i q. let h = m .framed f hf .holding i q in let md = rules .frames .writing f hf t in record {
         place = h .place;
         design = h .design;
         written = λ x. h .written md;
         clean = λ x. h .clean md;
+        turned = λ x. refl;
+        awaited = λ e. absurd (omega (arith, e));
         said = λ x. h .said (λ e. omega (arith, e, t));
         opened = λ e. absurd (omega (arith, e));
       };
@@ -89,6 +92,7 @@ module _ (z : Sizes) (st : State) (l : Ledger) (fit : Fit z st) (rules : Ruled z
     };
     was = λ i h r q e. (q, e);
     live = m .lives;
+    alive = m .alive;
     paged = λ i h a. m .away .paged i h (away-but z fs f i (a .0) (λ q. absurd (omega (arith, a .1 q))));
     void = λ i h o a. m .away .void i h o (away-but z fs f i (a .0) (λ q. absurd (omega (arith, a .1 q))));
     asleep = λ i h a n. refl;
@@ -109,13 +113,15 @@ module _ (z : Sizes) (st : State) (l : Ledger) (fit : Fit z st) (rules : Ruled z
     noted = λ g e. refl;
     flag = λ g e. refl;
     write = λ g e. refl;
-    others = λ g h e i q. (refl, (λ n. refl, λ x. x));
+    others = λ g h e i q. (refl, (λ n. refl, refl));
     here = record {
       holding = λ i q. let p : old .page ≡ suc i = page i q in let h = m .framed f hf .holding i p in record {
         place = h .place;
         design = h .design;
         written = λ x. absurd (omega (arith, x));
         clean = λ x. absurd (omega (arith, x));
+        turned = λ x. absurd (h .awaited t x);
+        awaited = λ e. absurd (omega (arith, e));
         said = λ x n c. elim (took f n hf c) [ inl y ↦ y .1 ∙ read i p n c | inr y ↦ absurd (y .0 refl) ];
         opened = λ e. absurd (omega (arith, e));
       };
@@ -124,6 +130,7 @@ module _ (z : Sizes) (st : State) (l : Ledger) (fit : Fit z st) (rules : Ruled z
     };
     was = λ i h r q e. (q, e);
     live = m .lives;
+    alive = m .alive;
     paged = λ i h a. m .away .paged i h (away-but z fs f i (a .0) (λ q. t));
     void = λ i h o a. m .away .void i h o (away-but z fs f i (a .0) (λ q. t));
     asleep = λ i h a n. refl;

@@ -30,7 +30,7 @@ relimited : (z : Sizes) (st : State) (l : Ledger) (limits : List ℕ) → Tied z
 unfolding counted
 relimited z st l limits k = record {
   disk = record { designs = k .disk .designs; listing = k .disk .listing };
-  memory = let m = k .memory in record { named = m .named; begun = m .begun; lives = m .lives; framed = m .framed; away = m .away; filed = m .filed; kept = m .kept };
+  memory = let m = k .memory in record { named = m .named; begun = m .begun; lives = m .lives; alive = m .alive; framed = m .framed; away = m .away; filed = m .filed; kept = m .kept };
 }
 
 pub account : (z : Sizes) (e : Account) → Step z (Event.Account e)
@@ -58,10 +58,11 @@ module _ (z : Sizes) (st : State) (l : Ledger) (fit : Fit z st) (k : Tied z st l
     noted = λ g e. refl;
     flag = λ g e. refl;
     write = λ g e. refl;
-    others = λ g h e i p. (refl, (λ n. refl, λ t. t));
-    here = in-frame-same (m .framed f hf) alike (λ n y. refl) refl refl refl (λ i p. (refl, (refl, (λ n. refl, (λ t. t, λ t. t)))));
+    others = λ g h e i p. (refl, (λ n. refl, refl));
+    here = in-frame-same (m .framed f hf) alike (λ n y. refl) refl refl refl (λ i p. (refl, (refl, (λ n. refl, (refl, λ t. t)))));
     was = λ i h r q e. (q, e);
     live = m .lives;
+    alive = m .alive;
     paged = λ i h a. m .away .paged i h (away-but z (frameAt (st .memory .core .frames)) f i (a .0) (a .1));
     void = λ i h o a. m .away .void i h o (away-but z (frameAt (st .memory .core .frames)) f i (a .0) (a .1));
     asleep = λ i h a n. refl;

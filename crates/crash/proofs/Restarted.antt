@@ -106,12 +106,14 @@ module _ (z : Sizes) (st : State) (l : Ledger) (pos : 0 < z .pages) (rules : R.O
         after = λ n. rw (length-again z disk of (l .finished)) (d .listing .after n);
         listed = λ i h t. let b = d .listing .listed i h t in (b .0, b .1, newest-again i _ (b .0) (b .2));
         newborn = d .listing .newborn;
+        promised = d .listing .promised;
       };
     };
     memory = record {
       named = record { imaged = λ i h r p. none i r p; live = λ i h r p. none i r p; latest = λ i h r p. none i r p; rested = λ i h a r p. latest-again i h r p };
-      begun = record { only = λ s h t. absurd t; opened = λ s h e. no-update s e; design = λ s h e. no-update s e; ahead = λ s h e. no-update s e; listed = λ i h e. no-update (slotOf z i) e };
+      begun = record { only = λ s h t. absurd t; opened = λ s h e. no-update s e; design = λ s h e. no-update s e; ahead = λ s h e. no-update s e; listed = λ i h e. no-update (slotOf z i) e; promised = λ i h e. no-update (slotOf z i) e };
       lives = λ i h t. absurd t;
+      alive = λ i h r p. none i r p;
       framed = λ f h. record { holding = λ i p. absurd (omega (arith, sym (ap (λ (g : Frame). g .page) (free f)) ∙ p)); only = λ t. absurd t; opened = λ e. absurd (omega (arith, sym (ap (λ (g : Frame). g .transfer) (free f)) ∙ e)) };
       away = record { paged = λ i h a r p. none i r p; void = λ i h a. absurd (omega (arith, sym (zero-at (z .slots) (slotOf z i)) ∙ a)) };
       filed = λ i h a k g. (found-none i k, λ r p. found-some i k r p);

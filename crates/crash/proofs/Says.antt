@@ -1,9 +1,10 @@
 -- What the invariant says: the claim of demand 3, from any pack and from a format, and the reads of demand 2.
-use mathlib.Core.Path.{_≡_, refl, ap, _∙_}
+use mathlib.Core.Path.{_≡_, refl, ap, sym, _∙_}
 use mathlib.Core.List.{List, []}
 use mathlib.Core.Logic.{inl, inr}
 use Prim.Native.Nat.{ℕ, zero, suc, _+_, _*_, _<_}
 use native.Mathlib.Omega.{arith}
+use native.Mathlib.Decide.{ℕ-discrete}
 use lib.Dec.{T}
 use lib.ListN.{length, take, drop, length-take, length-drop}
 use lib.Seq.{getD-drop, getD-take}
@@ -21,9 +22,10 @@ use Rattle.model.specs.Questions.{questions, lookQuestions}
 use Rattle.model.specs.Pages
 use Rattle.model.specs.Step.{outcome, step, look, answer, asked, result, carried, in-order}
 use Rattle.model.specs.Acts.{World}
-use Rattle.model.specs.State.{allPages}
+use Rattle.model.specs.State.{allPages, slotOf}
+use Rattle.model.specs.Ledger.{packDesign}
 use Rattle.model.specs.Demand3.{After, demand3, ownWords, liveListed, liveReads, lastInto, lastUpdateAt, someOf, ofPage, newest}
-use Rattle.model.specs.FromPack.{fromPack, writtenWords, packWords, writtenReads, packReads, birthMaps}
+use Rattle.model.specs.FromPack.{fromPack, writtenWords, packWords, writtenReads, packReads, birthMaps, listedLive}
 use Rattle.invariant.proofs.Stands.{frame-of}
 use Rattle.crash.proofs.Writes.{each-of, some-of, of-some, last-in, numbered-from-1}
 use Rattle.crash.proofs.Link.{Own, Newest}
@@ -75,6 +77,17 @@ module _ (z : Sizes) (w : World) (k : Good z w) where
   at-birth : Holds (birthMaps z w)
   unfolding birthMaps
   at-birth i h n = let b = k .disk .listing .newborn i h n in (b .old, b .young)
+
+  -- ── beyond the papers ──
+  pub listed-live : Holds (listedLive z w)
+  unfolding listedLive
+  listed-live i h r p =
+      let of = w .ledger .design (slotOf z i) in
+      elim (ℕ-discrete (lastUpdateAt z w i .design) of) [
+        | yes e ↦ inl (k .disk .listing .promised i h r p e)
+        | no e ↦ let b = k .disk .listing .newborn i h e in
+            elim (ℕ-discrete of (packDesign (w .ledger .pack) (slotOf z i))) [ yes q ↦ inr (e, (q, sym (b .old q) ∙ p)) | no q ↦ absurd (omega (arith, b .young q, p)) ]
+      ]
 
   -- ── from a pack that lists nothing every listed record is written ──
   module _ (bare : (i : ℕ) → at (w .ledger .pack .maps) i ≡ 0) where

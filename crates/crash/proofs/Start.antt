@@ -16,7 +16,7 @@ use Rattle.tables.specs.CountLaws.{count-none}
 use Rattle.tables.specs.Rule.{Holds}
 use Rattle.model.specs.declared.sizes.Sizes.{Sizes}
 use Rattle.model.specs.Sizes.{sizesFit}
-use Rattle.model.specs.State.{Disk, Memory, files}
+use Rattle.model.specs.State.{Disk, Memory, files, slotOf}
 use Rattle.model.specs.Rules.{lower}
 use Rattle.model.specs.Laws.Ruled as R
 use Rattle.model.specs.Step.{memoryLengths}
@@ -83,6 +83,7 @@ start-good z pack junk sizes disk lengths rules = record {
       after = λ d. omega arith;
       listed = λ i h t. absurd t;
       newborn = λ i h u. record { old = λ e. refl; young = λ n. absurd (n refl) };
+      promised = λ i h r p e. elim (in-pack pack (slotOf z i)) [ inl x ↦ absurd (omega (arith, x .1, e)) | inr x ↦ absurd (omega (arith, rules .empty-map i h (x .0), p)) ];
     };
   };
   ruled = λ u. absurd u;

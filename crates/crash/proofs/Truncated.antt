@@ -106,6 +106,7 @@ module _ (z : Sizes) (s k : ℕ) (st : State) (l : Ledger) (b : Before z st l (E
         | inl x ↦ absurd (rw (x .1) at t)
         | inr x ↦ let o = m .lives i h (rw (x .1) at t) in let y = stays i h (x .0) (o .0) (o .1) in (o .0, y .0, y .1 ∙ o .2)
       ];
+      alive = λ i h r p e. let x = was i h r p e in elim (split-over (l .pages .live) (fromPage z s k) false i) [ inl y ↦ absurd (x .0 (y .0)) | inr y ↦ rw (y .1) (m .alive i h r (x .1 .0) (x .1 .1)) ];
       framed = λ f h. elim (frame-split f h) [
         | inl x ↦ record {
           holding = λ i p. absurd (omega (arith, sym (ap (λ (g : Frame). g .page) (x .1)) ∙ p));
@@ -115,7 +116,7 @@ module _ (z : Sizes) (s k : ℕ) (st : State) (l : Ledger) (b : Before z st l (E
         | inr x ↦ in-frame-same (m .framed f h) (alike-same (x .1)) (λ n c. refl) refl refl refl (λ i p.
             let n : ¬ (Cut i) = λ c. x .0 (i, p, c) in
             let q = not-zero (address i) (b .ruled .frames .held f h i p .0) in
-            (stays i (b .ruled .frames .fit f h .0 i p) n (pred (address i)) q .0 ∙ sym q, (refl, (text-other i n, (λ t. t, λ t. kept-was i t .1)))))
+            (stays i (b .ruled .frames .fit f h .0 i p) n (pred (address i)) q .0 ∙ sym q, (refl, (text-other i n, (refl, λ t. kept-was i t .1)))))
       ];
       away = record {
         paged = λ i h a r p e n c. let x = was i h r p e in m .away .paged i h (was-away i (x .0) a) r (x .1 .0) (x .1 .1) n c ∙ sym (text-other i (x .0) n);

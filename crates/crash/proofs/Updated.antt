@@ -118,9 +118,15 @@ module _ (z : Sizes) (s : ℕ) (st : State) (l : Ledger) (b : Before z st l (Eve
           | inr x ↦ let o = u .listed i h (x .1 .1) (subst (λ (c : L.Update). T (c .live (i % z .pages))) (x .1 .0) t) in
               (o .0, elim (image-split i h) [ inl y ↦ absurd (x .0 (y .0)) | inr y ↦ y .1 ∙ o .1 ], subst (λ (c : L.Update). Newest z (l .design) (l .finished) i (c .after) (lastInto (o .0) (l .finished))) (sym (x .1 .0)) (o .2))
         ];
+        promised = λ i h e r p. elim (which (slotOf z i) e) [
+          | inl x ↦ let o = would-live z st i r (sym (entry-turns (image-split i h) (x .0)) ∙ p) in
+              subst (λ (c : L.Update). T (c .live (i % z .pages))) (sym (x .1)) (subst (λ (j : ℕ). T (l .pages .live j)) (sym (page-again z (b .fit .sizes .pages) s i (x .0))) (m .alive i h r (o .0) (o .1)))
+          | inr x ↦ subst (λ (c : L.Update). T (c .live (i % z .pages))) (sym (x .1 .0)) (u .promised i h (x .1 .1) r (sym (entry-stays (image-split i h) (x .0)) ∙ p))
+        ];
       };
+      alive = λ i h r p e. let x = was i h r p e in m .alive i h r (x .0) (x .1);
       lives = λ i h t. let o = m .lives i h t in let x = lives i h (o .0) (o .1) (o .2) in (o .0, x .0, x .1);
-      framed = λ f h. in-frame-same (m .framed f h) (alike-same refl) (λ n c. refl) refl refl refl (λ i p. (framed-stays f h i p, (refl, (λ n. refl, (λ t. t, λ t. t)))));
+      framed = λ f h. in-frame-same (m .framed f h) (alike-same refl) (λ n c. refl) refl refl refl (λ i p. (framed-stays f h i p, (refl, (λ n. refl, (refl, λ t. t)))));
       away = record {
         paged = λ i h a r p e. let x = was i h r p e in m .away .paged i h a r (x .0) (x .1);
         void = λ i h o a d. m .away .void i h o a (λ r p e. let x = lives i h r p e in d r (x .0) (x .1));

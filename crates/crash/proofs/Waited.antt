@@ -23,7 +23,7 @@ use Rattle.crash.proofs.Claimed.{claim}
 lined : (z : Sizes) (st : State) (l : Ledger) (q : List ℕ) → Tied z st l → Tied z (setLine q st) l
 lined z st l q k = record {
   disk = record { designs = k .disk .designs; listing = k .disk .listing };
-  memory = let m = k .memory in record { named = m .named; begun = m .begun; lives = m .lives; framed = m .framed; away = m .away; filed = m .filed; kept = m .kept };
+  memory = let m = k .memory in record { named = m .named; begun = m .begun; lives = m .lives; alive = m .alive; framed = m .framed; away = m .away; filed = m .filed; kept = m .kept };
 }
 
 pub join : (z : Sizes) (s p : ℕ) → Step z (Event.Waiting (Join s p))

@@ -102,13 +102,15 @@ module _ (z : Sizes) (s p n x : ℕ) (st : State) (l : Ledger) (b : Before z st 
     noted = λ g e. refl;
     flag = λ g e. refl;
     write = λ g e. refl;
-    others = λ g h e i q. let d = apart g h e i q in (refl, (text-other i d, λ t. rw (put-other (l .pages .touched) i₀ true i d) t));
+    others = λ g h e i q. let d = apart g h e i q in (refl, (text-other i d, put-other (l .pages .touched) i₀ true i d));
     here = record {
       holding = λ i q. let e : i ≡ i₀ = omega (arith, q, in-it .1) in let h = o .holding i q in record {
         place = h .place;
         design = h .design;
         written = λ t. rw (e, put-same (l .pages .touched) i₀ true) tt;
         clean = λ t y. rw (e, put-same (l .pages .kept) i₀ false) at y;
+        turned = λ t. refl;
+        awaited = λ t. absurd (omega (arith, t, still));
         said = λ t a y. said-here a y ∙ ap (λ (j : ℕ). text′ j a) (sym e);
         opened = λ t. absurd (omega (arith, t, still));
       };
@@ -117,6 +119,7 @@ module _ (z : Sizes) (s p n x : ℕ) (st : State) (l : Ledger) (b : Before z st 
     };
     was = λ i h r q e. (q, e);
     live = m .lives;
+    alive = m .alive;
     paged = λ i h a r q e c k. m .away .paged i h (was-away i a) r q e c k ∙ sym (text-other i (not-here i (a .1)) c);
     void = λ i h a o d c k. text-other i (not-here i (o .1)) c ∙ m .away .void i h a (was-away i o) d c k;
     asleep = λ i h a c. text-other i (λ e. a (rw (e, digits-div s (b .asked .0 .1 .0)) (b .asked .1 .1 .0))) c;

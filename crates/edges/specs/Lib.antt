@@ -12,3 +12,10 @@ pub mod Refusals
 pub mod Runs
 pub mod Worlds
 pub mod Packs
+pub mod MoreWorlds
+pub mod Reads
+pub mod Relisted
+pub mod PlaceEdges
+pub mod TurnsEdges
+pub mod ListEdges
+pub mod TermsEdges

@@ -34,9 +34,11 @@ pub record NearEdges : Type 0 where
   at-first : taken (sized 4 4) (opened ++ fault 0 0 ∷ fault 1 0 ∷ fault 0 1 ∷ []) ≡ 3 ∷ 1 ∷ 3 ∷ 0 ∷ 2 ∷ 0 ∷ 0 ∷ []
   -- the end R − 1: all that is free lies below, and the hand then stands at R − 1
   at-last : taken (sized 4 4) (opened ++ fault 1 0 ∷ fault 1 1 ∷ fault 1 2 ∷ fault 0 0 ∷ claim ∷ claim ∷ claim ∷ claim ∷ given-back ++ fault 0 1 ∷ []) ≡ 3 ∷ 4 ∷ 3 ∷ 0 ∷ 0 ∷ 0 ∷ 0 ∷ []
+  -- a nulled page keeps its record, and the hand stays
+  nulled-again : taken (sized 8 4) (opened ++ fault 0 0 ∷ claim ∷ fault 1 0 ∷ fault 0 0 ∷ []) ≡ 2 ∷ 1 ∷ 0 ∷ 0 ∷ 2 ∷ 0 ∷ 0 ∷ []
   -- one record free, the farthest
   one-free : taken (sized 4 4) (opened ++ fault 0 0 ∷ fault 1 0 ∷ fault 1 1 ∷ fault 0 1 ∷ []) ≡ 0 ∷ 1 ∷ 4 ∷ 0 ∷ 2 ∷ 3 ∷ 0 ∷ []
 
 pub nearEdges : NearEdges
 unfolding taken leaves says trace
-nearEdges = record { nothing-below = refl; one-below = refl; tie = refl; two-below = refl; released-below = refl; at-first = refl; at-last = refl; one-free = refl }
+nearEdges = record { nothing-below = refl; one-below = refl; tie = refl; two-below = refl; released-below = refl; at-first = refl; at-last = refl; nulled-again = refl; one-free = refl }

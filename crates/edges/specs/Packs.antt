@@ -16,12 +16,16 @@ use Rattle.edges.specs.Worlds.{onState}
 
 -- ── the packs ──
 -- slot 1 has design 8, page 0 in record 1 and page 2 in record 0; slot 0 is empty
-abbrev one : Disk
+abbrev pub one : Disk
 one = record { records = 0 ∷ 9 ∷ 0 ∷ 4 ∷ 7 ∷ 7 ∷ 0 ∷ 0 ∷ []; numbers = 0 ∷ 8 ∷ []; accounts = 0 ∷ 0 ∷ []; maps = 0 ∷ 0 ∷ 0 ∷ 2 ∷ 0 ∷ 1 ∷ []; limits = 4 ∷ []; parents = 0 ∷ [] }
 
 -- slot 0 has design 5 too, page 1 in record 3
 abbrev two : Disk
 two = record { records = 0 ∷ 9 ∷ 0 ∷ 4 ∷ 7 ∷ 7 ∷ 3 ∷ 0 ∷ []; numbers = 5 ∷ 8 ∷ []; accounts = 0 ∷ 0 ∷ []; maps = 0 ∷ 4 ∷ 0 ∷ 2 ∷ 0 ∷ 1 ∷ []; limits = 4 ∷ []; parents = 0 ∷ [] }
+
+-- the record of page 0 of slot 1 holds zeros
+abbrev bare : Disk
+bare = record { records = 0 ∷ 9 ∷ 0 ∷ 0 ∷ 7 ∷ 7 ∷ 0 ∷ 0 ∷ []; numbers = 0 ∷ 8 ∷ []; accounts = 0 ∷ 0 ∷ []; maps = 0 ∷ 0 ∷ 0 ∷ 2 ∷ 0 ∷ 1 ∷ []; limits = 4 ∷ []; parents = 0 ∷ [] }
 
 unfoldable pub from : Disk → World
 unfolding said
@@ -74,6 +78,14 @@ beside = opened ++ create 0 0 7 ∷ activate 0 ∷ fault 0 0 ∷ write 0 0 0 6 �
 abbrev both : List Act
 both = restart ∷ activate 0 ∷ activate 1 ∷ fault 0 1 ∷ pageDone 0 1 ∷ write 0 1 1 8 ∷ claim ∷ pageDone 0 1 ∷ update 0 ∷ mapDone 0 1 ∷ stored
 
+-- page 0 of both designs is written, that of slot 1 first
+abbrev firsts : List Act
+firsts = restart ∷ activate 0 ∷ activate 1 ∷ fault 1 0 ∷ pageDone 0 1 ∷ write 1 0 1 5 ∷ claim ∷ pageDone 0 1 ∷ fault 0 0 ∷ write 0 0 1 8 ∷ claim ∷ pageDone 1 1 ∷ update 0 ∷ mapDone 0 1 ∷ stored
+
+-- a page of zeros of the pack comes in and goes, written by nobody
+abbrev idle : List Act
+idle = opened ++ fault 1 0 ∷ pageDone 0 1 ∷ claim ∷ stored
+
 -- ── the hurts ──
 abbrev whole : Disk → Disk
 whole d = d
@@ -112,6 +124,13 @@ older = setRecords (0 ∷ 9 ∷ 0 ∷ 5 ∷ 7 ∷ 7 ∷ 0 ∷ 0 ∷ [])
 abbrev strange : Disk → Disk
 strange = setRecords (0 ∷ 9 ∷ 0 ∷ 8 ∷ 7 ∷ 7 ∷ 0 ∷ 0 ∷ [])
 
+-- the first pages of two designs change places; the record of slot 1's holds the words of slot 0's
+abbrev exchanged : Disk → Disk
+exchanged = setMaps (2 ∷ 4 ∷ 0 ∷ 3 ∷ 0 ∷ 1 ∷ [])
+
+abbrev strangers : Disk → Disk
+strangers = setRecords (0 ∷ 9 ∷ 0 ∷ 8 ∷ 0 ∷ 8 ∷ 3 ∷ 0 ∷ [])
+
 unfoldable pub hurt : Disk → (Disk → Disk) → List Act → World
 unfolding from
 hurt pack d acts = onState (onDisk d) (run small (from pack) acts)
@@ -122,10 +141,10 @@ unfoldable pub denied : World → List ℕ
 unfolding saysNo lastInto lastUpdate eachOf someOf writtenWords packWords liveListed writtenReads packReads birthMaps fromPack
 denied w = saysNo 1 (inOnePlaceOfMaps small w ∷ writtenWords small w ∷ packWords small w ∷ liveListed small w ∷ writtenReads small w ∷ packReads small w ∷ birthMaps small w ∷ fromPack small w ∷ [])
 
--- as the world stands; once a restart has found it
+-- as the world stands; after a cut, before any restart; once a restart has found it
 unfoldable pub seen : World → List (List ℕ)
 unfolding denied
-seen w = denied w ∷ denied (run small w (restart ∷ [])) ∷ []
+seen w = denied w ∷ denied (run small w (cut [] [] ∷ [])) ∷ denied (run small w (restart ∷ [])) ∷ []
 
 -- a read of word 1 of page 0 of slot 1, after a list from the first pack: its answer and result
 unfoldable pub heard : List Act → List ℕ
@@ -147,34 +166,41 @@ pub record Packs : Type 0 where
   back-read : heard back ≡ 0 ∷ 4 ∷ []
   written-read : heard (written ++ restart ∷ activate 1 ∷ fault 1 0 ∷ pageDone 0 1 ∷ []) ≡ 0 ∷ 6 ∷ []
   -- Before an update is finished the pack's map stands, and a created design's is zero.
-  opened-dropped : seen (hurt one dropped opened) ≡ (7 ∷ 8 ∷ []) ∷ (7 ∷ 8 ∷ []) ∷ []
-  created-given : seen (hurt one given (opened ++ create 0 0 7 ∷ [])) ≡ (3 ∷ 7 ∷ 8 ∷ []) ∷ (3 ∷ 7 ∷ 8 ∷ []) ∷ []
+  opened-dropped : seen (hurt one dropped opened) ≡ (7 ∷ 8 ∷ []) ∷ (7 ∷ 8 ∷ []) ∷ (7 ∷ 8 ∷ []) ∷ []
+  created-given : seen (hurt one given (opened ++ create 0 0 7 ∷ [])) ≡ (3 ∷ 7 ∷ 8 ∷ []) ∷ (3 ∷ 7 ∷ 8 ∷ []) ∷ (3 ∷ 7 ∷ 8 ∷ []) ∷ []
   -- Promised, but written by nobody: unhurt, nothing is denied. A promised page dropped; listed at the next page; two pages in each other's place; other words than the pack's; a record in two entries, and a restart is refused.
-  unwritten-whole : seen (hurt one whole unwritten) ≡ [] ∷ [] ∷ []
-  unwritten-dropped : seen (hurt one dropped unwritten) ≡ (4 ∷ 8 ∷ []) ∷ (4 ∷ 8 ∷ []) ∷ []
-  unwritten-moved : seen (hurt one moved unwritten) ≡ (3 ∷ 4 ∷ 6 ∷ 8 ∷ []) ∷ (3 ∷ 4 ∷ 8 ∷ []) ∷ []
-  unwritten-swapped : seen (hurt one swapped unwritten) ≡ (3 ∷ 6 ∷ 8 ∷ []) ∷ (3 ∷ 8 ∷ []) ∷ []
-  unwritten-strange : seen (hurt one strange unwritten) ≡ (3 ∷ 8 ∷ []) ∷ (3 ∷ 6 ∷ 8 ∷ []) ∷ []
-  unwritten-doubled : seen (hurt one doubled unwritten) ≡ (1 ∷ 3 ∷ 6 ∷ 8 ∷ []) ∷ (1 ∷ 3 ∷ 6 ∷ 8 ∷ []) ∷ []
+  unwritten-whole : seen (hurt one whole unwritten) ≡ [] ∷ [] ∷ [] ∷ []
+  unwritten-dropped : seen (hurt one dropped unwritten) ≡ (4 ∷ 8 ∷ []) ∷ (4 ∷ 8 ∷ []) ∷ (4 ∷ 8 ∷ []) ∷ []
+  unwritten-moved : seen (hurt one moved unwritten) ≡ (3 ∷ 4 ∷ 6 ∷ 8 ∷ []) ∷ (3 ∷ 4 ∷ 8 ∷ []) ∷ (3 ∷ 4 ∷ 8 ∷ []) ∷ []
+  unwritten-swapped : seen (hurt one swapped unwritten) ≡ (3 ∷ 6 ∷ 8 ∷ []) ∷ (3 ∷ 8 ∷ []) ∷ (3 ∷ 8 ∷ []) ∷ []
+  unwritten-strange : seen (hurt one strange unwritten) ≡ (3 ∷ 8 ∷ []) ∷ (3 ∷ 8 ∷ []) ∷ (3 ∷ 6 ∷ 8 ∷ []) ∷ []
+  unwritten-doubled : seen (hurt one doubled unwritten) ≡ (1 ∷ 3 ∷ 6 ∷ 8 ∷ []) ∷ (1 ∷ 3 ∷ 8 ∷ []) ∷ (1 ∷ 3 ∷ 6 ∷ 8 ∷ []) ∷ []
   -- Written since the start: the pack's words and those of an older finished write are denied.
-  written-whole : seen (hurt one whole written) ≡ [] ∷ [] ∷ []
-  written-dropped : seen (hurt one dropped written) ≡ (4 ∷ 8 ∷ []) ∷ (4 ∷ 8 ∷ []) ∷ []
-  written-moved : seen (hurt one moved written) ≡ (2 ∷ 4 ∷ 8 ∷ []) ∷ (2 ∷ 4 ∷ 8 ∷ []) ∷ []
-  written-packs : seen (hurt one packs written) ≡ (2 ∷ 8 ∷ []) ∷ (2 ∷ 5 ∷ 8 ∷ []) ∷ []
-  written-older : seen (hurt one older written) ≡ (2 ∷ 8 ∷ []) ∷ (2 ∷ 5 ∷ 8 ∷ []) ∷ []
+  written-whole : seen (hurt one whole written) ≡ [] ∷ [] ∷ [] ∷ []
+  written-dropped : seen (hurt one dropped written) ≡ (4 ∷ 8 ∷ []) ∷ (4 ∷ 8 ∷ []) ∷ (4 ∷ 8 ∷ []) ∷ []
+  written-moved : seen (hurt one moved written) ≡ (2 ∷ 4 ∷ 8 ∷ []) ∷ (2 ∷ 4 ∷ 8 ∷ []) ∷ (2 ∷ 4 ∷ 8 ∷ []) ∷ []
+  written-packs : seen (hurt one packs written) ≡ (2 ∷ 8 ∷ []) ∷ (2 ∷ 8 ∷ []) ∷ (2 ∷ 5 ∷ 8 ∷ []) ∷ []
+  written-older : seen (hurt one older written) ≡ (2 ∷ 8 ∷ []) ∷ (2 ∷ 8 ∷ []) ∷ (2 ∷ 5 ∷ 8 ∷ []) ∷ []
   -- A write that finished after the update began.
-  landed-whole : seen (hurt one whole landed) ≡ [] ∷ [] ∷ []
-  landed-dropped : seen (hurt one dropped landed) ≡ (4 ∷ 8 ∷ []) ∷ (4 ∷ 8 ∷ []) ∷ []
-  landed-packs : seen (hurt one packs landed) ≡ (2 ∷ 8 ∷ []) ∷ (2 ∷ 5 ∷ 8 ∷ []) ∷ []
+  landed-whole : seen (hurt one whole landed) ≡ [] ∷ [] ∷ [] ∷ []
+  landed-dropped : seen (hurt one dropped landed) ≡ (4 ∷ 8 ∷ []) ∷ (4 ∷ 8 ∷ []) ∷ (4 ∷ 8 ∷ []) ∷ []
+  landed-packs : seen (hurt one packs landed) ≡ (2 ∷ 8 ∷ []) ∷ (2 ∷ 8 ∷ []) ∷ (2 ∷ 5 ∷ 8 ∷ []) ∷ []
   -- A write that counts no more: the pack's words stand again, and no others.
-  back-whole : seen (hurt one whole back) ≡ [] ∷ [] ∷ []
-  back-dropped : seen (hurt one dropped back) ≡ (4 ∷ 8 ∷ []) ∷ (4 ∷ 8 ∷ []) ∷ []
-  back-strange : seen (hurt one strange back) ≡ (3 ∷ 8 ∷ []) ∷ (3 ∷ 6 ∷ 8 ∷ []) ∷ []
+  back-whole : seen (hurt one whole back) ≡ [] ∷ [] ∷ [] ∷ []
+  back-dropped : seen (hurt one dropped back) ≡ (4 ∷ 8 ∷ []) ∷ (4 ∷ 8 ∷ []) ∷ (4 ∷ 8 ∷ []) ∷ []
+  back-strange : seen (hurt one strange back) ≡ (3 ∷ 8 ∷ []) ∷ (3 ∷ 8 ∷ []) ∷ (3 ∷ 6 ∷ 8 ∷ []) ∷ []
   -- What the pack listed for a design that is gone is not listed for the next one in its slot.
-  another-again : seen (hurt one again another) ≡ (3 ∷ 6 ∷ 7 ∷ 8 ∷ []) ∷ (3 ∷ 7 ∷ 8 ∷ []) ∷ []
+  another-again : seen (hurt one again another) ≡ (3 ∷ 6 ∷ 7 ∷ 8 ∷ []) ∷ (3 ∷ 7 ∷ 8 ∷ []) ∷ (3 ∷ 7 ∷ 8 ∷ []) ∷ []
   -- Pages of two designs of the pack in each other's place.
-  both-whole : seen (hurt two whole both) ≡ [] ∷ [] ∷ []
-  both-mixed : seen (hurt two mixed both) ≡ (2 ∷ 3 ∷ 8 ∷ []) ∷ (2 ∷ 3 ∷ 8 ∷ []) ∷ []
+  both-whole : seen (hurt two whole both) ≡ [] ∷ [] ∷ [] ∷ []
+  both-mixed : seen (hurt two mixed both) ≡ (2 ∷ 3 ∷ 8 ∷ []) ∷ (2 ∷ 3 ∷ 8 ∷ []) ∷ (2 ∷ 3 ∷ 8 ∷ []) ∷ []
+  -- Both first pages are written since: neither in the other's place, nor with the other's words.
+  firsts-right : T (holds two firsts)
+  firsts-exchanged : seen (hurt two exchanged firsts) ≡ (2 ∷ 8 ∷ []) ∷ (2 ∷ 8 ∷ []) ∷ (2 ∷ 8 ∷ []) ∷ []
+  firsts-strangers : seen (hurt two strangers firsts) ≡ (2 ∷ 8 ∷ []) ∷ (2 ∷ 8 ∷ []) ∷ (2 ∷ 5 ∷ 8 ∷ []) ∷ []
+  -- A claim of a page of zeros that nobody wrote ends no promise.
+  idle-right : T (holds bare idle)
+  idle-dropped : denied (hurt bare dropped idle) ≡ 4 ∷ 8 ∷ []
 
 pub packs-told : Packs
 unfolding holds hurt seen heard
@@ -212,4 +238,9 @@ packs-told = record {
   another-again = refl;
   both-whole = refl;
   both-mixed = refl;
+  firsts-right = tt;
+  firsts-exchanged = refl;
+  firsts-strangers = refl;
+  idle-right = tt;
+  idle-dropped = refl;
 }

@@ -9,7 +9,7 @@ use Rattle.model.specs.Setters.{onDisk, setParents}
 use Rattle.model.specs.Restart.{formatted}
 use Rattle.model.specs.Step
 use Rattle.model.specs.Acts.{Act, run}
-use Rattle.edges.specs.Lists.{limit, move, create, delete, activate, fault, write, restart, said, beginWith, saysFrom}
+use Rattle.edges.specs.Lists.{limit, move, create, delete, activate, fault, write, claim, update, pageDone, mapDone, restart, said, beginWith, saysFrom}
 
 -- four accounts
 abbrev four : Sizes
@@ -85,6 +85,8 @@ pub record PayerEdges : Type 0 where
   moved-said : told studios (rented ++ move 2 1 2 ∷ []) ≡ 0 ∷ 0 ∷ []
   moved-after : shared studios (rented ++ move 2 1 2 ∷ []) ≡ 4 ∷ 5 ∷ 0 ∷ 0 ∷ 0 ∷ 1 ∷ 0 ∷ 0 ∷ []
   moved-back : shared studios (rented ++ move 2 1 2 ∷ move 1 2 1 ∷ []) ≡ 4 ∷ 4 ∷ 1 ∷ 0 ∷ 0 ∷ 0 ∷ 1 ∷ 0 ∷ []
+  -- a design at rest is counted for who pays too
+  filed : paid studios (rented ++ claim ∷ pageDone 0 1 ∷ update 0 ∷ mapDone 0 1 ∷ limit 2 0 ∷ restart ∷ []) ≡ 0 ∷ 1 ∷ 0 ∷ 0 ∷ []
   -- 3: an account past Q
   range-giver : told studios (rented ++ move 4 1 1 ∷ []) ≡ 3 ∷ 0 ∷ []
   range-taker : told studios (rented ++ move 1 4 1 ∷ []) ≡ 3 ∷ 0 ∷ []
@@ -95,6 +97,7 @@ pub record PayerEdges : Type 0 where
   kin-first : told studios (rented ++ move 0 0 1 ∷ []) ≡ 25 ∷ 0 ∷ []
   nothing : told studios (rented ++ move 1 2 0 ∷ []) ≡ 25 ∷ 0 ∷ []
   too-much : told studios (rented ++ move 1 2 4 ∷ []) ≡ 25 ∷ 0 ∷ []
+  past-all : told studios (rented ++ move 1 2 65536 ∷ []) ≡ 25 ∷ 0 ∷ []
   all-of-it : told studios (rented ++ move 1 2 3 ∷ []) ≡ 0 ∷ 0 ∷ []
   past-most : told studios (rented ++ limit 2 65534 ∷ move 1 2 2 ∷ []) ≡ 25 ∷ 0 ∷ []
   at-most : told studios (rented ++ limit 2 65534 ∷ move 1 2 1 ∷ []) ≡ 0 ∷ 0 ∷ []
@@ -137,6 +140,7 @@ payerEdges = record {
   moved-said = refl;
   moved-after = refl;
   moved-back = refl;
+  filed = refl;
   range-giver = refl;
   range-taker = refl;
   kin-studios = refl;
@@ -145,6 +149,7 @@ payerEdges = record {
   kin-first = refl;
   nothing = refl;
   too-much = refl;
+  past-all = refl;
   all-of-it = refl;
   past-most = refl;
   at-most = refl;

@@ -9,7 +9,7 @@ use Rattle.model.specs.Acts.{Act, World, act, legal}
 use Rattle.model.specs.Demand3.{lastInto, lastUpdate, eachOf, someOf, ownWords, liveListed, liveReads, demand3}
 use Rattle.model.specs.FromPack.{writtenWords, packWords, writtenReads, packReads, birthMaps, fromPack}
 use Rattle.edges.specs.Linked.{linked}
-use Rattle.edges.specs.Lists.{limit, create, delete, activate, deactivate, fault, read, write, wire, unwire, claim, truncate, update, pageDone, mapDone, look, restart, small, cut, said, begin}
+use Rattle.edges.specs.Lists.{limit, create, delete, activate, deactivate, fault, read, write, wire, unwire, claim, truncate, update, pageDone, mapDone, move, join, turn, look, restart, small, cut, said, begin}
 
 -- the claim from any pack and the invariant hold, and once restarted the rules
 unfoldable pub right : World → Bool
@@ -43,6 +43,16 @@ always ok w (a ∷ acts) = let rest = always ok (act small w a) acts in ok w && 
 unfoldable pub holds : List Act → Bool
 unfolding always rightFormatted
 holds acts = legal small (begin small) acts && always rightFormatted (begin small) acts
+
+-- the list is legal, and after each act all is right, whether it is carried out or refused
+unfoldable pub alwaysRight : World → List Act → Bool
+unfolding rightFormatted begin
+alwaysRight w [] = rightFormatted w
+alwaysRight w (a ∷ acts) = let rest = alwaysRight (act small w a) acts in rightFormatted w && rest
+
+unfoldable pub stands : List Act → Bool
+unfolding alwaysRight
+stands acts = legal small (begin small) acts && alwaysRight (begin small) acts
 
 -- an active design, none of its pages in a frame
 abbrev opened : List Act
@@ -119,3 +129,9 @@ r₁₂ : T (holds (opened ++ fault 0 0 ∷ write 0 0 1 9 ∷ claim ∷ read 0 0
     ∷ fault 0 0 ∷ pageDone 1 1 ∷ write 0 0 1 5 ∷ claim ∷ read 0 0 1 ∷ look 0 0 ∷ cut (1 ∷ []) [] ∷ reread))
 unfolding holds
 r₁₂ = tt
+
+-- joins, turns and a move, and refused acts among them: 25, 5, 6, 3, 22, 22, 13, 10, 10, 7, 9, a look that is refused and a second restart
+r₁₃ : T (stands (opened ++ move 0 0 1 ∷ join 0 1 ∷ turn ∷ turn ∷ join 0 2 ∷ claim ∷ turn ∷ claim ∷ create 0 0 7 ∷ create 1 0 7 ∷ truncate 0 4 ∷ put 0 9 0 ++ mapDone 0 1 ∷ pageDone 1 1 ∷ read 0 0 1 ∷ look 0 0 ∷ update 0
+    ∷ update 0 ∷ deactivate 0 ∷ mapDone 0 1 ∷ delete 0 ∷ activate 0 ∷ cut [] [] ∷ restart ∷ reread))
+unfolding stands
+r₁₃ = tt

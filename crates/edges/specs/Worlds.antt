@@ -18,17 +18,17 @@ use Rattle.edges.specs.Runs.{holds}
 
 -- ── the lists ──
 -- page 0 of a design is written: 9, and then 5 into the same record
-abbrev nine : List Act
+abbrev pub nine : List Act
 nine = restart ∷ limit 0 4 ∷ create 0 0 7 ∷ activate 0 ∷ fault 0 0 ∷ write 0 0 1 9 ∷ claim ∷ pageDone 0 1 ∷ []
 
-abbrev five : List Act
+abbrev pub five : List Act
 five = fault 0 0 ∷ pageDone 1 1 ∷ write 0 0 1 5 ∷ claim ∷ []
 
-abbrev stored : List Act
+abbrev pub stored : List Act
 stored = update 0 ∷ mapDone 0 1 ∷ []
 
 -- a map update finishes, and promises the page since a finished write made it live
-abbrev written : List Act
+abbrev pub written : List Act
 written = nine ++ five ++ pageDone 1 1 ∷ stored
 
 -- one more finishes, and promises the page since an activate found it listed: after a deactivate, and after a restart
@@ -54,11 +54,11 @@ served = restart ∷ activate 0 ∷ fault 0 0 ∷ pageDone 0 1 ∷ []
 
 -- ── the hurts ──
 -- nothing is hurt
-abbrev whole : Disk → Disk
+abbrev pub whole : Disk → Disk
 whole d = d
 
 -- the promised page is dropped from the map
-abbrev dropped : Disk → Disk
+abbrev pub dropped : Disk → Disk
 dropped = setMaps (0 ∷ 0 ∷ 0 ∷ 0 ∷ 0 ∷ 0 ∷ [])
 
 -- its record is listed at the next page
@@ -66,7 +66,7 @@ abbrev moved : Disk → Disk
 moved = setMaps (0 ∷ 1 ∷ 0 ∷ 0 ∷ 0 ∷ 0 ∷ [])
 
 -- its record holds the words of the older finished write, and of the newer
-abbrev older : Disk → Disk
+abbrev pub older : Disk → Disk
 older = setRecords (0 ∷ 9 ∷ 0 ∷ 0 ∷ 0 ∷ 0 ∷ 0 ∷ 0 ∷ [])
 
 abbrev newer : Disk → Disk
@@ -114,10 +114,10 @@ unfoldable pub denied : World → List ℕ
 unfolding saysNo lastInto lastUpdate eachOf someOf ownWords liveListed liveReads demand3
 denied w = saysNo 1 (inOnePlaceOfMaps small w ∷ ownWords small w ∷ liveListed small w ∷ liveReads small w ∷ demand3 small w ∷ [])
 
--- as the world stands; once a restart has found it; once a restart after a cut has
+-- as the world stands; once a restart has found it; after a cut, before any restart; once a restart after that cut has found it
 unfoldable pub seen : World → List (List ℕ)
 unfolding denied
-seen w = denied w ∷ denied (run small w (restart ∷ [])) ∷ denied (run small w (cut [] [] ∷ restart ∷ [])) ∷ []
+seen w = let lost = run small w (cut [] [] ∷ []) in denied w ∷ denied (run small w (restart ∷ [])) ∷ denied lost ∷ denied (run small lost (restart ∷ [])) ∷ []
 
 -- a read of word 1 of page 0: its answer and result, the word of a page look, and the ledger's text
 unfoldable pub heard : World → List ℕ
@@ -133,35 +133,35 @@ pub record Worlds : Type 0 where
   landed-right : T (holds landed)
   several-right : T (holds several)
   -- Live by a finished write: unhurt, nothing is denied. A dropped or moved page is not listed, and a moved record and the older words are not the page's own; once a restart has found it so, the page reads otherwise too.
-  written-whole : seen (hurt whole written) ≡ [] ∷ [] ∷ [] ∷ []
-  written-dropped : seen (hurt dropped written) ≡ (3 ∷ 5 ∷ []) ∷ (3 ∷ 4 ∷ 5 ∷ []) ∷ (3 ∷ 4 ∷ 5 ∷ []) ∷ []
-  written-moved : seen (hurt moved written) ≡ (2 ∷ 3 ∷ 5 ∷ []) ∷ (2 ∷ 3 ∷ 4 ∷ 5 ∷ []) ∷ (2 ∷ 3 ∷ 4 ∷ 5 ∷ []) ∷ []
-  written-older : seen (hurt older written) ≡ (2 ∷ 5 ∷ []) ∷ (2 ∷ 4 ∷ 5 ∷ []) ∷ (2 ∷ 4 ∷ 5 ∷ []) ∷ []
+  written-whole : seen (hurt whole written) ≡ [] ∷ [] ∷ [] ∷ [] ∷ []
+  written-dropped : seen (hurt dropped written) ≡ (3 ∷ 5 ∷ []) ∷ (3 ∷ 4 ∷ 5 ∷ []) ∷ (3 ∷ 5 ∷ []) ∷ (3 ∷ 4 ∷ 5 ∷ []) ∷ []
+  written-moved : seen (hurt moved written) ≡ (2 ∷ 3 ∷ 5 ∷ []) ∷ (2 ∷ 3 ∷ 4 ∷ 5 ∷ []) ∷ (2 ∷ 3 ∷ 5 ∷ []) ∷ (2 ∷ 3 ∷ 4 ∷ 5 ∷ []) ∷ []
+  written-older : seen (hurt older written) ≡ (2 ∷ 5 ∷ []) ∷ (2 ∷ 4 ∷ 5 ∷ []) ∷ (2 ∷ 5 ∷ []) ∷ (2 ∷ 4 ∷ 5 ∷ []) ∷ []
   -- Live by an activate, after a deactivate ..
-  rested-whole : seen (hurt whole rested) ≡ [] ∷ [] ∷ [] ∷ []
-  rested-dropped : seen (hurt dropped rested) ≡ (3 ∷ 5 ∷ []) ∷ (3 ∷ 4 ∷ 5 ∷ []) ∷ (3 ∷ 4 ∷ 5 ∷ []) ∷ []
-  rested-moved : seen (hurt moved rested) ≡ (2 ∷ 3 ∷ 5 ∷ []) ∷ (2 ∷ 3 ∷ 4 ∷ 5 ∷ []) ∷ (2 ∷ 3 ∷ 4 ∷ 5 ∷ []) ∷ []
-  rested-older : seen (hurt older rested) ≡ (2 ∷ 5 ∷ []) ∷ (2 ∷ 4 ∷ 5 ∷ []) ∷ (2 ∷ 4 ∷ 5 ∷ []) ∷ []
+  rested-whole : seen (hurt whole rested) ≡ [] ∷ [] ∷ [] ∷ [] ∷ []
+  rested-dropped : seen (hurt dropped rested) ≡ (3 ∷ 5 ∷ []) ∷ (3 ∷ 4 ∷ 5 ∷ []) ∷ (3 ∷ 5 ∷ []) ∷ (3 ∷ 4 ∷ 5 ∷ []) ∷ []
+  rested-moved : seen (hurt moved rested) ≡ (2 ∷ 3 ∷ 5 ∷ []) ∷ (2 ∷ 3 ∷ 4 ∷ 5 ∷ []) ∷ (2 ∷ 3 ∷ 5 ∷ []) ∷ (2 ∷ 3 ∷ 4 ∷ 5 ∷ []) ∷ []
+  rested-older : seen (hurt older rested) ≡ (2 ∷ 5 ∷ []) ∷ (2 ∷ 4 ∷ 5 ∷ []) ∷ (2 ∷ 5 ∷ []) ∷ (2 ∷ 4 ∷ 5 ∷ []) ∷ []
   -- .. and after a restart.
-  restarted-whole : seen (hurt whole restarted) ≡ [] ∷ [] ∷ [] ∷ []
-  restarted-dropped : seen (hurt dropped restarted) ≡ (3 ∷ 5 ∷ []) ∷ (3 ∷ 4 ∷ 5 ∷ []) ∷ (3 ∷ 4 ∷ 5 ∷ []) ∷ []
-  restarted-moved : seen (hurt moved restarted) ≡ (2 ∷ 3 ∷ 5 ∷ []) ∷ (2 ∷ 3 ∷ 4 ∷ 5 ∷ []) ∷ (2 ∷ 3 ∷ 4 ∷ 5 ∷ []) ∷ []
-  restarted-older : seen (hurt older restarted) ≡ (2 ∷ 5 ∷ []) ∷ (2 ∷ 4 ∷ 5 ∷ []) ∷ (2 ∷ 4 ∷ 5 ∷ []) ∷ []
+  restarted-whole : seen (hurt whole restarted) ≡ [] ∷ [] ∷ [] ∷ [] ∷ []
+  restarted-dropped : seen (hurt dropped restarted) ≡ (3 ∷ 5 ∷ []) ∷ (3 ∷ 4 ∷ 5 ∷ []) ∷ (3 ∷ 5 ∷ []) ∷ (3 ∷ 4 ∷ 5 ∷ []) ∷ []
+  restarted-moved : seen (hurt moved restarted) ≡ (2 ∷ 3 ∷ 5 ∷ []) ∷ (2 ∷ 3 ∷ 4 ∷ 5 ∷ []) ∷ (2 ∷ 3 ∷ 5 ∷ []) ∷ (2 ∷ 3 ∷ 4 ∷ 5 ∷ []) ∷ []
+  restarted-older : seen (hurt older restarted) ≡ (2 ∷ 5 ∷ []) ∷ (2 ∷ 4 ∷ 5 ∷ []) ∷ (2 ∷ 5 ∷ []) ∷ (2 ∷ 4 ∷ 5 ∷ []) ∷ []
   -- Live as the update began that lands at the cut. The older words are those of the last write finished before then, so a read may give them; but a later write into the record is finished.
-  landed-whole : seen (hurt whole landed) ≡ [] ∷ [] ∷ [] ∷ []
-  landed-dropped : seen (hurt dropped landed) ≡ (3 ∷ 5 ∷ []) ∷ (3 ∷ 4 ∷ 5 ∷ []) ∷ (3 ∷ 4 ∷ 5 ∷ []) ∷ []
-  landed-moved : seen (hurt moved landed) ≡ (2 ∷ 3 ∷ 5 ∷ []) ∷ (2 ∷ 3 ∷ 4 ∷ 5 ∷ []) ∷ (2 ∷ 3 ∷ 4 ∷ 5 ∷ []) ∷ []
-  landed-older : seen (hurt older landed) ≡ (2 ∷ 5 ∷ []) ∷ (2 ∷ 5 ∷ []) ∷ (2 ∷ 5 ∷ []) ∷ []
+  landed-whole : seen (hurt whole landed) ≡ [] ∷ [] ∷ [] ∷ [] ∷ []
+  landed-dropped : seen (hurt dropped landed) ≡ (3 ∷ 5 ∷ []) ∷ (3 ∷ 4 ∷ 5 ∷ []) ∷ (3 ∷ 5 ∷ []) ∷ (3 ∷ 4 ∷ 5 ∷ []) ∷ []
+  landed-moved : seen (hurt moved landed) ≡ (2 ∷ 3 ∷ 5 ∷ []) ∷ (2 ∷ 3 ∷ 4 ∷ 5 ∷ []) ∷ (2 ∷ 3 ∷ 5 ∷ []) ∷ (2 ∷ 3 ∷ 4 ∷ 5 ∷ []) ∷ []
+  landed-older : seen (hurt older landed) ≡ (2 ∷ 5 ∷ []) ∷ (2 ∷ 5 ∷ []) ∷ (2 ∷ 5 ∷ []) ∷ (2 ∷ 5 ∷ []) ∷ []
   -- Of several pages the second is dropped; two pages of a design, or of two designs, change places; the first page has the words of another.
-  several-whole : seen (hurt whole several) ≡ [] ∷ [] ∷ [] ∷ []
-  several-second : seen (hurt second several) ≡ (3 ∷ 5 ∷ []) ∷ (3 ∷ 4 ∷ 5 ∷ []) ∷ (3 ∷ 4 ∷ 5 ∷ []) ∷ []
-  several-pages : seen (hurt pagesChanged several) ≡ (2 ∷ 5 ∷ []) ∷ (2 ∷ 4 ∷ 5 ∷ []) ∷ (2 ∷ 4 ∷ 5 ∷ []) ∷ []
-  several-designs : seen (hurt designsChanged several) ≡ (2 ∷ 5 ∷ []) ∷ (2 ∷ 4 ∷ 5 ∷ []) ∷ (2 ∷ 4 ∷ 5 ∷ []) ∷ []
-  several-others : seen (hurt others several) ≡ (2 ∷ 5 ∷ []) ∷ (2 ∷ 4 ∷ 5 ∷ []) ∷ (2 ∷ 4 ∷ 5 ∷ []) ∷ []
-  several-strangers : seen (hurt strangers several) ≡ (2 ∷ 5 ∷ []) ∷ (2 ∷ 4 ∷ 5 ∷ []) ∷ (2 ∷ 4 ∷ 5 ∷ []) ∷ []
+  several-whole : seen (hurt whole several) ≡ [] ∷ [] ∷ [] ∷ [] ∷ []
+  several-second : seen (hurt second several) ≡ (3 ∷ 5 ∷ []) ∷ (3 ∷ 4 ∷ 5 ∷ []) ∷ (3 ∷ 5 ∷ []) ∷ (3 ∷ 4 ∷ 5 ∷ []) ∷ []
+  several-pages : seen (hurt pagesChanged several) ≡ (2 ∷ 5 ∷ []) ∷ (2 ∷ 4 ∷ 5 ∷ []) ∷ (2 ∷ 5 ∷ []) ∷ (2 ∷ 4 ∷ 5 ∷ []) ∷ []
+  several-designs : seen (hurt designsChanged several) ≡ (2 ∷ 5 ∷ []) ∷ (2 ∷ 4 ∷ 5 ∷ []) ∷ (2 ∷ 5 ∷ []) ∷ (2 ∷ 4 ∷ 5 ∷ []) ∷ []
+  several-others : seen (hurt others several) ≡ (2 ∷ 5 ∷ []) ∷ (2 ∷ 4 ∷ 5 ∷ []) ∷ (2 ∷ 5 ∷ []) ∷ (2 ∷ 4 ∷ 5 ∷ []) ∷ []
+  several-strangers : seen (hurt strangers several) ≡ (2 ∷ 5 ∷ []) ∷ (2 ∷ 4 ∷ 5 ∷ []) ∷ (2 ∷ 5 ∷ []) ∷ (2 ∷ 4 ∷ 5 ∷ []) ∷ []
   -- A record in two entries; a restart is refused.
-  written-doubled : seen (hurt doubled written) ≡ (1 ∷ 2 ∷ 5 ∷ []) ∷ (1 ∷ 2 ∷ 5 ∷ []) ∷ (1 ∷ 2 ∷ 5 ∷ []) ∷ []
-  rested-doubled : seen (hurt doubled rested) ≡ (1 ∷ 2 ∷ 5 ∷ []) ∷ (1 ∷ 2 ∷ 5 ∷ []) ∷ (1 ∷ 2 ∷ 5 ∷ []) ∷ []
+  written-doubled : seen (hurt doubled written) ≡ (1 ∷ 2 ∷ 5 ∷ []) ∷ (1 ∷ 2 ∷ 5 ∷ []) ∷ (1 ∷ 2 ∷ 5 ∷ []) ∷ (1 ∷ 2 ∷ 5 ∷ []) ∷ []
+  rested-doubled : seen (hurt doubled rested) ≡ (1 ∷ 2 ∷ 5 ∷ []) ∷ (1 ∷ 2 ∷ 5 ∷ []) ∷ (1 ∷ 2 ∷ 5 ∷ []) ∷ (1 ∷ 2 ∷ 5 ∷ []) ∷ []
   -- Where the ledger takes two slots for one design, and no restart has been made, nothing else denies it.
   one-design : denied (oneDesign (hurt lent (written ++ cut [] [] ∷ []))) ≡ 1 ∷ 5 ∷ []
   -- A restart finds the older words, and the disk holds the newer ones again: only the reads deny it.

@@ -16,7 +16,8 @@ use Rattle.model.specs.Step.{Outcome, outcome, allFit, asked}
 use Rattle.model.specs.Laws.Own.{own, refusal, first-yes, step-own}
 use Rattle.model.specs.Calls.{unknown, stepOf, apply}
 use Rattle.model.specs.ApplyAll.{Listed, requestAt, putAnswer, turned, after}
-use Rattle.invariant.proofs.Kept.{Good, kept}
+use Rattle.model.specs.Terms.{Good}
+use Rattle.invariant.proofs.Kept.{kept}
 
 -- ── one request ──
 -- by its own questions; a kind that is no event fails 3

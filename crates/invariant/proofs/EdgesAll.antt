@@ -42,7 +42,7 @@ use Rattle.model.specs.Step.{Outcome, carried, result, step}
 use Rattle.model.specs.Laws.Own.{refusal, completed, first-yes, first-no, step-own}
 use Rattle.model.specs.Laws.OwnLaws.{own-no, own-yes}
 use Rattle.model.specs.Laws.EveryCall.{Call, sizesIn, lengths, outcomeOf, later, later-order, refused-unchanged}
-use Rattle.invariant.proofs.Kept.{Good}
+use Rattle.model.specs.Terms.{Good, Present}
 use Rattle.invariant.proofs.Never as Never
 
 -- ── question 1 of the sizes, for every call ──
@@ -114,15 +114,6 @@ claim-looks z st g h w = ap (λ (o : Outcome State). o .answer) (accepted z st g
         ∙ omega (arith, size-members list)
 
 -- ── read ──
--- a page of an active slot that is in a frame, in service or being written
-pub record Present (z : Sizes) (st : State) (s p : ℕ) : Type 0 where
-  pub slot : s < z .slots
-  pub page : p < z .pages
-  pub filled : ¬ (files st .number s ≡ 0)
-  pub active : files st .active s ≡ 1
-  pub framed : Holds (framed z (frames st) (pageOf z s p))
-  pub arrived : (f : ℕ) → f < z .frames → frames st .frame f .page ≡ suc (pageOf z s p) → ¬ (frames st .frame f .transfer ≡ READING)
-
 read-inside : (z : Sizes) (st : State) → Good z st → (s p w : ℕ) → Present z st s p → w < z .words
     → step z st (Event.Page (Read s p w)) .answer ≡ record { refusal = 0; result = wordAt z (st .memory .core .words) (frameOf z (frames st) (pageOf z s p)) w }
 unfolding result Pages.wordRead

@@ -13,12 +13,13 @@ use Rattle.model.specs.declared.event.Event.{Event}
 use Rattle.model.specs.declared.event.Event.the-variants as Event
 use Rattle.model.specs.Sizes.{sizesFit}
 use Rattle.model.specs.State.{Memory, State, LINE, files, allPages}
-use Rattle.model.specs.Rules.{lower, diskRules, allRules}
+use Rattle.model.specs.Rules.{lower, diskRules}
 use Rattle.model.specs.Laws.Ruled.{OnDisk, Ruled, ruled, rules, disk-ruled, rules-disk}
 use Rattle.model.specs.Questions.{questions}
 use Rattle.model.specs.Restart as R
 use Rattle.model.specs.Step.{outcome, allFit, asked, answer, carried, result, step, restart, in-order}
 use Rattle.model.specs.Laws.Fit.{Fit, within, fit, all-fit}
+use Rattle.model.specs.Terms.{Good}
 use Rattle.model.specs.Acts as A
 use Rattle.invariant.proofs.Framed.{Framed}
 use Rattle.invariant.proofs.FramesKept.{frames-kept}
@@ -29,10 +30,6 @@ use Rattle.invariant.proofs.RecordsKept.{kept-records}
 use Rattle.invariant.proofs.RestartedRecords.{format-disk, restarted-records}
 use Rattle.invariant.proofs.RecordsCut.{landed-disk}
 use Rattle.invariant.proofs.Looks as Looks
-
--- questions 1 and 2 say yes
-abbrev pub Good : Sizes → State → Type 0
-Good z st = Holds (allFit z st) × Holds (allRules z st)
 
 -- the two halves of the rules, joined
 joined : (z : Sizes) (st : State) → Records.Kept z st → Framed z st → Holds (queueOf LINE (allPages z) (st .memory .line)) → Ruled z st

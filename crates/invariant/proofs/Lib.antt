@@ -41,3 +41,6 @@ pub mod Served
 pub mod LimitsSum
 pub mod EdgesAll
 pub mod Transfer
+pub mod ParentsStay
+pub mod FaultTakes
+pub mod Away

@@ -20,7 +20,7 @@ use Rattle.model.specs.declared.event.Waiting.the-variants.{Join, Turn}
 use Rattle.model.specs.declared.event.Event.{Event}
 use Rattle.model.specs.declared.event.Event.the-variants as Event
 use Rattle.model.specs.Lines.{FREE, RELEASED}
-use Rattle.model.specs.State.{Disk, Held, State, files, frames, WRITING}
+use Rattle.model.specs.State.{Disk, Memory, Held, State, files, frames, WRITING}
 use Rattle.model.specs.Setters.{onDisk, onHeld, onSlots, setStates, setOwners, counted}
 use Rattle.model.specs.Rules.{diskRules}
 use Rattle.model.specs.Questions.{questions}
@@ -28,7 +28,8 @@ use Rattle.model.specs.Laws.Ruled.{Ruled, ruled}
 use Rattle.model.specs.Laws.Fit.{Fit, fit}
 use Rattle.model.specs.Designs
 use Rattle.model.specs.Accounts
-use Rattle.model.specs.Laws.AccountLaws.{sum, sum-shifted}
+use Rattle.model.specs.Laws.AccountLaws.{sum-shifted}
+use Rattle.model.specs.Terms.{isLimit, noLimit, noLimits, asksLimit, sum}
 use Rattle.model.specs.Pages
 use Rattle.model.specs.Writeback
 use Rattle.model.specs.Line
@@ -43,15 +44,6 @@ use Rattle.model.specs.ApplyAll.{requestAt, requestCount, turned, after, applyA
 use Rattle.invariant.proofs.Cases.{fault-by, claim-by, page-done-by}
 use Rattle.invariant.proofs.LineKept.{by-turn}
 use Rattle.invariant.proofs.Kept.{asked-all}
-
--- the limit event
-abbrev pub isLimit : Event → Bool
-isLimit (Event.Account (Limit q n)) = true
-isLimit (Event.Account (Move g t m)) = false
-isLimit (Event.Design e) = false
-isLimit (Event.Page e) = false
-isLimit (Event.Writeback e) = false
-isLimit (Event.Waiting e) = false
 
 -- ── one event ──
 abbrev Sum : State → State → Type 0
@@ -115,17 +107,6 @@ limits-sum z st e i = go (answer z st e) refl
     go (suc n) h = refl
 
 -- ── every list ──
--- an act that is no limit event: another event, a page look, a restart, a cut
-abbrev pub noLimit : Act → Bool
-noLimit (event e) = not (isLimit e)
-noLimit (looking s p) = true
-noLimit restarting = true
-noLimit (cutting writes updates junk) = true
-
-abbrev pub noLimits : List Act → Bool
-noLimits [] = true
-noLimits (a ∷ acts) = noLimit a && noLimits acts
-
 -- what lands at a cut is no limit
 writes-land : (z : Sizes) (st : State) (lands : ℕ → Bool) (n : ℕ) (d : Disk) → landWrites z st lands n d .limits ≡ d .limits
 unfolding landWrites Writeback.storeFrame
@@ -156,11 +137,6 @@ limits-sums z w [] t = refl
 limits-sums z w (a ∷ acts) t = limits-sums z (act z w a) acts (and-right (noLimit a) (noLimits acts) t) ∙ act-sum z w a (and-left (noLimit a) (noLimits acts) t)
 
 -- ── a list of requests in one call ──
--- a request for the limit event
-abbrev pub asksLimit : Decoded → Bool
-asksLimit (Known e) = isLimit e
-asksLimit Unknown = false
-
 apply-sum : (z : Sizes) (st : State) (d : Decoded) → T (not (asksLimit d)) → Sum st (stepOf z st d .left)
 unfolding stepOf unknown
 apply-sum z st (Known e) t = limits-sum z st e t
@@ -179,3 +155,12 @@ requests-sum z requests answers st t = go (requestCount (length requests) (lengt
     go : (k : ℕ) → ((j : ℕ) → j < k → T (not (asksLimit (decoded (requestAt requests j))))) → sum (after z requests answers st k .left .disk .limits) ≡ sum (st .disk .limits)
     go zero u = refl
     go (suc k) u = apply-sum z (after z requests answers st k .left) (decoded (requestAt requests k)) (u k (omega arith)) ∙ go k (λ j h. u j (omega (arith, h)))
+
+-- ── corollaries: these need no word of a list ──
+-- "The sum of all limits is the same after any moves",
+pub move-sum : (z : Sizes) (st : State) (giver taker m : ℕ) → sum (step z st (Event.Account (Move giver taker m)) .left .disk .limits) ≡ sum (st .disk .limits)
+move-sum z st giver taker m = limits-sum z st (Event.Account (Move giver taker m)) tt
+
+-- and at every cut
+pub cut-sum : (z : Sizes) (w : World) (writes updates : ℕ → Bool) (junk : Memory) → sum (run z w (cutting writes updates junk ∷ []) .state .disk .limits) ≡ sum (w .state .disk .limits)
+cut-sum z w writes updates junk = limits-sums z w (cutting writes updates junk ∷ []) tt

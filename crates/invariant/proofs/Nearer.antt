@@ -24,6 +24,7 @@ use Rattle.model.specs.Writeback.{looking}
 use Rattle.model.specs.Laws.Ruled.{Ruled}
 use Rattle.model.specs.Laws.Fit.{Fit}
 use Rattle.model.specs.Turns.{calm}
+use Rattle.model.specs.Terms.{unwired}
 use Rattle.invariant.proofs.Cases.{fault-by, claim-by, page-done-by}
 use Rattle.invariant.proofs.Looks.{looking-takes}
 use Rattle.invariant.proofs.FramesClaim.{taken-below}
@@ -50,9 +51,8 @@ unfolding firstNo
 fails n r d e h = d (rw (told r h) at e)
 
 module _ (z : Sizes) where
-  -- a frame that is not wired
-  abbrev pub Unwired : State → Type 0
-  Unwired st = (f : ℕ) × (f < z .frames) × (frames st .frame f .wired ≡ 0)
+  abbrev Unwired : State → Type 0
+  Unwired st = Holds (unwired z st)
 
   -- the page is in a frame that is not being written
   abbrev pub Here : State → ℕ → Type 0

@@ -22,25 +22,10 @@ use Rattle.model.specs.Laws.Fit.{fit-disk, fit}
 use Rattle.model.specs.Laws.Own.{first-yes}
 use Rattle.model.specs.Acts.{Act, event, looking, restarting, cutting, World, act, allowed, legal, run, start}
 use Rattle.model.specs.Acts as A
+use Rattle.model.specs.Terms.{Good, blameless, answered, allAnswered}
 use Rattle.invariant.proofs.Records.{disk-alone}
 use Rattle.invariant.proofs.RecordsCut.{formatted-fit, landed-fit}
-use Rattle.invariant.proofs.Kept.{Good, kept, restarted, formatted, landed}
-
--- an answer that does not blame sizes, lengths or tables
-abbrev pub Blameless : ℕ → Type 0
-Blameless n = (¬ (n ≡ 1)) × (¬ (n ≡ 2))
-
--- what is said of one act in a world: an event and a page look are not answered 1 or 2, a restart is carried out
-abbrev pub Answered : Sizes → World → Act → Type 0
-Answered z w (event e) = Blameless (step z (w .state) e .answer .refusal)
-Answered z w (looking s p) = Blameless (look z (w .state) s p .answer .refusal)
-Answered z w restarting = restart z (w .state) .answer .refusal ≡ 0
-Answered z w (cutting writes updates junk) = Unit {0}
-
--- and of each act of a list
-abbrev pub AllAnswered : Sizes → World → List Act → Type 0
-AllAnswered z w [] = Unit {0}
-AllAnswered z w (a ∷ acts) = Answered z w a × AllAnswered z (act z w a) acts
+use Rattle.invariant.proofs.Kept.{kept, restarted, formatted, landed}
 
 -- what every world of a list keeps: lengths and disk rules always, once restarted all rules
 pub record Safe (z : Sizes) (w : World) : Type 0 where
@@ -68,8 +53,8 @@ later k (ask m r q) t n = go (test r) (later m q (and-right (ltb k m) (above m q
     go true f ne = lt→ltb k (firstNo q) (omega (arith, ltb→lt m (firstNo q) (f ne), ltb→lt k m (and-left (ltb k m) (above m q) t)))
     go false f ne = and-left (ltb k m) (above m q) t
 
-blameless : (z : Sizes) (st : State) (q : Questions) → T (above 2 q) → Good z st → Blameless (firstNo (asked z st q))
-blameless z st q t g =
+not-blamed : (z : Sizes) (st : State) (q : Questions) → T (above 2 q) → Good z st → Holds (blameless (firstNo (asked z st q)))
+not-blamed z st q t g =
     let e : firstNo (asked z st q) ≡ firstNo q = first-yes 1 (allFit z st) (ask 2 (allRules z st) q) (g .0) ∙ first-yes 2 (allRules z st) q (g .1) in
     let big : ¬ (firstNo q ≡ 0) → 2 < firstNo q = λ n. ltb→lt 2 (firstNo q) (later 2 q t n) in
     (λ h. omega (arith, big (λ n. omega (arith, e, h, n)), e, h), λ h. omega (arith, big (λ n. omega (arith, e, h, n)), e, h))
@@ -77,26 +62,26 @@ blameless z st q t g =
 own-above : (z : Sizes) (st : State) (e : Event) → T (above 2 (questions z st e))
 own-above z st e = in-order z st e
 
-said : {A : Type 0} (n r : ℕ) (old new : A) → Blameless n → Blameless (outcome n r old new .answer .refusal)
+said : {A : Type 0} (n r : ℕ) (old new : A) → Holds (blameless n) → Holds (blameless (outcome n r old new .answer .refusal))
 said zero r old new b = b
 said (suc n) r old new b = b
 
 -- once restarted, no event and no page look is answered 1 or 2
-pub event-blameless : (z : Sizes) (st : State) (e : Event) → Good z st → Blameless (step z st e .answer .refusal)
+pub event-blameless : (z : Sizes) (st : State) (e : Event) → Good z st → Holds (blameless (step z st e .answer .refusal))
 unfolding step answer
-event-blameless z st e g = said (firstNo (asked z st (questions z st e))) (result z st e) st (carried z st e) (blameless z st (questions z st e) (own-above z st e) g)
+event-blameless z st e g = said (firstNo (asked z st (questions z st e))) (result z st e) st (carried z st e) (not-blamed z st (questions z st e) (own-above z st e) g)
 
-pub look-blameless : (z : Sizes) (st : State) (s p : ℕ) → Good z st → Blameless (look z st s p .answer .refusal)
+pub look-blameless : (z : Sizes) (st : State) (s p : ℕ) → Good z st → Holds (blameless (look z st s p .answer .refusal))
 unfolding look
-look-blameless z st s p g = said (firstNo (asked z st (lookQuestions z st s p))) 0 [] _ (blameless z st (lookQuestions z st s p) tt g)
+look-blameless z st s p g = said (firstNo (asked z st (lookQuestions z st s p))) 0 [] _ (not-blamed z st (lookQuestions z st s p) tt g)
 
 -- each act is answered so, and leaves a safe world
-pub one : (z : Sizes) (w : World) (a : Act) → T (allowed z w a) → Safe z w → Answered z w a × Safe z (act z w a)
+pub one : (z : Sizes) (w : World) (a : Act) → T (allowed z w a) → Safe z w → Holds (answered z w a) × Safe z (act z w a)
 unfolding allowed act
 one z w (event e) t s = (event-blameless z (w .state) e (s .up t), good-safe z _ (kept z (w .state) e (s .up t)))
 one z w (looking p q) t s = (look-blameless z (w .state) p q (s .up t), s)
 one z w restarting t s = let r = restarted z (w .state) (safe-fit z w s) (s .rules) in (r .0, good-safe z _ (r .1))
-one z w (cutting writes updates junk) t s = (tt, go (w .up) refl)
+one z w (cutting writes updates junk) t s = (refl, go (w .up) refl)
   where
     go : (b : Bool) → w .up ≡ b → Safe z (record { up = false; state = record { disk = if b (A.landed z (w .state) writes updates) (w .state .disk); memory = junk }; ledger = act z w (cutting writes updates junk) .ledger })
     go true e = let g = s .up (rw e tt) in record {
@@ -108,9 +93,9 @@ one z w (cutting writes updates junk) t s = (tt, go (w .up) refl)
     }
     go false e = record { sizes = s .sizes; disk = s .disk; memory = sound (memoryLengths z junk) t; rules = rules-disk z _ (disk-alone z (files (w .state)) (disk-ruled z (w .state) (s .rules)) _ _ _ _ _ _ _); up = λ u. absurd u }
 
-pub all-answered : (z : Sizes) (w : World) (acts : List Act) → T (legal z w acts) → Safe z w → AllAnswered z w acts × Safe z (run z w acts)
+pub all-answered : (z : Sizes) (w : World) (acts : List Act) → T (legal z w acts) → Safe z w → Holds (allAnswered z w acts) × Safe z (run z w acts)
 unfolding legal run
-all-answered z w [] t s = (tt, s)
+all-answered z w [] t s = (refl, s)
 all-answered z w (a ∷ acts) t s =
     let o = one z w a (and-left (allowed z w a) (legal z (act z w a) acts) t) s in
     let rest = all-answered z (act z w a) acts (and-right (allowed z w a) (legal z (act z w a) acts) t) (o .1) in
@@ -124,9 +109,9 @@ pub format-safe : (z : Sizes) (parents : List ℕ) (junk : Memory) → Holds (si
 format-safe z parents junk f low m = start-safe z (R.formatted z parents) junk f (fit-disk z (R.formatted z parents) (formatted-fit z parents)) m (formatted z parents junk f low)
 
 pub never-2-from-pack : (z : Sizes) (pack : Disk) (junk : Memory) (acts : List Act) → Holds (sizesFit z) → Holds (diskLengths z pack) → Holds (memoryLengths z junk)
-    → Holds (diskRules z (record { disk = pack; memory = junk })) → T (legal z (start z pack junk) acts) → AllAnswered z (start z pack junk) acts
+    → Holds (diskRules z (record { disk = pack; memory = junk })) → T (legal z (start z pack junk) acts) → Holds (allAnswered z (start z pack junk) acts)
 never-2-from-pack z pack junk acts f d m r t = all-answered z (start z pack junk) acts t (start-safe z pack junk f d m r) .0
 
 pub never-2 : (z : Sizes) (parents : List ℕ) (junk : Memory) (acts : List Act) → Holds (sizesFit z) → Holds (lower (z .accounts) (at parents)) → Holds (memoryLengths z junk)
-    → T (legal z (start z (R.formatted z parents) junk) acts) → AllAnswered z (start z (R.formatted z parents) junk) acts
+    → T (legal z (start z (R.formatted z parents) junk) acts) → Holds (allAnswered z (start z (R.formatted z parents) junk) acts)
 never-2 z parents junk acts f low m t = all-answered z (start z (R.formatted z parents) junk) acts t (format-safe z parents junk f low m) .0

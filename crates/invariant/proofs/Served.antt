@@ -1,7 +1,7 @@
 -- A request in place k of the line is served or sent away within 3 × k turns, where a frame is unwired, only turns and good done reports
 -- happen, and no transfer is under way as any turn starts.
-use mathlib.Core.Path.{_≡_, refl, sym, _∙_, subst}
-use mathlib.Core.List.{List, [], _∷_}
+use mathlib.Core.Path.{_≡_, refl, ap, sym, _∙_, subst}
+use mathlib.Core.List.{List, [], _∷_, _++_}
 use mathlib.Core.Logic.{_⊎_, inl, inr}
 use Prim.Native.Nat.{ℕ, zero, suc, _+_, _*_, _%_, _<_, _≤_}
 use native.Mathlib.Omega.{arith}
@@ -29,11 +29,12 @@ use Rattle.model.specs.Step.{Outcome, outcome, answer, result, carried, step}
 use Rattle.model.specs.Laws.Own.{own, step-own}
 use Rattle.model.specs.Laws.Ruled.{Ruled, ruled}
 use Rattle.model.specs.Laws.Fit.{Fit, fit}
-use Rattle.model.specs.Turns.{Deed, turn, pageDone, mapDone, turns, Gone, calm, after, calmTurns, gone, NoneRefused, Left}
-use Rattle.invariant.proofs.Kept.{Good, kept, asked-all}
+use Rattle.model.specs.Turns.{Deed, turn, pageDone, mapDone, turns, Gone, pagesOf, calm, after, calmTurns, gone, afterAll, NoneRefused, Left}
+use Rattle.model.specs.Terms.{Good, unwired}
+use Rattle.invariant.proofs.Kept.{kept, asked-all}
 use Rattle.invariant.proofs.Never.{later}
 use Rattle.invariant.proofs.LineKept.{fault-line, claim-line}
-use Rattle.invariant.proofs.Nearer.{Unwired, Here, Near, here, room, far, near-pos, Onward, near-on, page-done, map-done, fault-here, fault-unwired, claim-room, claim-unwired, none-free, listed}
+use Rattle.invariant.proofs.Nearer.{Here, Near, here, room, far, near-pos, Onward, near-on, page-done, map-done, fault-here, fault-unwired, claim-room, claim-unwired, none-free, listed}
 
 -- somebody waits: the first, and those behind
 members-first : (q : List ℕ) → 0 < size q → members q ≡ first q ∷ members (pop q)
@@ -67,7 +68,7 @@ module _ (z : Sizes) where
     by-treat : (P : Outcome State → Type 0) → ((t : Turning) → Treats z st t → P (By t)) → P (step z st (Event.Waiting Turn))
     by-treat P f = subst P (sym turn-is) (f (turning z st) (treats z st))
 
-    module _ (u : Unwired z st) (c : Holds (calm z st)) where
+    module _ (u : Holds (unwired z st)) (c : Holds (calm z st)) where
       -- nobody goes to the back
       no-back : ¬ Treats z st goesBack
       no-back (back w i s) = s (λ f h e. c f h)
@@ -88,7 +89,7 @@ module _ (z : Sizes) where
 
       -- no turn is refused, and a frame stays unwired
       abbrev Keeps : Outcome State → Type 0
-      Keeps o = (o .answer .refusal ≡ 0) × Unwired z (o .left)
+      Keeps o = (o .answer .refusal ≡ 0) × Holds (unwired z (o .left))
 
       turn-keeps : Keeps (step z st (Event.Waiting Turn))
       unfolding firstNo
@@ -187,7 +188,7 @@ module _ (z : Sizes) where
   by-on ds st st′ o k n near h l rest = subst (λ (q : List ℕ). Left (suc k) (members q) (gone z st′ ds)) (o .line′)
       (rest k n (subst (λ (q : List ℕ). Near z st′ (first q) n) (sym (o .line′)) (near-on z o near)) h (subst (λ (q : List ℕ). k < size q) (sym (o .line′)) l))
 
-  waits : (ds : List Deed) (st : State) → Good z st → Unwired z st → T (calmTurns z st ds) → (k n : ℕ) → Near z st (nextPage z st) n → n + 3 * k ≤ turns ds → k < size (st .memory .line)
+  waits : (ds : List Deed) (st : State) → Good z st → Holds (unwired z st) → T (calmTurns z st ds) → (k n : ℕ) → Near z st (nextPage z st) n → n + 3 * k ≤ turns ds → k < size (st .memory .line)
       → Left (suc k) (members (st .memory .line)) (gone z st ds)
   unfolding calmTurns gone
   waits [] st g u c k n near h l = absurd (omega (arith, h, near-pos z near))
@@ -199,7 +200,7 @@ module _ (z : Sizes) where
   waits (mapDone s ∷ ds) st g u c k n near h l = by-on ds st (after z st (mapDone s)) (map-on st g s) k n near h l
       (waits ds (after z st (mapDone s)) (kept z st (Event.Writeback (MapDone s 1)) g) (map-on st g s .unwired′ u) c)
 
-  none-refused : (ds : List Deed) (st : State) → Good z st → Unwired z st → T (calmTurns z st ds) → NoneRefused z st ds
+  none-refused : (ds : List Deed) (st : State) → Good z st → Holds (unwired z st) → T (calmTurns z st ds) → NoneRefused z st ds
   unfolding calmTurns
   none-refused [] st g u c = tt
   none-refused (turn ∷ ds) st g u c =
@@ -210,7 +211,68 @@ module _ (z : Sizes) where
 
 -- When the tables pass 1 and 2, at least one frame is unwired, only turns and good done reports happen, and no transfer is under way as any turn starts,
 -- the request standing in place k (from 1) is served or sent away within 3 × k turns.
-pub served-within : (z : Sizes) (st : State) (ds : List Deed) (k : ℕ) → Good z st → Unwired z st → T (calmTurns z st ds) → 3 * k ≤ turns ds → k ≤ size (st .memory .line)
+pub served-within : (z : Sizes) (st : State) (ds : List Deed) (k : ℕ) → Good z st → Holds (unwired z st) → T (calmTurns z st ds) → 3 * k ≤ turns ds → k ≤ size (st .memory .line)
     → NoneRefused z st ds × Left k (members (st .memory .line)) (gone z st ds)
 served-within z st ds zero g u c h l = (none-refused z ds st g u c, tt)
 served-within z st ds (suc k) g u c h l = (none-refused z ds st g u c, waits z ds st g u c k 3 far (omega (arith, h)) (omega (arith, l)))
+
+-- ── a result above 0 is a request that has left the line ──
+-- a turn with a result above 0 takes the first request out of the line and changes nothing else
+pub turn-leaves : (z : Sizes) (st : State) → Good z st → (let o = step z st (Event.Waiting Turn) in ¬ (o .answer .result ≡ 0) → o .left ≡ Line.leaves z st)
+unfolding firstNo
+turn-leaves z st g = by-treat z st g (λ o. ¬ (o .answer .result ≡ 0) → o .left ≡ Line.leaves z st) go
+  where
+    claimed : (n : ℕ) → ¬ (outcome n 0 st (Writeback.claim z st) .answer .result ≡ 0) → outcome n 0 st (Writeback.claim z st) .left ≡ Line.leaves z st
+    claimed zero d = absurd (d refl)
+    claimed (suc n) d = absurd (d refl)
+
+    go : (t : Turning) → Treats z st t → ¬ (By z st g t .answer .result ≡ 0) → By z st g t .left ≡ Line.leaves z st
+    go nobody h d = absurd (d refl)
+    go serves h d = refl
+    go goesBack h d = absurd (d refl)
+    go faults h d = absurd (d refl)
+    go claims h d = claimed (firstNo (turnQuestions z st claims)) d
+    go (sendsAway m) h d = refl
+
+module _ (z : Sizes) where
+  -- those that stood in the line are those that have left, then those that wait
+  abbrev Stood : List Deed → State → Type 0
+  Stood ds st = members (st .memory .line) ≡ pagesOf (gone z st ds) ++ members (afterAll z st ds .memory .line)
+
+  turn-stood : (st : State) (g : Good z st) (u : Holds (unwired z st)) (c : Holds (calm z st)) (ds : List Deed) → Stood ds (step z st (Event.Waiting Turn) .left)
+      → members (st .memory .line) ≡ pagesOf (Then z st g u c ds (step z st (Event.Waiting Turn))) ++ members (afterAll z (step z st (Event.Waiting Turn) .left) ds .memory .line)
+  unfolding firstNo
+  turn-stood st g u c ds = by-treat z st g P go
+    where
+      P : Outcome State → Type 0
+      P o = Stood ds (o .left) → members (st .memory .line) ≡ pagesOf (Then z st g u c ds o) ++ members (afterAll z (o .left) ds .memory .line)
+
+      here : (x : State) → x .memory .line ≡ st .memory .line → Stood ds x → members (st .memory .line) ≡ pagesOf (gone z x ds) ++ members (afterAll z x ds .memory .line)
+      here x e w = ap members (sym e) ∙ w
+
+      left : 0 < size (st .memory .line) → Stood ds (Line.leaves z st) → members (st .memory .line) ≡ nextPage z st ∷ (pagesOf (gone z (Line.leaves z st) ds) ++ members (afterAll z (Line.leaves z st) ds .memory .line))
+      left h w = members-first (st .memory .line) h ∙ ap (λ (l : List ℕ). nextPage z st ∷ l) w
+
+      go : (t : Turning) → Treats z st t → P (By z st g t)
+      go nobody h w = w
+      go serves (served s i q) w = left s w
+      go goesBack h w = absurd (no-back z st g u c h)
+      go faults h w = here _ (fault-line z st _ _) w
+      go claims h w = subst (λ (m : ℕ). P (outcome m 0 st (Writeback.claim z st))) (sym (claims-asked z st g u c h)) (λ v. here _ (claim-line z st) v) w
+      go (sendsAway m) (away s i _ e a b) w = rw (ne-eqb m 0 a) (left s w)
+
+  stood : (ds : List Deed) (st : State) → Good z st → Holds (unwired z st) → T (calmTurns z st ds) → Stood ds st
+  unfolding calmTurns gone afterAll
+  stood [] st g u c = refl
+  stood (turn ∷ ds) st g u c =
+      let m = sound (calm z st) (and-left (test (calm z st)) (calmTurns z (after z st turn) ds) c) in
+      turn-stood st g u m ds (stood ds (after z st turn) (kept z st (Event.Waiting Turn) g) (turn-keeps z st g u m .1) (and-right (test (calm z st)) (calmTurns z (after z st turn) ds) c))
+  stood (pageDone f ∷ ds) st g u c =
+      ap members (sym (page-on z st g f .line′)) ∙ stood ds (after z st (pageDone f)) (kept z st (Event.Writeback (PageDone f 1)) g) (page-on z st g f .unwired′ u) c
+  stood (mapDone s ∷ ds) st g u c =
+      ap members (sym (map-on z st g s .line′)) ∙ stood ds (after z st (mapDone s)) (kept z st (Event.Writeback (MapDone s 1)) g) (map-on z st g s .unwired′ u) c
+
+-- along such a list the requests that stood in the line are, in order, those whose turn had a result above 0, and then those that still wait
+pub left-line : (z : Sizes) (st : State) (ds : List Deed) → Good z st → Holds (unwired z st) → T (calmTurns z st ds)
+    → members (st .memory .line) ≡ pagesOf (gone z st ds) ++ members (afterAll z st ds .memory .line)
+left-line z st ds g u c = stood z ds st g u c

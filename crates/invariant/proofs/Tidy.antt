@@ -33,6 +33,7 @@ use Rattle.model.specs.Line
 use Rattle.model.specs.Restart as R
 use Rattle.model.specs.Step.{outcome, diskLengths, memoryLengths, answer, carried, result, step, restart}
 use Rattle.model.specs.Acts.{Act, event, looking, restarting, cutting, World, act, allowed, legal, run, start}
+use Rattle.model.specs.Terms.{tidy}
 use Rattle.invariant.proofs.LineKept.{by-turn}
 use Rattle.invariant.proofs.Records.{Tidied}
 use Rattle.invariant.proofs.RecordsTurned.{turned-tidy, activate-turned, deactivate-turned}
@@ -100,12 +101,15 @@ module _ (z : Sizes) where
   run-tidy w (a ∷ acts) l s t =
       run-tidy (act z w a) acts (and-right (allowed z w a) (legal z (act z w a) acts) l) (one z w a (and-left (allowed z w a) (legal z (act z w a) acts) l) s .1) (act-tidy w a s t)
 
+as-rule : (z : Sizes) (st : State) → Tidied z st → Holds (tidy z st)
+as-rule z st t r h = (t .free r h, t .released r h)
+
 pub always-tidy-from-pack : (z : Sizes) (pack : Disk) (junk : Memory) (acts : List Act) → Holds (sizesFit z) → Holds (diskLengths z pack) → Holds (memoryLengths z junk)
-    → Holds (diskRules z (record { disk = pack; memory = junk })) → T (legal z (start z pack junk) acts) → T (run z (start z pack junk) acts .up) → Tidied z (run z (start z pack junk) acts .state)
+    → Holds (diskRules z (record { disk = pack; memory = junk })) → T (legal z (start z pack junk) acts) → T (run z (start z pack junk) acts .up) → Holds (tidy z (run z (start z pack junk) acts .state))
 unfolding start
-always-tidy-from-pack z pack junk acts f d m r l = run-tidy z (start z pack junk) acts l (start-safe z pack junk f d m r) (λ u. absurd u)
+always-tidy-from-pack z pack junk acts f d m r l u = as-rule z (run z (start z pack junk) acts .state) (run-tidy z (start z pack junk) acts l (start-safe z pack junk f d m r) (λ x. absurd x) u)
 
 pub always-tidy : (z : Sizes) (parents : List ℕ) (junk : Memory) (acts : List Act) → Holds (sizesFit z) → Holds (lower (z .accounts) (at parents)) → Holds (memoryLengths z junk)
-    → T (legal z (start z (R.formatted z parents) junk) acts) → T (run z (start z (R.formatted z parents) junk) acts .up) → Tidied z (run z (start z (R.formatted z parents) junk) acts .state)
+    → T (legal z (start z (R.formatted z parents) junk) acts) → T (run z (start z (R.formatted z parents) junk) acts .up) → Holds (tidy z (run z (start z (R.formatted z parents) junk) acts .state))
 unfolding start
-always-tidy z parents junk acts f low m l = run-tidy z (start z (R.formatted z parents) junk) acts l (format-safe z parents junk f low m) (λ u. absurd u)
+always-tidy z parents junk acts f low m l u = as-rule z (run z (start z (R.formatted z parents) junk) acts .state) (run-tidy z (start z (R.formatted z parents) junk) acts l (format-safe z parents junk f low m) (λ x. absurd x) u)

@@ -1,15 +1,16 @@
 -- Paper 02, wish 4: "No event but its done, a cut or a restart changes the words of a frame in transfer." Over every event, request, page look and list of acts.
 use mathlib.Core.Path.{_≡_, refl, ap, sym, _∙_}
+use mathlib.Core.Bool.{not}
 use mathlib.Core.List.{List, [], _∷_}
 use Prim.Native.Nat.{ℕ, zero, suc, _+_, _*_, _%_, _<_}
 use native.Mathlib.Nat.{mod-lt, div-add-mod'}
 use native.Mathlib.Omega.{arith}
 use native.Mathlib.Decide.{ℕ-discrete}
-use lib.Dec.{T, eqb}
+use lib.Dec.{T, eqb, T-not}
 use lib.ListN.{length, set}
 use borrow.Author.Tests.{eq-eqb}
 use Rattle.tables.specs.Base.{if, tab}
-use Rattle.tables.specs.Laws.{if-elim, if-false, at-tab0}
+use Rattle.tables.specs.Laws.{if-elim, if-false, at-tab0, and-left, and-right, eq→T}
 use Rattle.tables.specs.Rule.{Holds, same, test, sound}
 use Rattle.tables.specs.Queue.{first, members, times}
 use Rattle.tables.specs.QueueLaws.{first-once}
@@ -41,6 +42,7 @@ use Rattle.model.specs.Step.{outcome, asked, answer, carried, result, step}
 use Rattle.model.specs.Calls.{apply, stepOf, unknown}
 use Rattle.model.specs.Acts as A
 use Rattle.model.specs.Acts.{Act, World, act, run}
+use Rattle.model.specs.Terms.{Good, InTransfer, Untouched, isDone, asksDone, other, allOther}
 use Rattle.model.specs.Laws.Ruled.{Ruled, ruled, once-free}
 use Rattle.model.specs.Laws.Fit.{Fit, fit}
 use Rattle.invariant.proofs.LineKept.{by-turn}
@@ -48,21 +50,7 @@ use Rattle.invariant.proofs.Looks.{Took, looking-takes}
 use Rattle.invariant.proofs.FrameParts.{part-other, word-other}
 use Rattle.invariant.proofs.Stands.{frame-of, moving-place, seat-at}
 use Rattle.invariant.proofs.Freed.{set-there, set-elsewhere}
-use Rattle.invariant.proofs.Kept.{Good, asked-all, kept}
-
--- the words of frame f, its page and its transfer are what they were
-pub record Untouched (z : Sizes) (st st′ : State) (f : ℕ) : Type 0 where
-  pub words : (w : ℕ) → w < z .words → wordAt z (st′ .memory .core .words) f w ≡ wordAt z (st .memory .core .words) f w
-  pub page : frames st′ .frame f .page ≡ frames st .frame f .page
-  pub transfer : frames st′ .frame f .transfer ≡ frames st .frame f .transfer
-
--- a frame in transfer, and an event that is not its page done
-pub record InTransfer (z : Sizes) (st : State) (f : ℕ) : Type 0 where
-  pub within : f < z .frames
-  pub moving : ¬ (frames st .frame f .transfer ≡ NONE)
-
-abbrev pub NotItsDone : ℕ → Event → Type 0
-NotItsDone f e = (good : ℕ) → ¬ (e ≡ Event.Writeback (PageDone f good))
+use Rattle.invariant.proofs.Kept.{asked-all, kept}
 
 -- frame f is as it was, and so are its words
 by-frame : (z : Sizes) (st st′ : State) (f : ℕ) → frames st′ .frame f ≡ frames st .frame f → ((w : ℕ) → w < z .words → wordAt z (st′ .memory .core .words) f w ≡ wordAt z (st .memory .core .words) f w) → Untouched z st st′ f
@@ -195,7 +183,7 @@ module _ (z : Sizes) (st : State) (fits : Fit z st) (r : Ruled z st) (f : ℕ) (
       (λ n. if-elim Same (eqb good 1) _ _ (λ g. others _ k _ d refl (λ w l. refl)) (λ g. others _ k _ d refl (λ w l. refl))))
 
   -- ── every event ──
-  untouched : (e : Event) → Asked (questions z st e) → NotItsDone f e → Same (carried z st e)
+  untouched : (e : Event) → Asked (questions z st e) → T (not (isDone f e)) → Same (carried z st e)
   unfolding carried counted Accounts.limit Accounts.move Designs.create Designs.delete Designs.activate Designs.deactivate Writeback.update Writeback.mapDone Line.join
   untouched (Event.Design (Create s q n)) a o = same-core z st _ f refl
   untouched (Event.Design (Delete s)) a o = same-core z st _ f refl
@@ -211,14 +199,14 @@ module _ (z : Sizes) (st : State) (fits : Fit z st) (r : Ruled z st) (f : ℕ) (
   untouched (Event.Writeback Claim) a o = claim-untouched a
   untouched (Event.Writeback (Truncate s k)) a o = truncate-untouched s k a
   untouched (Event.Writeback (Update s)) a o = same-core z st _ f refl
-  untouched (Event.Writeback (PageDone k good)) a o = done-untouched k good (λ e. o good (ap (λ (x : ℕ). Event.Writeback (PageDone x good)) (sym e)))
+  untouched (Event.Writeback (PageDone k good)) a o = done-untouched k good (λ e. T-not (eqb k f) o (eq→T (sym e)))
   untouched (Event.Writeback (MapDone s good)) a o =
       counted-untouched z st _ f (if-elim Same (eqb good 1) _ _ (λ y. same-core z st _ f refl) (λ n. same-core z st _ f refl))
   untouched (Event.Waiting (Join s p)) a o = same-core z st _ f refl
   untouched (Event.Waiting Turn) a o = by-turn z st fits r Same (λ l h. same-core z st _ f refl) (λ q. fault-untouched _ _ q) (λ q. claim-untouched q) a
 
 -- For every state that passes questions 1 and 2, every frame in transfer and every event but its page done: its words are after `step` what they were; it is in that transfer still, of that page.
-pub transfer-words : (z : Sizes) (st : State) (e : Event) → Good z st → (f : ℕ) → InTransfer z st f → NotItsDone f e → Untouched z st (step z st e .left) f
+pub transfer-words : (z : Sizes) (st : State) (e : Event) → Good z st → (f : ℕ) → InTransfer z st f → T (not (isDone f e)) → Untouched z st (step z st e .left) f
 unfolding step
 transfer-words z st e g f t o = go (answer z st e) refl
   where
@@ -227,31 +215,20 @@ transfer-words z st e g f t o = go (answer z st e) refl
     go (suc n) h = same-core z st st f refl
 
 -- .. and every request but one for its page done
-pub transfer-words-apply : (z : Sizes) (st : State) (q : Request) → Good z st → (f : ℕ) → InTransfer z st f → ((good : ℕ) → ¬ (decoded q ≡ Known (Event.Writeback (PageDone f good)))) → Untouched z st (apply z st q .left) f
+pub transfer-words-apply : (z : Sizes) (st : State) (q : Request) → Good z st → (f : ℕ) → InTransfer z st f → T (not (asksDone f (decoded q))) → Untouched z st (apply z st q .left) f
 unfolding apply stepOf unknown
-transfer-words-apply z st q g f t o = go (decoded q) refl
+transfer-words-apply z st q g f t o = go (decoded q) o
   where
     refused : (n : ℕ) → Untouched z st (outcome n 0 st st .left) f
     refused zero = same-core z st st f refl
     refused (suc n) = same-core z st st f refl
 
-    go : (d : Decoded) → decoded q ≡ d → Untouched z st (stepOf z st d .left) f
-    go (Known e) h = transfer-words z st e g f t (λ good i. o good (h ∙ ap Known i))
+    go : (d : Decoded) → T (not (asksDone f d)) → Untouched z st (stepOf z st d .left) f
+    go (Known e) h = transfer-words z st e g f t h
     go Unknown h = refused (firstNo (asked z st (ask (decodedNumber Unknown) (same 0 1) none)))
 
 -- ── lists of acts ──
--- an act that is no cut, no restart and not its page done
-abbrev pub Other : ℕ → Act → Type 0
-Other f (A.event e) = NotItsDone f e
-Other f (A.looking s p) = Unit {0}
-Other f A.restarting = ⊥
-Other f (A.cutting writes updates junk) = ⊥
-
-abbrev pub AllOther : ℕ → List Act → Type 0
-AllOther f [] = Unit {0}
-AllOther f (a ∷ acts) = Other f a × AllOther f acts
-
-one-act : (z : Sizes) (w : World) (a : Act) → Good z (w .state) → (f : ℕ) → InTransfer z (w .state) f → Other f a → Untouched z (w .state) (act z w a .state) f × Good z (act z w a .state)
+one-act : (z : Sizes) (w : World) (a : Act) → Good z (w .state) → (f : ℕ) → InTransfer z (w .state) f → T (other f a) → Untouched z (w .state) (act z w a .state) f × Good z (act z w a .state)
 unfolding act
 one-act z w (A.event e) g f t o = (transfer-words z (w .state) e g f t o, kept z (w .state) e g)
 one-act z w (A.looking s p) g f t o = (same-core z (w .state) (w .state) f refl, g)
@@ -259,9 +236,9 @@ one-act z w A.restarting g f t o = absurd o
 one-act z w (A.cutting writes updates junk) g f t o = absurd o
 
 -- Along every list of events and page looks without its page done, a frame in transfer keeps its words, and stays in that transfer.
-pub transfer-words-list : (z : Sizes) (w : World) (acts : List Act) → Good z (w .state) → (f : ℕ) → InTransfer z (w .state) f → AllOther f acts → Untouched z (w .state) (run z w acts .state) f
+pub transfer-words-list : (z : Sizes) (w : World) (acts : List Act) → Good z (w .state) → (f : ℕ) → InTransfer z (w .state) f → T (allOther f acts) → Untouched z (w .state) (run z w acts .state) f
 unfolding run
 transfer-words-list z w [] g f t o = same-core z (w .state) (w .state) f refl
 transfer-words-list z w (a ∷ acts) g f t o =
-    let x = one-act z w a g f t (o .0) in
-    untouched-trans (x .0) (transfer-words-list z (act z w a) acts (x .1) f (record { within = t .within; moving = λ e. t .moving (sym (x .0 .transfer) ∙ e) }) (o .1))
+    let x = one-act z w a g f t (and-left (other f a) (allOther f acts) o) in
+    untouched-trans (x .0) (transfer-words-list z (act z w a) acts (x .1) f (record { within = t .within; moving = λ e. t .moving (sym (x .0 .transfer) ∙ e) }) (and-right (other f a) (allOther f acts) o))

@@ -4,7 +4,7 @@ use mathlib.Core.List.{List}
 use Prim.Native.Nat.{ℕ, suc, _%_}
 use lib.Dec.{T}
 use Rattle.tables.specs.Base.{at}
-use Rattle.tables.specs.Rule.{Rule, same, below, is, non, _and_, _then_, each, named, Holds}
+use Rattle.tables.specs.Rule.{Rule, same, below, is, non, _and_, _or_, _then_, each, named, Holds}
 use Rattle.model.specs.declared.sizes.Sizes.{Sizes}
 use Rattle.model.specs.Sizes.{sizesFit}
 use Rattle.model.specs.State.{Disk, Memory, allPages, slotOf}
@@ -53,6 +53,12 @@ module _ (z : Sizes) (w : World) where
   unfoldable pub birthMaps : Rule
   birthMaps = each (allPages z) λ i. non (updated i) then (asInPack i then same (at (w .state .disk .maps) i) (at (w .ledger .pack .maps) i)) and (non (asInPack i) then same (at (w .state .disk .maps) i) 0)
 
+  -- Beyond the papers: no page is listed that an update did not find live. A listed page was live when its design's last finished map update began;
+  -- or none is finished since the start, and the pack listed the record there, for that same design
+  unfoldable pub listedLive : Rule
+  listedLive = each (allPages z) λ i. named (at (w .state .disk .maps) i) λ r. is (lastUpdateAt z w i .live (i % z .pages)) or
+      non (updated i) and asInPack i and same (at (w .ledger .pack .maps) i) (suc r)
+
   unfoldable pub fromPack : Rule
   fromPack = inOnePlaceOfMaps z w and writtenWords and packWords and liveListed z w and writtenReads and packReads and birthMaps
 
@@ -61,3 +67,8 @@ abbrev pub FromPack : Type 0
 FromPack = (z : Sizes) (pack : Disk) (junk : Memory) (acts : List Act) → Holds (sizesFit z) → Holds (diskLengths z pack) → Holds (memoryLengths z junk)
     → Holds (diskRules z (record { disk = pack; memory = junk })) → T (legal z (start z pack junk) acts)
     → (let w = run z (start z pack junk) acts in (w .ledger .pack ≡ pack) × After (fromPack z w) z w)
+
+-- the same lists, and the sentence beyond the papers
+abbrev pub ListedLive : Type 0
+ListedLive = (z : Sizes) (pack : Disk) (junk : Memory) (acts : List Act) → Holds (sizesFit z) → Holds (diskLengths z pack) → Holds (memoryLengths z junk)
+    → Holds (diskRules z (record { disk = pack; memory = junk })) → T (legal z (start z pack junk) acts) → Holds (listedLive z (run z (start z pack junk) acts))

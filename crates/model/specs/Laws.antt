@@ -14,3 +14,4 @@ pub mod EveryCall
 pub mod OwnLaws
 pub mod Implied
 pub mod Unasked
+pub mod ListedActs

@@ -25,4 +25,5 @@ pub mod Ledger
 pub mod Acts
 pub mod Demand3
 pub mod FromPack
+pub mod Terms
 pub mod Laws

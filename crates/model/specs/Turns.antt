@@ -39,6 +39,11 @@ pub record Gone : Type 0 where
   pub page : ℕ
   pub result : ℕ
 
+-- the pages of requests that have left
+abbrev pub pagesOf : List Gone → List ℕ
+pagesOf [] = []
+pagesOf (g ∷ gs) = g .page ∷ pagesOf gs
+
 -- the first k of these pages have left, in this order, each served or sent away
 abbrev pub Left : ℕ → List ℕ → List Gone → Type 0
 Left zero pages gs = Unit {0}
@@ -70,6 +75,11 @@ module _ (z : Sizes) where
       if (eqb n 0) rest (record { page = nextPage z st; result = n } ∷ rest)
   gone st (pageDone f ∷ ds) = gone (after st (pageDone f)) ds
   gone st (mapDone s ∷ ds) = gone (after st (mapDone s)) ds
+
+  -- what a list of them leaves
+  unfoldable pub afterAll : State → List Deed → State
+  afterAll st [] = st
+  afterAll st (d ∷ ds) = afterAll (after st d) ds
 
   -- no turn is refused
   abbrev pub NoneRefused : State → List Deed → Type 0

@@ -7,17 +7,13 @@ use lib.ListN.{length, set, length-set}
 use lib.Seq.{getD-set-other}
 use Rattle.tables.specs.Base.{at}
 use Rattle.model.specs.Accounts.{shifted}
+use Rattle.model.specs.Terms.{sum}
 
 pub length-shifted : (limits : List ℕ) (giver taker m : ℕ) → length (shifted limits giver taker m) ≡ length limits
 unfolding shifted
 length-shifted limits giver taker m = length-set (set limits giver (at limits giver - m)) taker _ ∙ length-set limits giver _
 
--- the sum of a table
-unfoldable pub sum : List ℕ → ℕ
-sum [] = 0
-sum (x ∷ xs) = x + sum xs
-
--- .. after one store
+-- the sum after one store
 pub sum-set : (xs : List ℕ) (i x : ℕ) → i < length xs → sum (set xs i x) + at xs i ≡ sum xs + x
 unfolding sum
 sum-set [] i x h = absurd (omega (arith, h))

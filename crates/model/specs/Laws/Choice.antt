@@ -14,7 +14,8 @@ use Rattle.model.specs.declared.sizes.Sizes.{Sizes}
 use Rattle.model.specs.Lines.{FREE}
 use Rattle.model.specs.State.{slotOf}
 use Rattle.model.specs.Laws.Index.{slot-of-page, place-below, page-again}
-use Rattle.model.specs.Laws.Nearest.{Nearest, nearest-is, nearest-below}
+use Rattle.model.specs.Terms.{Nearest}
+use Rattle.model.specs.Laws.Nearest.{nearest-is, nearest-below}
 use Rattle.model.specs.Parts.{byHand, neighbour, nearest, picked, pick}
 
 module _ (z : Sizes) (state : ℕ → ℕ) (hand : ℕ) where

@@ -12,17 +12,7 @@ use Rattle.tables.specs.Laws.{Found, found, and-left, and-right, and-intro, or-
 use Rattle.model.specs.declared.sizes.Sizes.{Sizes}
 use Rattle.model.specs.Lines.{FREE}
 use Rattle.model.specs.Parts.{isFree, freeBelow, freeAbove, nearest}
-
--- how far two records are from each other on the line 0 to R−1
-abbrev pub apart : ℕ → ℕ → ℕ
-apart a b = (a - b) + (b - a)
-
--- q is the free record nearest to r, the lower of two equally near
-pub record Nearest (z : Sizes) (state : ℕ → ℕ) (r q : ℕ) : Type 0 where
-  pub below : q < z .records
-  pub free : state q ≡ FREE
-  pub none-nearer : (x : ℕ) → x < z .records → state x ≡ FREE → apart r q ≤ apart r x
-  pub none-lower : (x : ℕ) → x < z .records → state x ≡ FREE → apart r x ≡ apart r q → q ≤ x
+use Rattle.model.specs.Terms.{apart, Nearest}
 
 module _ (z : Sizes) (state : ℕ → ℕ) (r : ℕ) where
   -- a free record stands so far away
