@@ -19,3 +19,4 @@ pub mod PlaceEdges
 pub mod TurnsEdges
 pub mod ListEdges
 pub mod TermsEdges
+pub mod Used

@@ -11,7 +11,7 @@ use Rattle.model.specs.Rules.{isActive}
 use Rattle.model.specs.Parts.{wordAt}
 use Rattle.model.specs.Ledger.{Write, Pages, Pending, packDesign}
 use Rattle.model.specs.Acts.{World}
-use Rattle.model.specs.FromPack.{asInPack}
+use Rattle.model.specs.FromPack.{asInPack, updated}
 use Rattle.model.specs.Demand3.{lastInto, lastUpdateAt, eachOf, designOf, ofPage, newest}
 
 module _ (z : Sizes) (w : World) where
@@ -59,6 +59,10 @@ module _ (z : Sizes) (w : World) where
   abbrev diskLive : Rule
   diskLive = each (allPages z) λ i. is (lastUpdateAt z w i .live (i % z .pages)) then names (v .map i) λ r. newest z w i (lastUpdateAt z w i .after) (last r)
 
+  -- once an update of its design is finished, a listed page was live when the last one began
+  abbrev diskPromised : Rule
+  diskPromised = each (allPages z) λ i. updated z w i then named (v .map i) λ r. is (lastUpdateAt z w i .live (i % z .pages))
+
   -- finished writes are numbered, and no update is past the count
   abbrev serials : Rule
   serials = (each (z .records) λ r. below (last r .serial) (suc (length (w .ledger .finished)))) and each (allPages z) λ i. below (lastUpdateAt z w i .after) (suc (length (w .ledger .finished)))
@@ -91,14 +95,18 @@ module _ (z : Sizes) (w : World) where
   imageLive = each (allPages z) λ i. same (v .updating (slotOf z i)) 1 then is (pending .update (slotOf z i) .live (i % z .pages)) then
       names (v .image i) λ r. newest z w i (pending .update (slotOf z i) .after) (last r)
 
-  -- live in the ledger: a live address
-  abbrev liveAddress : Rule
-  liveAddress = each (allPages z) λ i. is (known .live i) then live v i
+  -- and no others have
+  abbrev imagePromised : Rule
+  imagePromised = each (allPages z) λ i. same (v .updating (slotOf z i)) 1 then named (v .image i) λ r. is (pending .update (slotOf z i) .live (i % z .pages))
 
-  -- a frame with a page carries the ledger's note of that design and page; its modified switch says "written since its fault"; unless it is being read, it holds the page's text
+  -- live in the ledger: a live address, and no other page has one
+  abbrev liveAddress : Rule
+  liveAddress = each (allPages z) λ i. (is (known .live i) then live v i) and (live v i then is (known .live i))
+
+  -- a frame with a page carries the ledger's note of that design and page; its modified switch says "written since its fault", and is off while it is being read; unless it is, it holds the page's text
   abbrev framedText : Rule
   framedText = each (z .frames) λ f. named (c .frame f .page) λ i. same (pending .noted f .place) i and same (pending .noted f .design) (designOf z w i)
-      and (same (c .frame f .modified) 1 then is (known .touched i))
+      and (same (c .frame f .modified) 1 then is (known .touched i)) and (is (known .touched i) then same (c .frame f .modified) 1 and non (same (c .frame f .transfer) READING))
       and (non (same (c .frame f .transfer) READING) then each (z .words) λ k. same (c .word (f * z .words + k)) (known .text i k))
 
   -- the page is in no frame, or its words are still awaited
@@ -129,5 +137,5 @@ module _ (z : Sizes) (w : World) where
   keptText = each (allPages z) λ i. is (known .kept i) then (named (v .map i) λ r. keptAs i r) and (named (v .image i) λ r. keptAs i r) and named (v .address i) λ r. same (v .state r) LIVE then keptAs i r
 
   unfoldable pub linked : Rule
-  linked = diskOwn and diskLive and serials and designs and elders and (is (not (w .up)) then nothingOpen)
-      and (is (w .up) then imageOwn and addressOwn and openUpdates and imageLive and liveAddress and framedText and awayText and filedText and openWrites and keptText)
+  linked = diskOwn and diskLive and diskPromised and serials and designs and elders and (is (not (w .up)) then nothingOpen)
+      and (is (w .up) then imageOwn and addressOwn and openUpdates and imageLive and imagePromised and liveAddress and framedText and awayText and filedText and openWrites and keptText)

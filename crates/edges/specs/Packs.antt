@@ -70,6 +70,10 @@ replaced = another ++ activate 1 ∷ fault 1 0 ∷ write 1 0 0 2 ∷ claim ∷ p
 abbrev voided : List Act
 voided = opened ++ fault 1 2 ∷ pageDone 0 1 ∷ write 1 2 1 0 ∷ claim ∷ stored ++ fault 1 2 ∷ write 1 2 0 5 ∷ claim ∷ pageDone 1 1 ∷ stored
 
+-- a page of zeros of the pack is written and lost at a cut; it comes in again, and goes unmodified
+abbrev stale : List Act
+stale = opened ++ fault 1 0 ∷ pageDone 0 1 ∷ write 1 0 1 5 ∷ cut [] [] ∷ opened ++ fault 1 0 ∷ pageDone 0 1 ∷ claim ∷ stored
+
 -- designs of the pack and a created one, failed dones, cuts
 abbrev beside : List Act
 beside = opened ++ create 0 0 7 ∷ activate 0 ∷ fault 0 0 ∷ write 0 0 0 6 ∷ claim ∷ pageDone 0 0 ∷ claim ∷ pageDone 0 1 ∷ update 0 ∷ update 1 ∷ mapDone 1 0 ∷ cut [] (0 ∷ []) ∷ cut [] [] ∷ restart
@@ -201,6 +205,8 @@ pub record Packs : Type 0 where
   -- A claim of a page of zeros that nobody wrote ends no promise.
   idle-right : T (holds bare idle)
   idle-dropped : denied (hurt bare dropped idle) ≡ 4 ∷ 8 ∷ []
+  stale-right : T (holds bare stale)
+  stale-dropped : denied (hurt bare dropped stale) ≡ 4 ∷ 8 ∷ []
 
 pub packs-told : Packs
 unfolding holds hurt seen heard
@@ -243,4 +249,6 @@ packs-told = record {
   firsts-strangers = refl;
   idle-right = tt;
   idle-dropped = refl;
+  stale-right = tt;
+  stale-dropped = refl;
 }

@@ -52,6 +52,10 @@ woven = opened 2 ++ write 0 0 1 9 ∷ update 0 ∷ join 0 1 ∷ []
 abbrev two : List Act
 two = listing ++ join 0 0 ∷ join 1 0 ∷ []
 
+-- page 0 is wired, page 1 waits
+abbrev half : List Act
+half = opened 2 ++ wire 0 0 ∷ join 0 1 ∷ []
+
 pub record TurnsEdges : Type 0 where
   -- A claim that frees, a fault, served.
   crowded-bound : T (bounded narrow crowded (turn ∷ turn ∷ turn ∷ []) 1)
@@ -64,6 +68,9 @@ pub record TurnsEdges : Type 0 where
   two-bound : T (bounded small two (turn ∷ pageDone 1 ∷ turn ∷ turn ∷ mapDone 0 ∷ turn ∷ turn ∷ turn ∷ []) 2)
   two-left : left small two (turn ∷ pageDone 1 ∷ turn ∷ turn ∷ mapDone 0 ∷ turn ∷ turn ∷ turn ∷ []) ≡ 0 ∷ 1 ∷ 3 ∷ 4 ∷ []
   two-waits : waiting small two (turn ∷ pageDone 1 ∷ turn ∷ []) ≡ 3 ∷ []
+  -- One frame of two is wired: the other serves.
+  half-wired : T (bounded small half (turn ∷ turn ∷ turn ∷ []) 1)
+  half-left : left small half (turn ∷ turn ∷ turn ∷ []) ≡ 1 ∷ 1 ∷ []
   -- Not asked of these: a transfer under way as a turn starts; every frame wired; too few turns; fewer requests.
   woven-moving : bounded narrow woven (turn ∷ turn ∷ turn ∷ []) 1 ≡ false
   all-wired : bounded narrow (opened 2 ++ wire 0 0 ∷ join 0 1 ∷ []) (turn ∷ turn ∷ turn ∷ []) 1 ≡ false
@@ -81,6 +88,8 @@ turnsEdges = record {
   two-bound = tt;
   two-left = refl;
   two-waits = refl;
+  half-wired = tt;
+  half-left = refl;
   woven-moving = refl;
   all-wired = refl;
   one-short = refl;
