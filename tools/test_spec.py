@@ -15,9 +15,10 @@ STARTS = re.compile(r"^\s*(?:abbrev |unfoldable )?(?:pub )?(?:record |data )?([\
 
 
 def source(crate, file):
-    """The text of a file of definitions, or nothing."""
-    path = ROOT / "crates" / (crate or "model") / "specs" / (file + ".antt")
-    return path.read_text() if path.exists() else ""
+    """The text of a file of definitions, or of laws, or nothing."""
+    specs = ROOT / "crates" / (crate or "model") / "specs"
+    paths = [path for path in (specs / (file + ".antt"), specs / "Laws" / (file + ".antt")) if path.exists()]
+    return paths[0].read_text() if paths else ""
 
 
 def defined(text):
@@ -30,9 +31,9 @@ def named():
     return set(NAMED.findall(SPEC))
 
 
-def said(file):
-    """The names of one file of crates/model/specs that the specification names."""
-    return {name for crate, name_of, name in named() if (crate, name_of) == ("", file)}
+def said(file, crate=""):
+    """The names of one file of crates/model/specs, or of another crate's, that the specification names."""
+    return {name for where, name_of, name in named() if (where, name_of) == (crate, file)}
 
 
 def typed(file, kind):
@@ -66,9 +67,9 @@ class Exists(unittest.TestCase):
 class Whole(unittest.TestCase):
     """A definition of one of these kinds that the specification does not name is a failure."""
 
-    def all_said(self, file, names):
+    def all_said(self, file, names, crate=""):
         self.assertTrue(names)
-        self.assertEqual(sorted(names - said(file)), [])
+        self.assertEqual(sorted(names - said(file, crate)), [])
 
     def test_rules(self):
         self.all_said("Rules", typed("Rules", "Rule") - {"once", "fit", "isActive"})
@@ -126,9 +127,9 @@ class Whole(unittest.TestCase):
         self.all_said("Accounts", {"shifted"})
 
     def test_edges(self):
-        text = source("", "Edges")
+        text = source("edges", "Edges")
         names = set(re.findall(r"^ *(e\d+(?:-\w+)?) :", text, re.M))
-        self.all_said("Edges", names)
+        self.all_said("Edges", names, "edges")
 
     def test_tables(self):
         parts = re.findall(r"^pub record (?:Disk|Core|Held|Slots|Memory) : .*?(?=\n\n)", source("", "State"), re.S | re.M)
