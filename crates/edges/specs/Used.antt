@@ -12,11 +12,11 @@ use Rattle.model.specs.declared.event.Waiting.the-variants.{Turn}
 use Rattle.model.specs.declared.event.Event.the-variants as Event
 use Rattle.model.specs.Lines.{FREE, NULLED}
 use Rattle.model.specs.Sizes.{sizesFit}
-use Rattle.model.specs.State.{State, files, frames, slotOf}
+use Rattle.model.specs.State.{Disk, Memory, State, files, frames, slotOf}
 use Rattle.model.specs.Rules.{lower, diskRules}
 use Rattle.model.specs.Parts.{wordAt, byHand, neighbour}
 use Rattle.model.specs.Step.{step, diskLengths, memoryLengths}
-use Rattle.model.specs.Acts.{Act, run}
+use Rattle.model.specs.Acts.{Act, legal, run, start}
 use Rattle.model.specs.Demand3.{After, demand3, Demand3}
 use Rattle.model.specs.FromPack.{fromPack, FromPack, listedLive, ListedLive}
 use Rattle.model.specs.Turns.{Deed, turn, Gone, Left, NoneRefused}
@@ -41,6 +41,11 @@ packed = restart ∷ cut [] [] ∷ []
 pub from-pack : FromPack → (let w = run small (Packs.from Packs.one) packed in (w .ledger .pack ≡ Packs.one) × After (fromPack small w) small w)
 unfolding said Packs.from
 from-pack d = d small Packs.one (junk small) packed (sound (sizesFit small) tt) (sound (diskLengths small Packs.one) tt) (sound (memoryLengths small (junk small)) tt) (sound (diskRules small (record { disk = Packs.one; memory = junk small })) tt) tt
+
+-- the ledger keeps the pack, whichever it is
+pub pack-kept : FromPack → (z : Sizes) (pack : Disk) (junk : Memory) (acts : List Act) → Holds (sizesFit z) → Holds (diskLengths z pack) → Holds (memoryLengths z junk) → Holds (diskRules z (record { disk = pack; memory = junk }))
+    → T (legal z (start z pack junk) acts) → run z (start z pack junk) acts .ledger .pack ≡ pack
+pack-kept d z pack junk acts s l m r t = d z pack junk acts s l m r t .0
 
 pub from-pack-live : ListedLive → Holds (listedLive small (run small (Packs.from Packs.one) packed))
 unfolding said Packs.from
