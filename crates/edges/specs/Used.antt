@@ -54,13 +54,13 @@ from-pack-live d = d small Packs.one (junk small) packed (sound (sizesFit small)
 -- ── the bound on waiting ──
 -- the first two of three pages have left, in this order, each served or sent away
 pub left-pages : (g h : Gone) → Left 2 (5 ∷ 7 ∷ 9 ∷ []) (g ∷ h ∷ []) → (g .page ≡ 5) × (h .page ≡ 7)
-left-pages g h l = (l .0, l .1 .1 .0)
+left-pages g h (first, (how, (second, rest))) = (first, second)
 
 pub left-results : (g h : Gone) → Left 2 (5 ∷ 7 ∷ 9 ∷ []) (g ∷ h ∷ []) → ((g .result ≡ 1) ⊎ (2 < g .result)) × ((h .result ≡ 1) ⊎ (2 < h .result))
-left-results g h l = (l .1 .0, l .1 .1 .1 .0)
+left-results g h (first, (how, (second, (too, rest)))) = (how, too)
 
 pub left-all : (g : Gone) → ¬ (Left 2 (5 ∷ 7 ∷ 9 ∷ []) (g ∷ []))
-left-all g l = l .1 .1
+left-all g (first, (how, none)) = none
 
 -- a turn that is refused is told: every frame is wired, and a page waits
 abbrev narrow : Sizes

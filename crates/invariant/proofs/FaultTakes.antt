@@ -1,6 +1,6 @@
 -- Wish 1 of the event itself: what a fault that is carried out takes for a page without an address, over every state.
 use mathlib.Core.Path.{_≡_, refl}
-use mathlib.Core.Logic.{inl, inr}
+use mathlib.Core.Logic.{_⊎_, inl, inr}
 use Prim.Native.Nat.{ℕ, zero, suc, _%_, _<_}
 use native.Mathlib.Omega.{arith}
 use lib.Dec.{eqb, eqb→eq, T-not}
@@ -27,6 +27,15 @@ use Rattle.model.specs.Pages
 use Rattle.model.specs.Step.{outcome, answer, carried, result, step}
 use Rattle.invariant.proofs.Kept.{asked-all}
 
+-- what a fault's questions say of the page, and that it has an address or a record is free
+record Faulting (z : Sizes) (st : State) (s p : ℕ) : Type 0 where
+  pub slot : s < z .slots
+  pub page : p < z .pages
+  pub supply : (¬ (files st .address (pageOf z s p) ≡ 0)) ⊎ (0 < st .memory .held .pool .free)
+
+faulting : (z : Sizes) (st : State) (s p : ℕ) → Asked (questions z st (Event.Page (Fault s p))) → Faulting z st s p
+faulting z st s p ((slot, page), (filled, (active, (still, (out, (supply, rest)))))) = record { slot = slot; page = page; supply = supply }
+
 module _ (z : Sizes) (st : State) (f : Fit z st) (r : Ruled z st) where
   abbrev v : Files
   v = files st
@@ -48,7 +57,7 @@ module _ (z : Sizes) (st : State) (f : Fit z st) (r : Ruled z st) where
       q = pick z (v .address) (v .state) (st .memory .held .pool .hand) i
 
       some-free : (x : ℕ) × (x < z .records) × (v .state x ≡ FREE)
-      some-free = elim (a .1 .1 .1 .1 .1 .0) [ inl n ↦ absurd (n e) | inr n ↦ a-free-record n ]
+      some-free = elim (faulting z st s p a .supply) [ inl n ↦ absurd (n e) | inr n ↦ a-free-record n ]
 
       below : q < z .records
       below = pick-below z (v .address) (v .state) (st .memory .held .pool .hand) i (f .sizes .records)
@@ -58,7 +67,7 @@ module _ (z : Sizes) (st : State) (f : Fit z st) (r : Ruled z st) where
         was-free = pick-free z (v .address) (v .state) (st .memory .held .pool .hand) i (some-free .0) (some-free .1) (r .counts .hand) (some-free .2);
         near = λ n m. pick-nearest z (v .address) (v .state) (st .memory .held .pool .hand) i n m (some-free .0) (some-free .1) (some-free .2);
         by-hand = λ m. pick-by-hand z (v .address) (v .state) (st .memory .held .pool .hand) i m;
-        address = getD-set-same (st .memory .held .addresses) i (suc q) 0 (rw (f .memory .addresses) (page-below z (f .sizes .pages) s p (a .0 .0) (a .0 .1)));
+        address = getD-set-same (st .memory .held .addresses) i (suc q) 0 (rw (f .memory .addresses) (page-below z (f .sizes .pages) s p (faulting z st s p a .slot) (faulting z st s p a .page)));
         nulled = getD-set-same (st .memory .held .states) q NULLED 0 (rw (f .memory .states) below);
         owner = getD-set-same (st .memory .held .owners) q (slotOf z i) 0 (rw (f .memory .owners) below);
         hand = refl;
