@@ -18,6 +18,7 @@ enum { VERSION = 8, SIZE_COUNT = 12, TABLE_COUNT = 16, SIZES = 20, WIDTHS = SIZE
 /* How many tables each version has, the first of those that there are now; versions before FRAMELESS have F among their sizes. */
 enum { FRAMELESS = 3 };
 static const uint32_t TABLES[FILEDISK_VERSION + 1] = {0, 5, 6, KEEPER_DISK_COUNT};
+KEEPER_ASSERT(FILEDISK_VERSION == 3 && KEEPER_DISK_COUNT == 6, "another table is another version of the layout");
 
 static uint32_t field(const unsigned char *block, size_t at)
 {
