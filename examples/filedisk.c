@@ -250,6 +250,7 @@ int filedisk_read(FileDisk *disk, FileBlocks blocks, Keeper *keeper)
 
 int filedisk_open(FileDisk *disk, FileBlocks blocks, Keeper *keeper)
 {
+    unsigned char block[FILEDISK_BLOCK];
     char line[sizeof disk->line];
     const int answer = matches(disk, blocks, keeper);
     if (disk->version != 0 && disk->version < FILEDISK_VERSION) {
@@ -259,7 +260,9 @@ int filedisk_open(FileDisk *disk, FileBlocks blocks, Keeper *keeper)
     }
     if (answer != FILEDISK_GOOD)
         return answer;
-    if (filedisk_journal_recover(disk) != 0)
+    /* the header too may stand in the device's cache alone, if the format's last sync failed: the first sync of the journal makes it safe */
+    put_header(disk, keeper->sizes, block);
+    if (blocks.write(blocks.self, 0, block, FILEDISK_BLOCK) != 0 || filedisk_journal_recover(disk) != 0)
         return filedisk_refused(disk, FILEDISK_DEVICE, "the device failed: the journal cannot be read, or its store not brought to its places");
     if (get_tables(disk, keeper, NULL) != 0)
         return filedisk_refused(disk, FILEDISK_DEVICE, "the device failed: the disk part cannot be read");

@@ -12,9 +12,9 @@
  * A store goes to the journal first; that is synced; then it goes to its places; that is synced too. A cut in the first half leaves the
  * places alone (the journal's checksum is wrong then, or it holds the store before, which is in its places already); a cut in the second
  * half is mended at the next open, which brings the journal's store to its places again. What open finds in the journal may not be safe yet, if
- * only the processor was reset and the device's cache lives: so a whole store is written to the journal again and synced before it is brought to
- * its places, and of one that is not whole the first block is zeroed, so that no later store completes it. So each store lands whole or not at
- * all, on a device that tears and reorders what was not synced. If the device fails in a store, nobody can tell whether it lands: the disk is
+ * only the processor was reset and the device's cache lives: so the header is written again, and a whole store to the journal, and synced before it
+ * is brought to its places; of one that is not whole the first block is zeroed, so that no later store completes it. So each store lands whole or
+ * not at all, on a device that tears and reorders what was not synced. If the device fails in a store, nobody can tell whether it lands: the disk is
  * dead, nothing is reported, and it must be opened anew, which counts as a cut. */
 #ifndef FILEDISK_H
 #define FILEDISK_H
@@ -70,8 +70,8 @@ int filedisk_file(FileDisk *disk, FileBlocks *blocks, const char *path, int how)
 uint64_t filedisk_bytes(const FileBlocks *blocks);
 void filedisk_close(FileBlocks *blocks);
 
-/* A new disk: all zeros but the parents, then the header. All that was on it is gone. The keeper is formatted and restarted too. `wanted`: the
- * parent of each account, or NULL for account 0 everywhere. Nothing but this and filedisk_make formats, so it is for the caller to ask. */
+/* A new disk: all zeros but the parents, then the header. What stood there is gone. The keeper is formatted and restarted too. `wanted`: the
+ * parent of each account, or NULL for account 0 everywhere. Nothing but this and filedisk_make formats, so it is for the caller to ask first. */
 int filedisk_format(FileDisk *disk, FileBlocks blocks, Keeper *keeper, const uint16_t *wanted);
 
 /* A disk after a cut or a reset: the header is checked, and that the device is as long as it says. Up to there nothing is written. Then the journal's

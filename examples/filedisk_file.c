@@ -109,8 +109,11 @@ int filedisk_file(FileDisk *disk, FileBlocks *blocks, const char *path, int how)
         close(file);
         return filedisk_refused(disk, FILEDISK_THERE, "it is there already");
     }
-    if (how == FILEDISK_NEW && sync_folder(path) != 0)
-        return failed(disk, file, "its folder cannot be synced");
+    if (how == FILEDISK_NEW && sync_folder(path) != 0) {
+        const int answer = failed(disk, file, "its folder cannot be synced");
+        unlink(path); /* it is empty, and this one's own */
+        return answer;
+    }
     *blocks = (FileBlocks){(void *)(intptr_t)file, file_read, file_write, file_sync};
     return FILEDISK_GOOD;
 }

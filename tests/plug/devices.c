@@ -32,17 +32,18 @@ Simulated *simulated_new(size_t bytes)
     return device;
 }
 
-void simulated_free(Simulated *device)
-{
-    free(device->safe);
-    free(device->seen);
-    free(device);
-}
-
 static void forget(Simulated *device)
 {
     while (device->count > 0)
         free(device->pending[--device->count].data);
+}
+
+void simulated_free(Simulated *device)
+{
+    forget(device);
+    free(device->safe);
+    free(device->seen);
+    free(device);
 }
 
 static int simulated_read(void *self, uint64_t at, void *to, size_t bytes)

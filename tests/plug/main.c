@@ -230,7 +230,7 @@ static unsigned long caught(int wrong, int simulated, const char *path)
 int main(int count, char **words)
 {
     static const char *names[WRONG_COUNT] = {"", "no journal", "a page is reported before it is stored", "a map is reported before it is stored", "the store of a slot is left out",
-                                              "nothing is synced", "a move is two stores", "open brings home what is not safe", "", ""};
+                                              "nothing is synced", "a move is two stores", "open brings home what is not safe", "", "", ""};
     const unsigned long kills = count >= 3 ? strtoul(words[1], NULL, 10) : 0;
     unsigned passed = 0, failed = 0;
     if (kills == 0) {

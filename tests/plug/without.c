@@ -6,10 +6,11 @@ static int in_journal(uint64_t at)
     return at >= FILEDISK_BLOCK && at < FILEDISK_BLOCK + FILEDISK_JOURNAL;
 }
 
-/* The journal is read by an open alone, whose next write to it is the one that makes it safe, or empties it. */
+/* The header and the journal are read by an open alone, whose next writes to them are those that make them safe, or empty the journal. */
 static int read_of(void *self, uint64_t at, void *to, size_t bytes)
 {
     Without *device = self;
+    device->heading = at == 0 || device->heading;
     device->opening = in_journal(at);
     return device->inner.read(device->inner.self, at, to, bytes);
 }
@@ -19,8 +20,13 @@ static int write_of(void *self, uint64_t at, const void *from, size_t bytes)
     static const unsigned char nothing[8];
     Without *device = self;
     const int opening = device->opening && in_journal(at), empties = bytes >= sizeof nothing && memcmp(from, nothing, sizeof nothing) == 0;
+    const int heading = device->heading && at == 0 && !empties;
     if (in_journal(at))
         device->opening = 0;
+    if (at == 0)
+        device->heading = 0;
+    if (heading && device->wrong == WRONG_HEADER_STAYS)
+        return 0;
     if (device->wrong == WRONG_NO_JOURNAL && in_journal(at))
         return 0;
     if (opening && device->wrong == (empties ? WRONG_TORN_STAYS : WRONG_HOME_FIRST)) {

@@ -15,13 +15,14 @@ enum {
     WRONG_HOME_FIRST = 7, /* open brings the journal's store to its places before it is safe in the journal */
     WRONG_SYNC_ALONE = 8, /* .. or syncs the journal, and does not write it again */
     WRONG_TORN_STAYS = 9, /* open leaves a journal that is not whole as it is */
-    WRONG_COUNT = 10
+    WRONG_HEADER_STAYS = 10, /* open does not write the header again */
+    WRONG_COUNT = 11
 };
 
 /* A device that passes over what a driver leaves out that has no journal, no sync, or an open that is wrong. */
 typedef struct {
     FileBlocks inner;
-    int wrong, opening, skip;
+    int wrong, heading, opening, skip;
 } Without;
 FileBlocks without_on(Without *device, FileBlocks inner, int wrong);
 

@@ -27,6 +27,8 @@ static void every_path(void)
     judge("a slot, ends three times; the driver is right", paths_of_store(WRONG_NONE, 0, 3), WRONG_NONE);
     judge("two records, the second like the first behind its first sector; the driver is right", paths_of_two(WRONG_NONE), WRONG_NONE);
     judge("two records; the driver is wrong, a torn journal stays", paths_of_two(WRONG_TORN_STAYS), WRONG_TORN_STAYS);
+    judge("a format over a disk; the driver is right", paths_of_format(WRONG_NONE), WRONG_NONE);
+    judge("a format over a disk; the driver is wrong, the header is not written again", paths_of_format(WRONG_HEADER_STAYS), WRONG_HEADER_STAYS);
 }
 
 static void long_run(unsigned long stores, uint64_t seed)

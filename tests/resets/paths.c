@@ -93,19 +93,20 @@ static int slot_found(const Board *board)
 
 /* ── one store ── */
 
-/* The most operations of a store or an open: a write and a sync of the journal, two writes and a sync of its places. */
-enum { MOST_OPERATIONS = 5 };
+/* The most operations of a store: a write and a sync of the journal, two writes and a sync of its places. An open writes the header first. A format
+ * writes and syncs the header, the journal block by block, six tables, and the header. */
+enum { STORE_OPERATIONS = 5, OPEN_OPERATIONS = 6, FORMAT_OPERATIONS = 2 + 17 + 7 + 2 };
 
 /* The store ends somewhere; so do some opens behind it, within or at rest; the last does not. What one has found stays. */
 static int one_path(Board *board, int record, unsigned ends)
 {
     int known = -1;
-    board->disk.blocks = without_on(&board->without, device_on(board->device, 1 + choose(MOST_OPERATIONS)), board->wrong);
+    board->disk.blocks = without_on(&board->without, device_on(board->device, 1 + choose(STORE_OPERATIONS)), board->wrong);
     if ((record ? store_record(board, 1) : store_slot(board)) == 0)
         known = 1;
     for (unsigned end = 1; end <= ends; end++) {
         device_end(board->device);
-        const int answer = board_open(board, end < ends ? choose(MOST_OPERATIONS + 1) : 0);
+        const int answer = board_open(board, end < ends ? choose(OPEN_OPERATIONS + 1) : 0);
         if (answer == FILEDISK_DEVICE && board->device->ended)
             continue;
         const int found = answer != FILEDISK_GOOD ? -1 : record ? record_found(board) : slot_found(board);
@@ -148,13 +149,13 @@ Found paths_of_store(int wrong, int record, unsigned ends)
 static int two_path(Board *board, int record, unsigned ends)
 {
     (void)record, (void)ends;
-    board->disk.blocks = without_on(&board->without, device_on(board->device, 1 + choose(2)), board->wrong);
+    board->disk.blocks = without_on(&board->without, device_on(board->device, 1 + choose(STORE_OPERATIONS - 1)), board->wrong);
     store_record(board, 1);
     device_end(board->device);
     if (board_open(board, 0) != FILEDISK_GOOD)
         return 0;
     const int known = record_found(board);
-    board->disk.blocks = without_on(&board->without, device_on(board->device, 1 + choose(2)), board->wrong);
+    board->disk.blocks = without_on(&board->without, device_on(board->device, 1 + choose(STORE_OPERATIONS - 1)), board->wrong);
     store_record(board, 2);
     device_end(board->device);
     if (board_open(board, 0) != FILEDISK_GOOD)
@@ -168,6 +169,38 @@ Found paths_of_two(int wrong)
     Board board;
     board_new(&board, wrong, FILEDISK_BLOCK, choose);
     const Found found = all_paths(&board, two_path, 1, 0);
+    board_free(&board);
+    return found;
+}
+
+/* ── a format over a disk ── */
+
+/* The disk that was there, with a record, or the new one, or none. One that an open has found stays. */
+static int format_path(Board *board, int record, unsigned ends)
+{
+    int known = -1;
+    const FileBlocks blocks = without_on(&board->without, device_on(board->device, 1 + choose(FORMAT_OPERATIONS)), board->wrong);
+    if (filedisk_format(&board->disk, blocks, &board->keeper, NULL) == FILEDISK_GOOD)
+        known = 0;
+    for (unsigned end = 0; end < ends; end++) {
+        device_end(board->device);
+        const int answer = board_open(board, 0), found = answer == FILEDISK_GOOD ? record_found(board) : answer == FILEDISK_NO_DISK ? record : -1;
+        if (found < 0 || (known >= 0 && found != known))
+            return 0;
+        known = answer == FILEDISK_GOOD ? found : known;
+    }
+    return 1;
+}
+
+Found paths_of_format(int wrong)
+{
+    Board board;
+    enum { NO_RECORD = 9 }; /* what is found where there is no disk */
+    board_new(&board, WRONG_NONE, FILEDISK_BLOCK, choose);
+    if (board_open(&board, 0) != FILEDISK_GOOD || store_record(&board, 1) != 0)
+        abort();
+    board.wrong = wrong;
+    const Found found = all_paths(&board, format_path, NO_RECORD, 3);
     board_free(&board);
     return found;
 }

@@ -38,13 +38,14 @@ void board_new(Board *board, int wrong, size_t grain, unsigned (*choose)(unsigne
 void board_free(Board *board);
 int board_open(Board *board, unsigned countdown); /* filedisk_open's answer */
 
-/* Every choice of one store, its reset or cut, and those of the opens behind it; and of two stores. How many paths were gone, and how many
- * of these broke a promise. */
+/* Every choice of one store, its reset or cut, and those of the opens behind it; of two stores; and of a format over a disk. How many paths were
+ * gone, and how many of these broke a promise. */
 typedef struct {
     unsigned long paths, broken;
 } Found;
 Found paths_of_store(int wrong, int record, unsigned ends);
 Found paths_of_two(int wrong);
+Found paths_of_format(int wrong);
 
 /* So many stores, torn by chance at that grain: whether each is found whole or not at all, and stays so. */
 Found torn_stores(int wrong, size_t grain, unsigned long stores, uint64_t seed);
