@@ -99,7 +99,8 @@ static int recognise(FileDisk *disk, const unsigned char *block)
     if (field(block, SUM) != filedisk_checksum(block, SUM))
         return filedisk_refused(disk, FILEDISK_DAMAGED, "the header block is damaged: its checksum is wrong");
     if (field(block, VERSION) == 0 || field(block, VERSION) > FILEDISK_VERSION) {
-        snprintf(line, sizeof line, "the disk has version %u of the layout, this program knows those up to %u: a later one wrote it", (unsigned)field(block, VERSION), FILEDISK_VERSION);
+        snprintf(line, sizeof line, "the disk has version %u of the layout, this program knows those up to %u: a later one wrote it",
+                 (unsigned)field(block, VERSION), FILEDISK_VERSION);
         return filedisk_refused(disk, FILEDISK_OTHER_VERSION, line);
     }
     return FILEDISK_GOOD;

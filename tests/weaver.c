@@ -157,8 +157,8 @@ static void test_format(void)
 
 static void test_words(void)
 {
-    static const char *wrong[] = {"weave x y z", "weave 0 0 z", "weave 0 0 -1", "weave 0 0x1 1", "weave 0 0 4294967296", "weave 0 0 +1", "weave 0 '' 1", "weave 0 0",
-                                  "weave 0 0 1 2", "show all", "format all", "format erase all", "", "erase"};
+    static const char *wrong[] = {"weave x y z", "weave 0 0 z", "weave 0 0 -1", "weave 0 0x1 1", "weave 0 0 4294967296", "weave 0 0 +1", "weave 0 '' 1",
+                                  "weave 0 0", "weave 0 0 1 2", "show all", "format all", "format erase all", "", "erase"};
     remove(path);
     for (size_t at = 0; at < sizeof wrong / sizeof *wrong; at++)
         CHECK(run(wrong[at]) == 2 && said[0] != 0 && access(path, F_OK) != 0);

@@ -18,7 +18,8 @@ int main(int count, char **words)
         return complain("convert", words[1], "it has the layout of now: nothing is to be done");
     if (make_pack("convert", words[2], &keeper) != 0)
         return 1;
-    printf("%s has version %u of the layout; %s has version %u, with the same designs and pages\n", words[1], (unsigned)disk.version, words[2], FILEDISK_VERSION);
+    printf("%s has version %u of the layout; %s has version %u, with the same designs and pages\n", words[1], (unsigned)disk.version, words[2],
+           FILEDISK_VERSION);
     if (keeper_easy_restart(&keeper).refusal != KEEPER_DONE)
         printf("restart turns it away, as it would have the old one: make mend PACK=%s\n", words[2]);
     return 0;

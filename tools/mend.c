@@ -23,7 +23,8 @@ static void show(const KeeperChange *changes, uint32_t count, const uint32_t *nu
     printf("slot design page old reason\n");
     for (uint32_t at = 0; at < count; at++) {
         const KeeperChange *change = changes + at;
-        printf("%u %u %s %u %s\n", (unsigned)change->slot, (unsigned)numbers[change->slot], place(changes, at, pages, text), (unsigned)change->old, keeper_reason(change->reason));
+        printf("%u %u %s %u %s\n", (unsigned)change->slot, (unsigned)numbers[change->slot], place(changes, at, pages, text), (unsigned)change->old,
+               keeper_reason(change->reason));
     }
 }
 

@@ -227,46 +227,57 @@ static unsigned long caught(int wrong, int simulated, const char *path)
     return totals.broken ? totals.kills : 0;
 }
 
+static unsigned passed, failed;
+
+static void count_one(int good)
+{
+    passed += (unsigned)good;
+    failed += (unsigned)!good;
+}
+
+/* The right driver: no promise is broken, and everything that is to be tried was. */
+static void right_driver(int simulated, unsigned long kills, const char *path)
+{
+    const double since = seconds();
+    memset(&totals, 0, sizeof totals);
+    while (totals.kills < kills) {
+        const unsigned some = kills - totals.kills < KILLS_A_DISK ? (unsigned)(kills - totals.kills) : KILLS_A_DISK;
+        if (simulated)
+            simulated_disk(WRONG_NONE, some);
+        else
+            killed_disk(WRONG_NONE, some, path);
+    }
+    print_totals(simulated ? "simulated device" : "killed process", since);
+    const int tried = totals.moves > 0 && (totals.resets > 0 || !simulated);
+    count_one(totals.broken == 0 && totals.reads > 0 && (tried || kills < 25));
+}
+
+static void wrong_driver(int wrong, const char *name, int simulated, const char *path)
+{
+    const unsigned long after = caught(wrong, simulated, path);
+    printf("wrong driver, %s, %s: %s", name, simulated ? "simulated" : "killed", after ? "caught" : "NOT CAUGHT");
+    printf(after ? " within %lu kills\n" : "\n", after);
+    count_one(after > 0);
+}
+
 int main(int count, char **words)
 {
-    static const char *names[WRONG_COUNT] = {"", "no journal", "a page is reported before it is stored", "a map is reported before it is stored", "the store of a slot is left out",
-                                              "nothing is synced", "a move is two stores", "open brings home what is not safe", "", "", ""};
+    static const char *names[] = {"", "no journal", "a page is reported before it is stored", "a map is reported before it is stored",
+                                  "the store of a slot is left out", "nothing is synced", "a move is two stores", "open brings home what is not safe"};
     const unsigned long kills = count >= 3 ? strtoul(words[1], NULL, 10) : 0;
-    unsigned passed = 0, failed = 0;
     if (kills == 0) {
         puts("plug KILLS DISK-FILE [SEED]");
         return 2;
     }
     seed = count > 3 ? strtoull(words[3], NULL, 10) : 1;
     setvbuf(stdout, NULL, _IOLBF, 0);
-    for (int simulated = 0; simulated < 2; simulated++) {
-        const char *what = simulated ? "simulated device" : "killed process";
-        const double since = seconds();
-        memset(&totals, 0, sizeof totals);
-        while (totals.kills < (kills + 1) / 2) {
-            const unsigned long left = (kills + 1) / 2 - totals.kills;
-            const unsigned some = left < KILLS_A_DISK ? (unsigned)left : KILLS_A_DISK;
-            if (simulated)
-                simulated_disk(WRONG_NONE, some);
-            else
-                killed_disk(WRONG_NONE, some, words[2]);
-        }
-        print_totals(what, since);
-        if (totals.broken == 0 && totals.reads > 0 && ((totals.moves > 0 && (totals.resets > 0 || !simulated)) || kills < 50))
-            passed++;
-        else
-            failed++;
+    for (int simulated = 0; simulated < 2; simulated++)
+        right_driver(simulated, (kills + 1) / 2, words[2]);
+    for (int wrong = 1; wrong <= WRONG_HOME_FIRST; wrong++) { /* those behind it are for tests/resets */
+        if (wrong != WRONG_NO_SYNC && wrong != WRONG_HOME_FIRST) /* a killed process loses nothing that it wrote */
+            wrong_driver(wrong, names[wrong], 0, words[2]);
+        wrong_driver(wrong, names[wrong], 1, words[2]);
     }
-    for (int wrong = 1; wrong <= WRONG_HOME_FIRST; wrong++) /* those behind it are for tests/resets */
-        for (int simulated = wrong == WRONG_NO_SYNC || wrong == WRONG_HOME_FIRST; simulated < 2; simulated++) { /* a killed process loses nothing that it wrote */
-            const unsigned long after = caught(wrong, simulated, words[2]);
-            printf("wrong driver, %s, %s: %s", names[wrong], simulated ? "simulated" : "killed", after ? "caught" : "NOT CAUGHT");
-            printf(after ? " within %lu kills\n" : "\n", after);
-            if (after)
-                passed++;
-            else
-                failed++;
-        }
     printf("%u passed, %u failed\n", passed, failed);
     return failed != 0;
 }
