@@ -1,13 +1,17 @@
 # make test: the gate. make replay: the event program on a readable example. make mutants: every wrong definition that a theorem must refuse.
 # make starts: the first sectors of the 600-record pack's records, one a line. make mend: mends the pack file PACK into PACK.mended and lists the changes.
+# make convert: the pack file OLD, of an older layout, as the new file NEW.
 # make docs: what the documents take from the code, and whatever repeats the lent tables. make bench: the keeper's speed beside the C port's and the reference's (docs/BENCHMARKS.md).
 # make plug: kills a weaver on a file disk, KILLS times, and checks every promise. make break: a wrong definition, WRONG, refused before your eyes.
 # make timeline: a list of events, LIST, as one HTML file to look at. make misses: the misses of a list of page uses, TRACE, for 1 to 64 frames. (docs/TESTS.md; what these are made of is tested, not proved.)
-.PHONY: test replay starts mend mutants docs bench plug break misses timeline
+.PHONY: test replay starts mend convert named-pack named-files mutants docs bench plug break misses timeline
 LIST = examples/two-mills.txt
 LIBRARY = target/staticlib/libkeeper.a
 KILLS = 2000
 TRACE = examples/traces/weaving.txt
+FILEDISK = $(wildcard examples/filedisk*.c)
+# by the environment, so that a name may have blanks in it
+export PACK OLD NEW
 
 test:
 	bash .ci/run
@@ -26,10 +30,21 @@ starts:
 	@rt check starts > target/starts.log 2>&1 || { cat target/starts.log; false; }
 	@target/bin/starts
 
-mend: $(LIBRARY)
+named-pack:
+	@[ -n "$$PACK" ] || { echo "make mend PACK=file: which pack is to be mended?"; exit 2; }
+
+mend: named-pack $(LIBRARY)
 	@mkdir -p target/mend
-	@gcc -std=c99 -O1 -Wall -Wextra -Iinclude -Iexamples tools/mend.c examples/filedisk.c $(LIBRARY) -o target/mend/mend
-	@target/mend/mend $(PACK) $(PACK).mended
+	@gcc -std=c99 -O1 -Wall -Wextra -Iinclude -Iexamples tools/mend.c $(FILEDISK) $(LIBRARY) -o target/mend/mend
+	@target/mend/mend "$$PACK" "$$PACK.mended"
+
+named-files:
+	@[ -n "$$OLD" ] && [ -n "$$NEW" ] || { echo "make convert OLD=file NEW=file: which pack is to be converted, and into which new file?"; exit 2; }
+
+convert: named-files $(LIBRARY)
+	@mkdir -p target/mend
+	@gcc -std=c99 -O1 -Wall -Wextra -Iinclude -Iexamples tools/convert.c $(FILEDISK) $(LIBRARY) -o target/mend/convert
+	@target/mend/convert "$$OLD" "$$NEW"
 
 mutants:
 	python3 tests/mutants/run.py

@@ -1,7 +1,8 @@
-/* Not proved, tested by tests/filedisk.sh: a whole firmware over a file, with keeper_easy.h and filedisk.h. Each run is a power-on.
+/* Not proved, tested by tests/weaver.sh: a whole firmware over a file, with keeper_easy.h and filedisk.h. Each run is a power-on.
  *   weaver FILE weave SLOT PAGE FIRST    writes the page's words, counting up from FIRST, and saves the design
  *   weaver FILE show                     what every design has
- * A file that is not there is made and formatted, with a design in each slot. */
+ *   weaver FILE format [erase]           a new disk; of a file that has anything in it, it says what that is, and wants the word erase
+ * A file that is not there is made and formatted by the first weave. Nothing else formats by itself. */
 #include <stdio.h>
 #include <stdlib.h>
 #include "filedisk.h"
@@ -17,26 +18,25 @@ static int failed(const char *what, uint32_t refusal)
     return 1;
 }
 
-/* Opens the disk, or makes it, and activates every design. */
-static int power_on(const char *path)
+/* Opens the disk, or makes it if it may and there is no such file, and gives every slot a design. */
+static int power_on(const char *path, FileBlocks *blocks, int makes)
 {
-    FileBlocks blocks;
-    const int is_new = filedisk_file(&blocks, path, 0) != 0;
-    if (is_new && filedisk_file(&blocks, path, 1) != 0)
-        return failed(path, FILEDISK_DIED);
-    int answer = is_new ? filedisk_format(&disk, blocks, &keeper, NULL) : filedisk_open(&disk, blocks, &keeper);
-    if (answer == FILEDISK_NO_DISK)
-        answer = filedisk_format(&disk, blocks, &keeper, NULL);
+    const int made = makes ? filedisk_file(&disk, blocks, path, FILEDISK_NEW) : FILEDISK_THERE;
+    int answer = made == FILEDISK_THERE ? filedisk_file(&disk, blocks, path, FILEDISK_OPEN) : made;
+    if (answer == FILEDISK_GOOD)
+        answer = made == FILEDISK_GOOD ? filedisk_format(&disk, *blocks, &keeper, NULL) : filedisk_open(&disk, *blocks, &keeper);
     if (answer != FILEDISK_GOOD)
         return failed(path, FILEDISK_DIED);
     for (uint32_t slot = 0; slot < sizes.slots; slot++) {
-        if (keeper.numbers[slot] == 0) {
-            filedisk_limit(&disk, &keeper, slot, (uint32_t)sizes.pages);
-            filedisk_create(&disk, &keeper, slot, slot, 101 + slot);
-        }
-        KeeperAnswer active = keeper_activate(&keeper, slot);
-        if (active.refusal != KEEPER_DONE || disk.dead)
-            return failed("activate", active.refusal);
+        uint32_t refusal = KEEPER_DONE;
+        if (keeper.numbers[slot] == 0)
+            refusal = filedisk_limit(&disk, &keeper, slot, (uint32_t)sizes.pages).refusal;
+        if (keeper.numbers[slot] == 0 && refusal == KEEPER_DONE)
+            refusal = filedisk_create(&disk, &keeper, slot, slot, 101 + slot).refusal;
+        if (refusal == KEEPER_DONE)
+            refusal = keeper_activate(&keeper, slot).refusal;
+        if (refusal != KEEPER_DONE)
+            return failed(path, refusal);
     }
     return 0;
 }
@@ -55,13 +55,13 @@ static uint32_t write_page(uint32_t slot, uint32_t page, uint32_t first)
     return KEEPER_DONE;
 }
 
-static int weave(uint32_t slot, uint32_t page, uint32_t first)
+static int weave(const uint32_t values[3])
 {
-    uint32_t left, refusal = filedisk_bring(&disk, &keeper, slot, page);
+    uint32_t left, refusal = filedisk_bring(&disk, &keeper, values[0], values[1]);
     if (refusal == KEEPER_DONE)
-        refusal = write_page(slot, page, first);
+        refusal = write_page(values[0], values[1], values[2]);
     if (refusal == KEEPER_DONE)
-        refusal = filedisk_save(&disk, &keeper, slot, &left);
+        refusal = filedisk_save(&disk, &keeper, values[0], &left);
     return refusal == KEEPER_DONE ? 0 : failed("weave", refusal);
 }
 
@@ -82,15 +82,68 @@ static int show(void)
     return 0;
 }
 
+/* What stands in a file, which stays as it is. */
+static void describe(FileBlocks blocks)
+{
+    if (filedisk_read(&disk, blocks, &keeper) != FILEDISK_GOOD)
+        printf("%s\n", disk.line);
+    for (size_t at = 0; at < sizes.slots * sizes.pages && !disk.dead; at++)
+        if (keeper.maps[at] != 0)
+            printf("design %u page %u\n", (unsigned)keeper.numbers[at / sizes.pages], (unsigned)(at % sizes.pages));
+}
+
+/* A new disk. Of a file that has anything in it, it says what that is, and goes no further without the word. */
+static int format(const char *path, int may_erase)
+{
+    FileBlocks blocks;
+    int answer = filedisk_file(&disk, &blocks, path, FILEDISK_NEW);
+    if (answer == FILEDISK_THERE)
+        answer = filedisk_file(&disk, &blocks, path, FILEDISK_OPEN);
+    if (answer != FILEDISK_GOOD)
+        return failed(path, FILEDISK_DIED);
+    if (filedisk_bytes(&blocks) > 0 && !may_erase) {
+        printf("%s has %llu bytes. This would be erased:\n", path, (unsigned long long)filedisk_bytes(&blocks));
+        describe(blocks);
+        printf("To erase it: weaver %s format erase\n", path);
+        return 1;
+    }
+    return filedisk_format(&disk, blocks, &keeper, NULL) == FILEDISK_GOOD ? 0 : failed(path, FILEDISK_DIED);
+}
+
+/* A number from 0 to 4,294,967,295, and nothing else. */
+static int is_number(const char *word, uint32_t *value)
+{
+    char *end;
+    const unsigned long long number = strtoull(word, &end, 10);
+    *value = (uint32_t)number;
+    return word[0] >= '0' && word[0] <= '9' && *end == 0 && number <= UINT32_MAX;
+}
+
+static int usage(void)
+{
+    puts("weaver FILE weave SLOT PAGE FIRST\nweaver FILE show\nweaver FILE format [erase]");
+    return 2;
+}
+
 int main(int count, char **words)
 {
-    const int weaves = count == 6 && strcmp(words[2], "weave") == 0, shows = count == 3 && strcmp(words[2], "show") == 0;
-    if (!weaves && !shows) {
-        puts("weaver FILE weave SLOT PAGE FIRST\nweaver FILE show");
+    FileBlocks blocks;
+    uint32_t values[3] = {0, 0, 0};
+    const char *command = count > 2 ? words[2] : "";
+    const int weaves = count == 6 && strcmp(command, "weave") == 0, shows = count == 3 && strcmp(command, "show") == 0;
+    const int erases = count == 4 && strcmp(words[3], "erase") == 0, formats = strcmp(command, "format") == 0 && (count == 3 || erases);
+    if (weaves && !(is_number(words[3], values) && is_number(words[4], values + 1) && is_number(words[5], values + 2))) {
+        printf("weave: SLOT, PAGE and FIRST are numbers from 0 to %u\n", UINT32_MAX);
         return 2;
     }
+    if (!weaves && !shows && !formats)
+        return usage();
     const size_t bytes = keeper_workspace(sizes);
-    if (keeper_place(&keeper, sizes, malloc(bytes), bytes) != KEEPER_PLACED || power_on(words[1]) != 0)
+    if (keeper_place(&keeper, sizes, malloc(bytes), bytes) != KEEPER_PLACED)
         return 1;
-    return weaves ? weave((uint32_t)atoi(words[3]), (uint32_t)atoi(words[4]), (uint32_t)atoi(words[5])) : show();
+    if (formats)
+        return format(words[1], erases);
+    if (power_on(words[1], &blocks, weaves) != 0)
+        return 1;
+    return weaves ? weave(values) : show();
 }

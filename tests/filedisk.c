@@ -1,4 +1,4 @@
-/* Not proved: the test of examples/filedisk.c's header, journal and refusals, over a file. Kills and cuts are tests/plug.c's. */
+/* Not proved: the test of the file disk's header, journal and refusals, over a file. Kills and cuts are those of tests/plug and tests/resets. */
 #define _POSIX_C_SOURCE 200809L
 #include <stdlib.h>
 #include <unistd.h>
@@ -7,6 +7,7 @@
 
 static const KeeperSizes sizes = {.words = 16, .records = 8, .frames = 3, .slots = 2, .pages = 4, .accounts = 3};
 static const KeeperSizes alike = {.words = 8, .records = 16, .frames = 3, .slots = 2, .pages = 4, .accounts = 3};
+static const KeeperSizes roomy = {.words = 16, .records = 8, .frames = 64, .slots = 2, .pages = 4, .accounts = 3};
 static const uint16_t chain[3] = {9, 0, 1}, higher[3] = {0, 0, 2};
 
 static Keeper placed(KeeperSizes wanted)
@@ -36,47 +37,98 @@ static int opened_with(FileBlocks blocks, KeeperSizes wanted, char *line)
     return answer;
 }
 
-/* One byte of the device is other while the disk is opened. */
+/* One byte of the device is other while the disk is opened; then header and journal are as they were. */
 static int opened_with_byte(FileBlocks blocks, uint64_t at, char *line)
 {
-    unsigned char was, other;
-    CHECK(blocks.read(blocks.self, at, &was, 1) == 0);
-    other = was ^ 1;
+    unsigned char old[FILEDISK_BLOCK + FILEDISK_JOURNAL], other;
+    CHECK(blocks.read(blocks.self, 0, old, sizeof old) == 0);
+    other = old[at] ^ 1;
     CHECK(blocks.write(blocks.self, at, &other, 1) == 0);
-    int answer = opened_with(blocks, sizes, line);
-    CHECK(blocks.write(blocks.self, at, &was, 1) == 0);
+    const int answer = opened_with(blocks, sizes, line);
+    CHECK(blocks.write(blocks.self, 0, old, sizeof old) == 0);
     return answer;
 }
 
-/* A header of another version, with its checksum right, as another program would leave it. */
-static void reseal(FileBlocks blocks, uint32_t version)
+/* A block with a right checksum where it has one: at its end, of all before; or at its start, of so many bytes behind it. */
+static uint32_t sum_of(const unsigned char *bytes, size_t count)
+{
+    uint32_t sum = 0xFFFFFFFFu;
+    for (size_t bit = 0; bit < 8 * count; bit++) {
+        sum ^= bytes[bit / 8] >> bit % 8 & 1u;
+        sum = sum & 1 ? (sum >> 1) ^ 0xEDB88320u : sum >> 1;
+    }
+    return ~sum;
+}
+
+static void put(unsigned char *to, uint64_t value, size_t width)
+{
+    for (size_t byte = 0; byte < width; byte++)
+        to[byte] = (unsigned char)(value >> 8 * byte);
+}
+
+/* A header with another number in it, its checksum right, as another program would leave it. */
+static void reseal(FileBlocks blocks, size_t at, uint32_t value)
 {
     unsigned char block[FILEDISK_BLOCK];
-    uint32_t sum = 0xFFFFFFFFu;
     CHECK(blocks.read(blocks.self, 0, block, sizeof block) == 0);
-    memcpy(block + 8, &version, sizeof version);
-    for (size_t at = 0; at < sizeof block - 4; at++) {
-        sum ^= block[at];
-        for (int bit = 0; bit < 8; bit++)
-            sum = sum & 1 ? (sum >> 1) ^ 0xEDB88320u : sum >> 1;
-    }
-    sum = ~sum;
-    memcpy(block + sizeof block - 4, &sum, sizeof sum);
+    put(block + at, value, 4);
+    put(block + sizeof block - 4, sum_of(block, sizeof block - 4), 4);
     CHECK(blocks.write(blocks.self, 0, block, sizeof block) == 0);
 }
 
 static void test_header(FileBlocks blocks)
 {
+    unsigned char old[FILEDISK_BLOCK], nothing[FILEDISK_BLOCK] = {0};
     char line[240];
     CHECK(opened_with(blocks, sizes, line) == FILEDISK_GOOD);
+    CHECK(opened_with(blocks, roomy, line) == FILEDISK_GOOD); /* F is no part of a disk */
     CHECK(opened_with(blocks, alike, line) == FILEDISK_OTHER_SIZES);
-    CHECK(strcmp(line, "the disk was formatted with W 16 R 8 F 3 S 2 N 4 Q 3, this keeper has W 8 R 16 F 3 S 2 N 4 Q 3") == 0);
-    CHECK(opened_with_byte(blocks, 0, line) == FILEDISK_NO_DISK);
-    CHECK(opened_with_byte(blocks, 20, line) == FILEDISK_NO_DISK && strstr(line, "checksum"));
-    reseal(blocks, 1); /* without parents */
-    CHECK(opened_with(blocks, sizes, line) == FILEDISK_OTHER_VERSION && strstr(line, "version 1"));
-    reseal(blocks, FILEDISK_VERSION);
+    CHECK(strcmp(line, "the disk was formatted with W 16 R 8 S 2 N 4 Q 3, this keeper has W 8 R 16 S 2 N 4 Q 3") == 0);
+    CHECK(opened_with_byte(blocks, 0, line) == FILEDISK_DAMAGED && strstr(line, "another program's"));
+    CHECK(opened_with_byte(blocks, 20, line) == FILEDISK_DAMAGED && strstr(line, "checksum"));
+    CHECK(blocks.read(blocks.self, 0, old, sizeof old) == 0 && blocks.write(blocks.self, 0, nothing, sizeof nothing) == 0);
+    CHECK(opened_with(blocks, sizes, line) == FILEDISK_NO_DISK);
+    CHECK(blocks.write(blocks.self, 0, old, sizeof old) == 0);
+}
+
+/* Headers that are whole, and another program's. */
+static void test_sealed(FileBlocks blocks)
+{
+    unsigned char old[FILEDISK_BLOCK];
+    char line[240];
+    CHECK(blocks.read(blocks.self, 0, old, sizeof old) == 0);
+    reseal(blocks, 8, 1); /* version 1, without parents */
+    CHECK(opened_with(blocks, sizes, line) == FILEDISK_OTHER_VERSION && strstr(line, "version 1") && strstr(line, "make convert"));
+    reseal(blocks, 8, FILEDISK_VERSION + 1);
+    CHECK(opened_with(blocks, sizes, line) == FILEDISK_OTHER_VERSION && strstr(line, "a later one"));
+    reseal(blocks, 8, FILEDISK_VERSION);
     CHECK(opened_with(blocks, sizes, line) == FILEDISK_GOOD);
+    reseal(blocks, 20, 4000000000u); /* sizes that no keeper has */
+    CHECK(opened_with(blocks, sizes, line) == FILEDISK_OTHER_SIZES);
+    reseal(blocks, 20, 16);
+    reseal(blocks, 28, 3); /* F */
+    CHECK(opened_with(blocks, sizes, line) == FILEDISK_OTHER_SIZES && strstr(line, "other tables"));
+    reseal(blocks, 28, 0);
+    reseal(blocks, 44, UINT32_MAX); /* the width of an entry */
+    CHECK(opened_with(blocks, sizes, line) == FILEDISK_OTHER_SIZES && strstr(line, "other tables"));
+    CHECK(blocks.write(blocks.self, 0, old, sizeof old) == 0 && opened_with(blocks, sizes, line) == FILEDISK_GOOD);
+}
+
+/* A file is open once; to be read alone, more than once. */
+static void test_in_use(const char *path)
+{
+    FileDisk disk;
+    FileBlocks one, two, three;
+    CHECK(filedisk_file(&disk, &one, path, FILEDISK_OPEN) == FILEDISK_GOOD);
+    CHECK(filedisk_file(&disk, &two, path, FILEDISK_OPEN) == FILEDISK_IN_USE && disk.dead && strstr(disk.line, "in use"));
+    CHECK(filedisk_file(&disk, &two, path, FILEDISK_READ) == FILEDISK_IN_USE);
+    CHECK(filedisk_file(&disk, &two, path, FILEDISK_NEW) == FILEDISK_THERE && strstr(disk.line, "there already"));
+    filedisk_close(&one);
+    CHECK(filedisk_file(&disk, &two, path, FILEDISK_READ) == FILEDISK_GOOD && filedisk_file(&disk, &three, path, FILEDISK_READ) == FILEDISK_GOOD);
+    CHECK(filedisk_file(&disk, &one, path, FILEDISK_OPEN) == FILEDISK_IN_USE);
+    CHECK(filedisk_bytes(&two) > FILEDISK_BLOCK && two.write(two.self, 0, path, 1) != 0); /* only read */
+    filedisk_close(&two);
+    filedisk_close(&three);
 }
 
 static uint32_t word_of(FileDisk *disk, Keeper *keeper, uint32_t slot, uint32_t page)
@@ -118,34 +170,95 @@ static void test_move(FileBlocks blocks, FileDisk *disk, Keeper *keeper)
     CHECK(blocks.read(blocks.self, limits, found, 6) == 0 && memcmp(found, new, 6) == 0);
 }
 
-/* A file that was cut short is refused and left as it is, though the journal's store would lengthen it. */
+/* A journal's entry that is whole, but names a place behind the end of all numbers: it is no store. */
+static void test_far_place(FileBlocks blocks, uint64_t end)
+{
+    unsigned char entry[FILEDISK_BLOCK] = {0}, last;
+    char line[240];
+    const uint64_t places[] = {UINT64_MAX - 7, end, 8, UINT64_MAX / 2};
+    for (size_t at = 0; at < sizeof places / sizeof *places; at++) {
+        put(entry + 4, 0x4A524E4C, 4), put(entry + 12, 1, 4), put(entry + 16, 16, 4), put(entry + 20, 152 + 16, 4);
+        put(entry + 24, places[at], 8), put(entry + 32, 16, 8);
+        put(entry, sum_of(entry + 4, 152 + 16 - 4), 4);
+        CHECK(blocks.write(blocks.self, FILEDISK_BLOCK, entry, sizeof entry) == 0);
+        CHECK(opened_with(blocks, sizes, line) == FILEDISK_GOOD);
+        CHECK(blocks.read(blocks.self, end, &last, 1) != 0);
+        CHECK(blocks.read(blocks.self, FILEDISK_BLOCK, entry, sizeof entry) == 0 && entry[0] == 0 && entry[4] == 0); /* it is gone */
+    }
+}
+
+/* A file that was cut short, at any length, is refused and left as it is, though the journal's store would lengthen it. */
 static void test_short(FileBlocks blocks, const char *path, uint64_t end)
 {
-    static const unsigned cuts[] = {1, 600, 1500, 5000};
     char line[240];
-    for (size_t at = 0; at < sizeof cuts / sizeof *cuts; at++) {
-        const long length = (long)end - (long)cuts[at];
-        FILE *file;
-        CHECK(truncate(path, length) == 0 && opened_with(blocks, sizes, line) == FILEDISK_DEVICE && strstr(line, "shorter than its tables"));
-        CHECK((file = fopen(path, "rb")) != NULL && fseek(file, 0, SEEK_END) == 0 && ftell(file) == length && fclose(file) == 0);
+    unsigned lengthened = 0, other = 0;
+    for (uint64_t length = end; length-- > 0;) {
+        if (truncate(path, (off_t)length) != 0)
+            CHECK(0);
+        const int answer = opened_with(blocks, sizes, line);
+        other += answer != (length == 0 ? FILEDISK_NO_DISK : length < FILEDISK_BLOCK ? FILEDISK_DAMAGED : FILEDISK_DEVICE) || line[0] == 0;
+        lengthened += filedisk_bytes(&blocks) != length;
     }
-    CHECK(truncate(path, 100) == 0 && opened_with(blocks, sizes, line) == FILEDISK_NO_DISK);
+    CHECK(other == 0);
+    CHECK(lengthened == 0);
 }
 
 static void test_pieces(FileDisk *disk, Keeper *keeper)
 {
-    const FilePiece past = {KEEPER_TABLE_LIMITS, sizes.accounts, 1, keeper->limits};
-    const FilePiece whole = {KEEPER_TABLE_NUMBERS, 0, 1, keeper->numbers};
-    const FilePiece many[FILEDISK_MOST_PIECES + 1] = {whole, whole, whole, whole, whole, whole, whole, whole, whole};
-    CHECK(filedisk_store(disk, &past, 1) != 0);
-    CHECK(filedisk_store(disk, many, FILEDISK_MOST_PIECES + 1) != 0);
-    CHECK(filedisk_store(disk, &whole, 1) == 0);
+    const FilePiece past = {KEEPER_TABLE_LIMITS, sizes.accounts, 1, keeper->limits}, far = {KEEPER_TABLE_LIMITS, SIZE_MAX, 1, keeper->limits};
+    const FilePiece many = {KEEPER_TABLE_LIMITS, 1, SIZE_MAX, keeper->limits}, none = {KEEPER_DISK_COUNT, 0, 1, keeper->limits};
+    const FilePiece whole = {KEEPER_TABLE_NUMBERS, 0, 1, keeper->numbers}, most = {KEEPER_TABLE_RECORDS, 0, 128, keeper->records};
+    const FilePiece over[FILEDISK_MOST_PIECES + 1] = {whole, whole, whole, whole, whole, whole, whole, whole, whole};
+    const FilePiece *wrong[] = {&past, &far, &many, &none};
+    for (size_t at = 0; at < sizeof wrong / sizeof *wrong; at++)
+        CHECK(filedisk_store(disk, wrong[at], 1) != 0 && !disk->dead);
+    CHECK(filedisk_store(disk, over, FILEDISK_MOST_PIECES + 1) != 0 && !disk->dead);
+    CHECK(filedisk_store(disk, &most, 1) == 0 && filedisk_store(disk, &whole, 1) == 0);
 }
 
 static int fails(void *self, uint64_t at, const void *from, size_t bytes)
 {
     (void)self, (void)at, (void)from, (void)bytes;
     return -1;
+}
+
+/* An event whose store fails says so in its answer. */
+static void test_dies(FileBlocks blocks, FileDisk *disk, Keeper *keeper)
+{
+    FileBlocks dying = blocks;
+    for (int event = 0; event < 4; event++) {
+        CHECK(filedisk_open(disk, blocks, keeper) == FILEDISK_GOOD);
+        dying.write = fails;
+        disk->blocks = dying;
+        const KeeperAnswer answer = event == 0 ? filedisk_limit(disk, keeper, 0, 1)
+                                  : event == 1 ? filedisk_move(disk, keeper, 1, 2, 1)
+                                  : event == 2 ? filedisk_create(disk, keeper, 0, 0, 70)
+                                               : filedisk_delete(disk, keeper, 1);
+        CHECK(answer.refusal == FILEDISK_DIED && answer.result == 0 && disk->dead && strstr(disk->line, "device failed"));
+        CHECK(filedisk_limit(disk, keeper, 2, 4).refusal == FILEDISK_DIED); /* dead until it is opened anew */
+    }
+    CHECK(filedisk_limit(disk, keeper, 99, 4).refusal == KEEPER_NO_RANGE); /* the keeper's own refusal comes first */
+    CHECK(filedisk_open(disk, blocks, keeper) == FILEDISK_GOOD && keeper->numbers[1] == 8 && keeper->numbers[0] == 0);
+}
+
+/* A disk with two designs, woven and read back after a restart. */
+static void test_weaving(FileBlocks *blocks, FileDisk *disk, Keeper *keeper, const char *path)
+{
+    for (uint32_t slot = 0; slot < 2; slot++) {
+        CHECK(filedisk_limit(disk, keeper, slot, 4).refusal == KEEPER_DONE);
+        CHECK(filedisk_create(disk, keeper, slot, slot, 7 + slot).refusal == KEEPER_DONE);
+        CHECK(keeper_activate(keeper, slot).refusal == KEEPER_DONE);
+    }
+    for (uint32_t page = 0; page < 4; page++)
+        weave(disk, keeper, page % 2, page, 50 + page);
+    test_pieces(disk, keeper);
+    filedisk_close(blocks);
+    test_in_use(path);
+    CHECK(filedisk_file(disk, blocks, path, FILEDISK_OPEN) == FILEDISK_GOOD && filedisk_open(disk, *blocks, keeper) == FILEDISK_GOOD);
+    for (uint32_t slot = 0; slot < 2; slot++)
+        CHECK(keeper_activate(keeper, slot).refusal == KEEPER_DONE);
+    for (uint32_t page = 0; page < 4; page++)
+        CHECK(word_of(disk, keeper, page % 2, page) == 50 + page && word_of(disk, keeper, (page + 1) % 2, page) == 0);
 }
 
 int main(int count, char **words)
@@ -156,28 +269,18 @@ int main(int count, char **words)
     if (count != 2)
         return 2;
     remove(words[1]);
-    CHECK(filedisk_file(&blocks, words[1], 0) != 0);
-    CHECK(filedisk_file(&blocks, words[1], 1) == 0);
+    CHECK(filedisk_file(&disk, &blocks, words[1], FILEDISK_OPEN) == FILEDISK_DEVICE && disk.dead && strstr(disk.line, "cannot be opened: "));
+    CHECK(filedisk_file(&disk, &blocks, "/", FILEDISK_OPEN) == FILEDISK_DEVICE && strstr(disk.line, "cannot be opened: "));
+    CHECK(filedisk_file(&disk, &blocks, "/no/such/folder", FILEDISK_NEW) == FILEDISK_DEVICE && strstr(disk.line, "cannot be made: "));
+    CHECK(filedisk_file(&disk, &blocks, words[1], FILEDISK_NEW) == FILEDISK_GOOD && filedisk_bytes(&blocks) == 0);
     CHECK(filedisk_open(&disk, blocks, &keeper) == FILEDISK_NO_DISK && disk.dead);
     CHECK(filedisk_format(&disk, blocks, &keeper, higher) == FILEDISK_PARENTS && disk.dead && strstr(disk.line, "lower account"));
-    CHECK(filedisk_open(&disk, blocks, &keeper) == FILEDISK_NO_DISK); /* refused, it has written nothing */
+    CHECK(filedisk_open(&disk, blocks, &keeper) == FILEDISK_NO_DISK && filedisk_bytes(&blocks) == 0); /* refused, it has written nothing */
     CHECK(filedisk_format(&disk, blocks, &keeper, chain) == FILEDISK_GOOD && !disk.dead);
     CHECK(filedisk_open(&disk, blocks, &keeper) == FILEDISK_GOOD && keeper.parents[0] == 0 && keeper.parents[1] == 0 && keeper.parents[2] == 1);
     test_header(blocks);
-    for (uint32_t slot = 0; slot < 2; slot++) {
-        CHECK(filedisk_limit(&disk, &keeper, slot, 4).refusal == KEEPER_DONE);
-        CHECK(filedisk_create(&disk, &keeper, slot, slot, 7 + slot).refusal == KEEPER_DONE);
-        CHECK(keeper_activate(&keeper, slot).refusal == KEEPER_DONE);
-    }
-    for (uint32_t page = 0; page < 4; page++)
-        weave(&disk, &keeper, page % 2, page, 50 + page);
-    test_pieces(&disk, &keeper);
-    filedisk_close(&blocks);
-    CHECK(filedisk_file(&blocks, words[1], 0) == 0 && filedisk_open(&disk, blocks, &keeper) == FILEDISK_GOOD);
-    for (uint32_t slot = 0; slot < 2; slot++)
-        CHECK(keeper_activate(&keeper, slot).refusal == KEEPER_DONE);
-    for (uint32_t page = 0; page < 4; page++)
-        CHECK(word_of(&disk, &keeper, page % 2, page) == 50 + page && word_of(&disk, &keeper, (page + 1) % 2, page) == 0);
+    test_sealed(blocks);
+    test_weaving(&blocks, &disk, &keeper, words[1]);
     test_journal(blocks, &disk, &keeper);
     test_move(blocks, &disk, &keeper);
     CHECK(filedisk_open(&disk, blocks, &keeper) == FILEDISK_GOOD && keeper_activate(&keeper, 0).refusal == KEEPER_DONE);
@@ -185,12 +288,14 @@ int main(int count, char **words)
     CHECK(filedisk_map(&disk, &keeper, 0) == 0 && keeper_deactivate(&keeper, 0).refusal == KEEPER_DONE);
     CHECK(filedisk_delete(&disk, &keeper, 0).refusal == KEEPER_DONE && filedisk_open(&disk, blocks, &keeper) == FILEDISK_GOOD);
     CHECK(keeper.numbers[0] == 0 && keeper.numbers[1] == 8);
-    disk.blocks.write = fails;
-    filedisk_limit(&disk, &keeper, 0, 1);
-    CHECK(disk.dead && strstr(disk.line, "device failed"));
+    CHECK(keeper_activate(&keeper, 1).refusal == KEEPER_DONE && keeper_truncate(&keeper, 1, 0).refusal == KEEPER_DONE);
+    CHECK(keeper_update(&keeper, 1).refusal == KEEPER_DONE && filedisk_map(&disk, &keeper, 1) == 0);
+    test_dies(blocks, &disk, &keeper);
+    test_far_place(blocks, disk.end);
     CHECK(filedisk_open(&disk, blocks, &keeper) == FILEDISK_GOOD && filedisk_limit(&disk, &keeper, 2, 4).refusal == KEEPER_DONE);
     test_short(blocks, words[1], disk.end);
     filedisk_close(&blocks);
+    remove(words[1]);
     free(keeper.records);
     return counted();
 }

@@ -27,17 +27,18 @@ static int weave(FileDisk *disk, Keeper *keeper, uint32_t slot, uint32_t number,
 /* A cell of a table as an older board might have left it. */
 static void put(FileDisk *disk, size_t table, size_t entry, uint32_t value)
 {
-    const uint16_t half = (uint16_t)value;
+    const unsigned char bytes[4] = {(unsigned char)value, (unsigned char)(value >> 8), (unsigned char)(value >> 16), (unsigned char)(value >> 24)};
     const uint64_t at = disk->table_at[table] + disk->width[table] * entry;
-    if (disk->blocks.write(disk->blocks.self, at, disk->width[table] == 2 ? (const void *)&half : (const void *)&value, disk->width[table]) != 0)
+    if (disk->blocks.write(disk->blocks.self, at, bytes, disk->width[table]) != 0)
         exit(failed("a cell cannot be written"));
 }
 
-/* A file, made or there already, and a keeper. */
-static int opened(const char *path, int made, FileBlocks *blocks, Keeper *keeper)
+/* A file, new or there already, and a keeper. */
+static int opened(const char *path, int how, FileBlocks *blocks, Keeper *keeper)
 {
+    FileDisk disk;
     const size_t bytes = keeper_workspace(sizes);
-    return filedisk_file(blocks, path, made) == 0 && keeper_place(keeper, sizes, malloc(bytes), bytes) == KEEPER_PLACED;
+    return filedisk_file(&disk, blocks, path, how) == FILEDISK_GOOD && keeper_place(keeper, sizes, malloc(bytes), bytes) == KEEPER_PLACED;
 }
 
 static int make(const char *path, const char *kind)
@@ -45,13 +46,14 @@ static int make(const char *path, const char *kind)
     FileBlocks blocks;
     FileDisk disk;
     Keeper keeper;
-    if (!opened(path, 1, &blocks, &keeper))
+    if (!opened(path, FILEDISK_NEW, &blocks, &keeper))
         return failed("no file or no memory");
     if (filedisk_format(&disk, blocks, &keeper, NULL) != FILEDISK_GOOD || filedisk_limit(&disk, &keeper, 1, 8).refusal)
         return failed("no format");
     if (weave(&disk, &keeper, 0, 101, 10) != 0 || weave(&disk, &keeper, 2, 102, 20) != 0)
         return failed("no design");
-    filedisk_limit(&disk, &keeper, 1, 7); /* so that the journal's store is none of those below */
+    if (filedisk_limit(&disk, &keeper, 1, 7).refusal) /* so that the journal's store is none of those below */
+        return failed("no limit");
     if (strcmp(kind, "hurt") == 0) { /* page 2 of slot 0: no such record; slot 1 doubles 101 and names a record of slot 2's; slot 3 is empty */
         put(&disk, KEEPER_TABLE_MAPS, 2, 60000);
         put(&disk, KEEPER_TABLE_NUMBERS, 1, 101);
@@ -75,7 +77,7 @@ static int look(const char *path)
     FileBlocks blocks;
     FileDisk disk;
     Keeper keeper;
-    if (!opened(path, 0, &blocks, &keeper))
+    if (!opened(path, FILEDISK_OPEN, &blocks, &keeper))
         return failed("no file or no memory");
     if (filedisk_open(&disk, blocks, &keeper) != FILEDISK_GOOD) {
         printf("%s\n", disk.line);

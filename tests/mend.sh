@@ -5,8 +5,8 @@ cd "$(dirname "$0")/.."
 [ -f target/staticlib/libkeeper.a ] || rt staticlib keeper
 strict="-std=c99 -O1 -Wall -Wextra -Werror -pedantic -Iinclude -Iexamples"
 mkdir -p target/mend
-gcc $strict tools/mend.c examples/filedisk.c target/staticlib/libkeeper.a -o target/mend/mend
-gcc $strict tests/mend.c examples/filedisk.c target/staticlib/libkeeper.a -o target/mend/packs
+gcc $strict tools/mend.c examples/filedisk*.c target/staticlib/libkeeper.a -o target/mend/mend
+gcc $strict tests/mend.c examples/filedisk*.c target/staticlib/libkeeper.a -o target/mend/packs
 folder=$(mktemp -d)
 trap 'rm -rf "$folder"' EXIT
 passed=0
@@ -32,15 +32,15 @@ target/mend/packs make "$folder/hurt" hurt
 cp "$folder/hurt" "$folder/before"
 same "restart of the hurt pack" "$(target/mend/packs look "$folder/hurt" || true)" "the tables break a rule"
 cp "$folder/before" "$folder/hurt"
-same "the list" "$(target/mend/mend "$folder/hurt" "$folder/mended" 2>"$folder/line")" "slot page old reason
-1 3 101 the slot's number stands in a lower slot, so the slot is emptied
-1 3 1 the slot's number stands in a lower slot, so the slot is emptied
-1 0 3 the slot's number stands in a lower slot, so the slot is emptied
-3 3 1 the slot is empty, so its account is 0 and its map zero
-2 3 9 there is no such account, so it becomes 0
-0 2 60000 there is no such record, so the page is one of zeros
-2 1 4 the record stands in another entry too, so it is in none
-2 2 4 the record stands in another entry too, so it is in none"
+same "the list" "$(target/mend/mend "$folder/hurt" "$folder/mended" 2>"$folder/line")" "slot design page old reason
+1 101 number 101 the slot's number stands in a lower slot, so the slot is emptied
+1 101 account 1 the slot's number stands in a lower slot, so the slot is emptied
+1 101 0 3 the slot's number stands in a lower slot, so the slot is emptied
+3 0 account 1 the slot is empty, so its account is 0 and its map zero
+2 102 account 9 there is no such account, so it becomes 0
+0 101 2 60000 there is no such record, so the page is one of zeros
+2 102 1 4 the record stands in another entry too, so it is in none
+2 102 2 4 the record stands in another entry too, so it is in none"
 same "the line" "$(cat "$folder/line")" "mend: $folder/hurt: 8 changes; the mended pack is $folder/mended"
 same "the old pack" "$(cmp "$folder/hurt" "$folder/before" && echo alike)" "alike"
 same "the mended pack" "$(target/mend/packs look "$folder/mended")" "design 101 account 1: 10 11 -
@@ -57,12 +57,27 @@ target/mend/packs make "$folder/parents" parents
 refused "a wrong parent" "$folder/parents" "restart turns it away still: an account's parent is not a lower account, and mending changes no parent"
 
 # what is no pack, or not whole
-refused "no file" "$folder/nothing" "it cannot be read"
+refused "no file" "$folder/nothing" "it cannot be opened: No such file or directory"
 echo "a letter" >"$folder/letter"
-refused "a letter" "$folder/letter" "no disk of the keeper: never formatted, or a cut fell in the format"
+refused "a letter" "$folder/letter" "no disk of the keeper: another program's file, or its header block is damaged"
+: >"$folder/empty"
+refused "an empty file" "$folder/empty" "no disk of the keeper: never formatted, or a cut fell in the format"
 head -c 9000 "$folder/hurt" >"$folder/short"
 refused "a short file" "$folder/short" "the device failed: it is shorter than its tables"
 printf 'X' | cat - "$folder/hurt" | head -c 9000 >"$folder/shifted"
-refused "a shifted file" "$folder/shifted" "no disk of the keeper: never formatted, or a cut fell in the format"
+refused "a shifted file" "$folder/shifted" "no disk of the keeper: another program's file, or its header block is damaged"
+
+# a new file that is there already, or cannot be made, is left alone
+echo "my own" >"$folder/mine"
+same "a file that is there" "$(target/mend/mend "$folder/hurt" "$folder/mine" 2>&1 || true)" "mend: $folder/mine: it is there already"
+same "it stays" "$(cat "$folder/mine")" "my own"
+same "no folder" "$(target/mend/mend "$folder/hurt" "$folder/none/there" 2>&1 || true)" "mend: $folder/none/there: it cannot be made: No such file or directory"
+
+# by make: a name with a blank in it, and no name
+cp "$folder/before" "$folder/with blank"
+made() { make --no-print-directory -s -o target/staticlib/libkeeper.a "$@" 2>&1; }
+same "a blank in the name" "$(made mend PACK="$folder/with blank" | grep changes)" "mend: $folder/with blank: 8 changes; the mended pack is $folder/with blank.mended"
+same "what is made of it" "$(cmp "$folder/mended" "$folder/with blank.mended" && echo alike)" "alike"
+same "no name" "$(made mend | head -n 1)" "make mend PACK=file: which pack is to be mended?"
 echo "$passed passed, $failed failed"
 [ "$failed" -eq 0 ]

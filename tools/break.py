@@ -88,7 +88,7 @@ def main(words):
     lines(definition(name, field(name, "old")), 12)
     print(f"\nTried in its place: {field(name, 'what')}.\n")
     lines(definition(name, field(name, "new")), 12)
-    print("\nThe prover goes through a copy with this one change; half a minute or so ..", flush=True)
+    print("\nThe prover goes through a copy with this one change; a minute or so ..", flush=True)
     place, said, seconds = proved_wrong(name)
     if not place:
         print(f"\nNOT REFUSED, after {seconds:.0f} s: everything is proved with this definition. That must not be.")

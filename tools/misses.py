@@ -5,7 +5,7 @@
 
 A trace is page numbers, 0 to 16,383, in the order of their uses; # starts a comment. A use misses if its page is in no frame. Three ways to
 choose the page that leaves its frame are compared: the keeper's removal list, run by the keeper itself; least recently used; and the best
-possible, which knows the future and takes the page whose next use is farthest.
+possible, which knows the future and takes the page whose next use is farthest. The last lines say how many frames are worth buying.
 """
 
 import subprocess
@@ -82,6 +82,23 @@ def table(uses, counts):
     return "\n".join(rows) + "\n"
 
 
+def advice(uses, counted):
+    """How many frames are worth buying, by the keeper's counts; and where a frame more has missed more, why that can be."""
+    enough = next(at for at in range(len(counted)) if 100 * (counted[at] - min(counted[at:])) <= uses)
+    out = [
+        f"{FRAMES[enough]} {'frame is' if enough == 0 else 'frames are'} worth buying: {100 * counted[enough] / uses:.1f} % of the uses miss then, and no larger number up to "
+        f"{FRAMES[-1]} saves more than 1 use in 100."
+    ]
+    more = [at for at in range(1, len(counted)) if counted[at] > counted[at - 1]]
+    if more:
+        at = more[0]
+        out.append(
+            f"More frames can miss more, here from {FRAMES[at - 1]} to {FRAMES[at]} ({counted[at - 1]} misses, then {counted[at]}): the removal list goes "
+            "by when a page came in and whether it was used since, not by its last use, so the pages that fewer frames hold are not always among those that more hold."
+        )
+    return out
+
+
 def plot(title, uses, counts):
     """The same as a picture: frames to the right, misses in per cent of the uses upwards."""
     left, top, width, height = 60, 50, 640, 320
@@ -115,6 +132,7 @@ def run(path, svg):
     print(table(len(pages), counts), end="")
     svg.write_text(plot(path.name, len(pages), counts))
     print(f"the plot is in {svg}")
+    print("\n".join(advice(len(pages), counts[0])))
 
 
 if __name__ == "__main__":

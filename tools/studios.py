@@ -5,7 +5,10 @@ import re
 from drawing import arrow, box, head, lines, link, tail
 
 PLACES = [(400, 90), (400, 200), (130, 340), (400, 340), (670, 340)]
-NOTES = ["Yellow accounts pay; a blue one has limit 0, and its charges go up along the arrow to the account that pays.", "Along the dashed line only moves go."]
+NOTES = [
+    "Yellow accounts pay; a blue one has limit 0, and its charges go up along the arrow to the account that pays.",
+    "Account 0 always pays for what comes to it, whatever its limit. Along the dashed line only moves go.",
+]
 
 
 class Bad(Exception):
@@ -34,6 +37,12 @@ def read(text):
     return names, *tables
 
 
+def beside(middle, child, parent):
+    """Where an arrow's label stands, above it and on its outer side, and which end of the label is there."""
+    side = (child[0] > parent[0]) - (child[0] < parent[0])
+    return middle[0] + 10 * side, middle[1] - 10, {-1: "end", 0: "middle", 1: "start"}[side]
+
+
 def picture(text):
     names, parents, limits, used = read(text)
     drawn, labels, boxes = "", "", ""
@@ -45,5 +54,6 @@ def picture(text):
             path, middle = (arrow if limits[account] == 0 else link)((x, y), PLACES[parents[account]])
             drawn += path
             if pays != account:
-                labels += lines(middle[0], middle[1], [f"{names[pays]} pays"])
+                at_x, at_y, anchor = beside(middle, (x, y), PLACES[parents[account]])
+                labels += lines(at_x, at_y, [f"{names[pays]} pays"], anchor)
     return head("A mill and its studios", 800, 440) + drawn + labels + boxes + lines(400, 412, NOTES) + tail()

@@ -84,12 +84,30 @@ class Counts(unittest.TestCase):
             self.assertEqual([recent, best], [sorted(recent, reverse=True), sorted(best, reverse=True)])
 
 
+class Advice(unittest.TestCase):
+    def test_enough(self):
+        """The least number of frames that no larger one is better than by more than 1 use in 100."""
+        falling = [1000 - 10 * at for at in range(64)]
+        self.assertTrue(misses.advice(1000, falling)[0].startswith("63 frames are worth buying: 38.0 %"))
+        self.assertTrue(misses.advice(1000, [500] * 64)[0].startswith("1 frame is worth buying"))
+        late = [500] * 63 + [489]
+        self.assertTrue(misses.advice(1000, late)[0].startswith("64 frames"))
+        self.assertTrue(misses.advice(1100, late)[0].startswith("1 frame is worth buying"))
+
+    def test_more(self):
+        self.assertEqual(len(misses.advice(1000, [500] * 64)), 1)
+        said = misses.advice(1000, [500, 400, 401] + [300] * 61)
+        self.assertIn("from 2 to 3 (400 misses, then 401)", said[1])
+
+
 class Shown(unittest.TestCase):
     def test_tool(self):
         svg = misses.ROOT / "target" / "test-misses.svg"
         ran = subprocess.run([sys.executable, TOOL, TRACES[1], svg], capture_output=True, text=True)
         self.assertEqual((ran.returncode, ran.stderr), (0, ""))
-        self.assertEqual(len(ran.stdout.splitlines()), 64 + 3)
+        self.assertEqual(len(ran.stdout.splitlines()), 64 + 3 + 2)
+        self.assertIn("40 frames are worth buying: 23.1 % of the uses miss then", ran.stdout)
+        self.assertIn("from 17 to 18 (481 misses, then 482)", ran.stdout)
         drawn = xml.etree.ElementTree.parse(svg).getroot()
         self.assertEqual(len(drawn.findall("{http://www.w3.org/2000/svg}polyline")), 3)
         svg.unlink()

@@ -48,6 +48,14 @@ class Made(unittest.TestCase):
         for limit, count in zip(limits, used):
             self.assertIn(f"limit {limit}, used {count}", shown)
 
+    def test_labels_beside_their_arrows(self):
+        """No label of who pays stands on its arrow: it is above the arrow's middle, on its outer side."""
+        left, right = studios.beside((265, 270), (130, 340), (400, 200)), studios.beside((535, 270), (670, 340), (400, 200))
+        self.assertEqual((left, right), ((255, 260, "end"), (545, 260, "start")))
+        shown = list(pictures.made().values())[2]
+        self.assertIn('<text x="255"', shown)
+        self.assertIn("Account 0 always pays", shown)
+
     def test_the_sum_of_the_limits_stays(self):
         """Every line of the example after its limit event: a move moves, and no more."""
         rows = re.findall(r"; limits((?: \d+)+); used", STUDIOS)

@@ -134,6 +134,23 @@ class Line(unittest.TestCase):
             events.encode("turn\n")
 
 
+class Shown(unittest.TestCase):
+    def test_accounts(self):
+        """Each row has the limit and the used count as the library leaves them."""
+        states = json.loads(timeline.ran(BUSY))
+        shown = re.findall(r">account 0: used (\d+) of limit (\d+)<", timeline.page("busy", BUSY, states))
+        self.assertEqual(shown, [(str(state["used"][0]), str(state["limits"][0])) for state in states])
+        self.assertEqual([shown[0], shown[1], shown[-1]], [("0", "0"), ("0", "6"), ("3", "6")])
+        more = timeline.picture({**states[-1], "used": [1, 2], "limits": [3, 4]})
+        self.assertIn("account 0: used 1 of limit 3, account 1: used 2 of limit 4", more)
+
+    def test_comments(self):
+        """Comment lines that follow each other are one row; a blank line, or an event, ends it."""
+        text = "# one\n# two\n\n# three\nlimit 0 1 # four\n# five\n# six\n"
+        shown = re.findall(r'<tr class="comment"><td></td><td colspan="4">(.*?)</td>', timeline.page("said", text, json.loads(timeline.ran(text))))
+        self.assertEqual(shown, ["one two", "three", "four", "five six"])
+
+
 class Page(unittest.TestCase):
     @classmethod
     def setUpClass(cls):

@@ -108,11 +108,17 @@ def maps(state, left):
     return out
 
 
+def accounts(state, left):
+    """What each account has used, and its limit, below the records."""
+    pairs = zip(state["used"], state["limits"])
+    return [label(left, 74, ", ".join(f"account {at}: used {used} of limit {limit}" for at, (used, limit) in enumerate(pairs)), 10)]
+
+
 def picture(state):
     left = 12 + 112 * len(state["frames"])
     after = left + 72 * len(state["states"]) + 14
     width = after + 134 * len(state["numbers"])
-    drawn = frames(state) + waiting(state) + records(state, left) + maps(state, after)
+    drawn = frames(state) + waiting(state) + records(state, left) + accounts(state, left) + maps(state, after)
     return f'<svg xmlns="http://www.w3.org/2000/svg" width="{width}" height="78" viewBox="0 0 {width} 78" font-family="sans-serif">' + "".join(drawn) + "</svg>"
 
 
@@ -201,18 +207,26 @@ def said_of(name, before, after, words):
     return events.in_words(name, str(after["refusal"]), after["result"], words)
 
 
+def comment(lines):
+    """The row of a comment of one line or several; of none nothing."""
+    return f'<tr class="comment"><td></td><td colspan="4">{html.escape(" ".join(lines))}</td></tr>\n' if lines else ""
+
+
 def rows(text, states):
-    """The rows of a list: its comments, its events."""
-    words, out, n = events.refusals(), [row(0, "", "a new disk", states[0])], 0
+    """The rows of a list: its comments, each of lines that follow each other, and its events."""
+    words, out, n, above = events.refusals(), [row(0, "", "a new disk", states[0])], 0, []
     for number, line in enumerate(text.splitlines(), 1):
-        event, comment = events.parse_line(line, number, events.ALL), line.partition("#")[2].strip()
-        if comment:
-            out.append(f'<tr class="comment"><td></td><td colspan="4">{html.escape(comment)}</td></tr>\n')
+        event, said = events.parse_line(line, number, events.ALL), line.partition("#")[2].strip()
+        if said and not event:
+            above.append(said)
+            continue
+        out.append(comment(above))
+        above = []
         if event:
             n += 1
-            said = said_of(event[0], states[n - 1], states[n], words)
-            out.append(row(n, events.line_of(*event), said, states[n]))
-    return "".join(out)
+            out.append(comment([said] if said else []))
+            out.append(row(n, events.line_of(*event), said_of(event[0], states[n - 1], states[n], words), states[n]))
+    return "".join(out) + comment(above)
 
 
 def page(title, text, states):
@@ -221,7 +235,7 @@ def page(title, text, states):
     return (
         f'<!DOCTYPE html>\n<html lang="en"><head><meta charset="utf-8"><title>{html.escape(title)}</title><style>{STYLE}</style></head><body>\n'
         f"<h1>{html.escape(title)}</h1>\n<p>Each row is an event, with everything as it is after it. A page is named by its design and its number in it. "
-        "Pages that wait in line stand below the frames, the first one first. Records are coloured by the design that owns them, and pale while their words are void or given up. A dashed strip is the map that an update is about to "
+        "Pages that wait in line stand below the frames, the first one first; what each account has used, and its limit, below the records. Records are coloured by the design that owns them, and pale while their words are void or given up. A dashed strip is the map that an update is about to "
         f"store. Press “cut here” to see what every page would read if the power failed behind that row.</p>\n<table>\n{rows(text, states)}</table>\n"
         f"<script>const DATA = {data};{SCRIPT}</script>\n</body></html>\n"
     )

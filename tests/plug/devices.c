@@ -1,4 +1,5 @@
-/* Not proved: the devices of the plug test. One in memory loses, tears and reorders what was not synced; one over a file kills its process. */
+/* Not proved: the devices of the plug test. One in memory loses, tears and reorders what was not synced at a cut, and keeps it in its cache at a
+ * reset; one over a file kills its process. */
 #include <signal.h>
 #include <stdlib.h>
 #include <unistd.h>
@@ -31,17 +32,18 @@ Simulated *simulated_new(size_t bytes)
     return device;
 }
 
-void simulated_free(Simulated *device)
-{
-    free(device->safe);
-    free(device->seen);
-    free(device);
-}
-
 static void forget(Simulated *device)
 {
     while (device->count > 0)
         free(device->pending[--device->count].data);
+}
+
+void simulated_free(Simulated *device)
+{
+    forget(device);
+    free(device->safe);
+    free(device->seen);
+    free(device);
 }
 
 static int simulated_read(void *self, uint64_t at, void *to, size_t bytes)
@@ -53,36 +55,90 @@ static int simulated_read(void *self, uint64_t at, void *to, size_t bytes)
     return 0;
 }
 
+/* The end of a piece that begins here: at a multiple of the grain on the device, or where the write ends. */
+static uint64_t piece_end(const Simulated *device, uint64_t at, uint64_t end)
+{
+    const uint64_t next = (at / device->grain + 1) * device->grain;
+    return next < end ? next : end;
+}
+
+/* The pieces of a write: `mix` 0 none lands, 1 all, 2 each by chance. */
+static void land(Simulated *device, const Pending *pending, uint32_t mix)
+{
+    const uint64_t last = pending->at + pending->bytes;
+    for (uint64_t at = pending->at, end; at < last; at = end) {
+        end = piece_end(device, at, last);
+        if (mix == 1 || (mix == 2 && plug_random(&device->random, 2) == 0))
+            memcpy(device->safe + at, pending->data + (at - pending->at), (size_t)(end - at));
+    }
+}
+
+/* All that is pending lands, in order. */
+static void land_all(Simulated *device)
+{
+    for (size_t at = 0; at < device->count; at++)
+        land(device, device->pending + at, 1);
+    forget(device);
+}
+
+/* Any pieces of what is pending land, in any order; the rest never will. */
+static void land_some(Simulated *device)
+{
+    for (size_t left = device->count; left > 0; left--) {
+        const size_t pick = plug_random(&device->random, (uint32_t)left);
+        const Pending pending = device->pending[pick];
+        land(device, &pending, plug_random(&device->random, 3));
+        device->pending[pick] = device->pending[left - 1];
+        device->pending[left - 1] = pending;
+    }
+    forget(device);
+}
+
+/* At its last operation: the end comes before anything is safe, or after it and nobody hears of it, or the sync fails. What a failed one has not
+ * stored is still read, and no later sync stores it. */
 static int simulated_sync(void *self)
 {
     Simulated *device = self;
     if (device->countdown == 0)
         return -1;
-    device->countdown--;
-    if (device->countdown == 0 && plug_random(&device->random, 2) == 0)
-        return -1; /* the power fails before anything is safe */
-    memcpy(device->safe, device->seen, device->bytes);
-    forget(device);
-    return device->countdown == 0 ? -1 : 0; /* or after it, and nobody hears of it */
+    const uint32_t way = --device->countdown == 0 ? plug_random(&device->random, 3) : 1;
+    if (way == 1)
+        land_all(device);
+    else if (way == 2)
+        land_some(device);
+    return device->countdown == 0 ? -1 : 0;
 }
 
-static int simulated_write(void *self, uint64_t at, const void *from, size_t bytes)
+/* Into the cache. */
+static void put(Simulated *device, uint64_t at, const void *from, size_t bytes)
 {
-    Simulated *device = self;
-    if (device->countdown == 0 || at + bytes > device->bytes)
-        return -1;
-    device->countdown--;
-    if (device->count == MOST_PENDING) { /* a device may bring everything to its place at any time */
-        memcpy(device->safe, device->seen, device->bytes);
-        forget(device);
-    }
+    if (device->count == MOST_PENDING) /* a device may bring everything to its place at any time */
+        land_all(device);
     Pending *pending = device->pending + device->count++;
     pending->at = at;
     pending->bytes = bytes;
     pending->data = malloc(bytes);
     memcpy(pending->data, from, bytes);
     memcpy(device->seen + at, from, bytes);
-    return device->countdown == 0 ? -1 : 0;
+}
+
+/* Of its last write some pieces reach the cache. */
+static int simulated_write(void *self, uint64_t at, const void *from, size_t bytes)
+{
+    Simulated *device = self;
+    if (device->countdown == 0 || at + bytes > device->bytes)
+        return -1;
+    if (--device->countdown != 0) {
+        put(device, at, from, bytes);
+        return 0;
+    }
+    const uint32_t mix = plug_random(&device->random, 3);
+    for (uint64_t piece = at, end; piece < at + bytes; piece = end) {
+        end = piece_end(device, piece, at + bytes);
+        if (mix == 1 || (mix == 2 && plug_random(&device->random, 2) == 0))
+            put(device, piece, (const unsigned char *)from + (piece - at), (size_t)(end - piece));
+    }
+    return -1;
 }
 
 FileBlocks simulated_on(Simulated *device, uint64_t seed, unsigned countdown, size_t grain)
@@ -94,52 +150,10 @@ FileBlocks simulated_on(Simulated *device, uint64_t seed, unsigned countdown, si
     return blocks;
 }
 
-/* The pieces of a write, cut at multiples of the grain on the device: `mix` 0 none lands, 1 all, 2 each by chance. */
-static void land(Simulated *device, const Pending *pending, uint32_t mix)
-{
-    uint64_t at = pending->at;
-    while (at < pending->at + pending->bytes) {
-        uint64_t end = (at / device->grain + 1) * device->grain;
-        if (end > pending->at + pending->bytes)
-            end = pending->at + pending->bytes;
-        if (mix == 1 || (mix == 2 && plug_random(&device->random, 2) == 0))
-            memcpy(device->safe + at, pending->data + (at - pending->at), (size_t)(end - at));
-        at = end;
-    }
-}
-
 void simulated_cut(Simulated *device)
 {
-    for (size_t left = device->count; left > 0; left--) { /* in any order */
-        const size_t pick = plug_random(&device->random, (uint32_t)left);
-        const Pending pending = device->pending[pick];
-        land(device, &pending, plug_random(&device->random, 3));
-        device->pending[pick] = device->pending[left - 1];
-        device->pending[left - 1] = pending;
-    }
-    forget(device);
+    land_some(device);
     memcpy(device->seen, device->safe, device->bytes);
-}
-
-/* ── over another device: a Killer and a Without begin with it ── */
-static FileBlocks below(void *self)
-{
-    return *(FileBlocks *)self;
-}
-
-static int read_below(void *self, uint64_t at, void *to, size_t bytes)
-{
-    return below(self).read(below(self).self, at, to, bytes);
-}
-
-static int write_below(void *self, uint64_t at, const void *from, size_t bytes)
-{
-    return below(self).write(below(self).self, at, from, bytes);
-}
-
-static int sync_below(void *self)
-{
-    return below(self).sync(below(self).self);
 }
 
 /* ── over a file ── */
@@ -148,37 +162,30 @@ static int killer_write(void *self, uint64_t at, const void *from, size_t bytes)
     Killer *killer = self;
     const unsigned char *data = from;
     if (--killer->countdown != 0)
-        return write_below(self, at, from, bytes);
+        return killer->file.write(killer->file.self, at, from, bytes);
     for (size_t done = 0; done < bytes; done += killer->grain) {
         const size_t piece = bytes - done < killer->grain ? bytes - done : killer->grain;
         if (plug_random(&killer->random, 2) == 0)
-            write_below(self, at + done, data + done, piece);
+            killer->file.write(killer->file.self, at + done, data + done, piece);
     }
     kill(getpid(), SIGKILL);
     return -1;
 }
 
+static int killer_read(void *self, uint64_t at, void *to, size_t bytes)
+{
+    Killer *killer = self;
+    return killer->file.read(killer->file.self, at, to, bytes);
+}
+
+static int killer_sync(void *self)
+{
+    Killer *killer = self;
+    return killer->file.sync(killer->file.self);
+}
+
 FileBlocks killer_on(Killer *killer)
 {
-    FileBlocks blocks = {killer, read_below, killer_write, sync_below};
-    return blocks;
-}
-
-/* ── without a journal, without a sync ── */
-static int no_journal(void *self, uint64_t at, const void *from, size_t bytes)
-{
-    return at >= FILEDISK_BLOCK && at < FILEDISK_BLOCK + FILEDISK_JOURNAL ? 0 : write_below(self, at, from, bytes);
-}
-
-static int no_sync(void *self)
-{
-    (void)self;
-    return 0;
-}
-
-FileBlocks without_on(Without *device, FileBlocks inner, int wrong)
-{
-    FileBlocks blocks = {device, read_below, wrong == WRONG_NO_JOURNAL ? no_journal : write_below, wrong == WRONG_NO_SYNC ? no_sync : sync_below};
-    device->inner = inner;
+    FileBlocks blocks = {killer, killer_read, killer_write, killer_sync};
     return blocks;
 }

@@ -1,5 +1,5 @@
 /* Not proved: pulls the plug. plug KILLS DISK-FILE [SEED]: half of the kills are of a real process that weaves on a file, by the clock and at its
- * writes; half are cuts of a simulated device. After each, everything is read back and judged by the books. Then the wrong drivers. */
+ * writes; half are cuts of a simulated device and resets over it. After each, everything is read back and judged by the books. Then the wrong drivers. */
 #include <poll.h>
 #include <signal.h>
 #include <stdio.h>
@@ -82,20 +82,29 @@ static void tell_books(void *to, const Note *note)
     books_note(to, note);
 }
 
+/* After how many operations the end comes: now and then soon, after a reset often within the open. */
+static unsigned operations(int reset)
+{
+    const uint32_t soon = plug_random(&seed, 4);
+    return 1 + plug_random(&seed, reset && soon < 2 ? 5 : soon == 0 ? 40 : 600);
+}
+
 static void simulated_disk(int wrong, unsigned kills)
 {
     Bench bench = bench_new(wrong);
     Simulated *device = simulated_new(2 << 20);
+    int reset = 0;
     for (unsigned kill = 0; kill < kills; kill++) {
         Without without;
-        FileBlocks blocks = simulated_on(device, seed, 1 + plug_random(&seed, plug_random(&seed, 4) == 0 ? 40 : 600), grains[plug_random(&seed, 3)]);
-        if (wrong == WRONG_NO_JOURNAL || wrong == WRONG_NO_SYNC)
-            blocks = without_on(&without, blocks, wrong);
-        Weaver weaver = weaver_on(&bench, blocks, tell_books, bench.books);
+        const FileBlocks blocks = simulated_on(device, seed, operations(reset), grains[plug_random(&seed, 3)]);
+        Weaver weaver = weaver_on(&bench, without_on(&without, blocks, wrong), tell_books, bench.books);
         weaver_run(&weaver);
-        simulated_cut(device);
+        reset = plug_random(&seed, reset ? 4 : 2) == 0;
+        if (!reset)
+            simulated_cut(device);
         books_cut(bench.books);
         totals.kills++;
+        totals.resets += (unsigned long)reset;
         show("simulated device");
     }
     simulated_free(device);
@@ -114,15 +123,16 @@ static void child(Bench *bench, const char *path, int to, unsigned countdown, si
 {
     Killer killer;
     Without without;
-    if (filedisk_file(&killer.file, path, 1) != 0)
+    FileDisk disk;
+    int answer = filedisk_file(&disk, &killer.file, path, FILEDISK_NEW);
+    if (answer == FILEDISK_THERE)
+        answer = filedisk_file(&disk, &killer.file, path, FILEDISK_OPEN);
+    if (answer != FILEDISK_GOOD)
         _exit(1);
     killer.random = seed;
     killer.countdown = countdown;
     killer.grain = grain;
-    FileBlocks blocks = killer_on(&killer);
-    if (bench->wrong == WRONG_NO_JOURNAL)
-        blocks = without_on(&without, blocks, WRONG_NO_JOURNAL);
-    Weaver weaver = weaver_on(bench, blocks, tell_pipe, (void *)(intptr_t)to);
+    Weaver weaver = weaver_on(bench, without_on(&without, killer_on(&killer), bench->wrong), tell_pipe, (void *)(intptr_t)to);
     weaver_run(&weaver);
     _exit(1);
 }
@@ -199,8 +209,8 @@ static void killed_disk(int wrong, unsigned kills, const char *path)
 /* ── all of it ── */
 static void print_totals(const char *what, double since)
 {
-    printf("%s%s: %lu kills, %lu calls, %lu reads checked, %lu moves, %lu broken promises, %.0f s\n", isatty(1) ? "\r" : "", what, totals.kills,
-           totals.calls, totals.reads, totals.moves, totals.broken, seconds() - since);
+    printf("%s%s: %lu kills (%lu resets), %lu calls, %lu reads checked, %lu moves, %lu broken promises, %.0f s\n", isatty(1) ? "\r" : "", what, totals.kills,
+           totals.resets, totals.calls, totals.reads, totals.moves, totals.broken, seconds() - since);
 }
 
 /* A wrong driver: how many kills until it is caught, or 0. */
@@ -208,55 +218,66 @@ static unsigned long caught(int wrong, int simulated, const char *path)
 {
     memset(&totals, 0, sizeof totals);
     totals.quiet = 1;
-    while (totals.broken == 0 && totals.kills < 2000) {
+    while (totals.broken == 0 && totals.kills < (simulated ? 20000 : 2000)) {
         if (simulated)
-            simulated_disk(wrong, 5);
+            simulated_disk(wrong, wrong == WRONG_HOME_FIRST ? KILLS_A_DISK : 5);
         else
             killed_disk(wrong, 5, path);
     }
     return totals.broken ? totals.kills : 0;
 }
 
+static unsigned passed, failed;
+
+static void count_one(int good)
+{
+    passed += (unsigned)good;
+    failed += (unsigned)!good;
+}
+
+/* The right driver: no promise is broken, and everything that is to be tried was. */
+static void right_driver(int simulated, unsigned long kills, const char *path)
+{
+    const double since = seconds();
+    memset(&totals, 0, sizeof totals);
+    while (totals.kills < kills) {
+        const unsigned some = kills - totals.kills < KILLS_A_DISK ? (unsigned)(kills - totals.kills) : KILLS_A_DISK;
+        if (simulated)
+            simulated_disk(WRONG_NONE, some);
+        else
+            killed_disk(WRONG_NONE, some, path);
+    }
+    print_totals(simulated ? "simulated device" : "killed process", since);
+    const int tried = totals.moves > 0 && (totals.resets > 0 || !simulated);
+    count_one(totals.broken == 0 && totals.reads > 0 && (tried || kills < 25));
+}
+
+static void wrong_driver(int wrong, const char *name, int simulated, const char *path)
+{
+    const unsigned long after = caught(wrong, simulated, path);
+    printf("wrong driver, %s, %s: %s", name, simulated ? "simulated" : "killed", after ? "caught" : "NOT CAUGHT");
+    printf(after ? " within %lu kills\n" : "\n", after);
+    count_one(after > 0);
+}
+
 int main(int count, char **words)
 {
-    static const char *names[WRONG_COUNT] = {"", "no journal", "a page is reported before it is stored", "a map is reported before it is stored", "the store of a slot is left out",
-                                              "nothing is synced", "a move is two stores"};
+    static const char *names[] = {"", "no journal", "a page is reported before it is stored", "a map is reported before it is stored",
+                                  "the store of a slot is left out", "nothing is synced", "a move is two stores", "open brings home what is not safe"};
     const unsigned long kills = count >= 3 ? strtoul(words[1], NULL, 10) : 0;
-    unsigned passed = 0, failed = 0;
     if (kills == 0) {
         puts("plug KILLS DISK-FILE [SEED]");
         return 2;
     }
     seed = count > 3 ? strtoull(words[3], NULL, 10) : 1;
     setvbuf(stdout, NULL, _IOLBF, 0);
-    for (int simulated = 0; simulated < 2; simulated++) {
-        const char *what = simulated ? "simulated device" : "killed process";
-        const double since = seconds();
-        memset(&totals, 0, sizeof totals);
-        while (totals.kills < (kills + 1) / 2) {
-            const unsigned long left = (kills + 1) / 2 - totals.kills;
-            const unsigned some = left < KILLS_A_DISK ? (unsigned)left : KILLS_A_DISK;
-            if (simulated)
-                simulated_disk(WRONG_NONE, some);
-            else
-                killed_disk(WRONG_NONE, some, words[2]);
-        }
-        print_totals(what, since);
-        if (totals.broken == 0 && totals.reads > 0 && (totals.moves > 0 || kills < 50))
-            passed++;
-        else
-            failed++;
+    for (int simulated = 0; simulated < 2; simulated++)
+        right_driver(simulated, (kills + 1) / 2, words[2]);
+    for (int wrong = 1; wrong <= WRONG_HOME_FIRST; wrong++) { /* those behind it are for tests/resets */
+        if (wrong != WRONG_NO_SYNC && wrong != WRONG_HOME_FIRST) /* a killed process loses nothing that it wrote */
+            wrong_driver(wrong, names[wrong], 0, words[2]);
+        wrong_driver(wrong, names[wrong], 1, words[2]);
     }
-    for (int wrong = 1; wrong < WRONG_COUNT; wrong++)
-        for (int simulated = wrong == WRONG_NO_SYNC; simulated < 2; simulated++) { /* a killed process loses nothing that it wrote */
-            const unsigned long after = caught(wrong, simulated, words[2]);
-            printf("wrong driver, %s, %s: %s", names[wrong], simulated ? "simulated" : "killed", after ? "caught" : "NOT CAUGHT");
-            printf(after ? " within %lu kills\n" : "\n", after);
-            if (after)
-                passed++;
-            else
-                failed++;
-        }
     printf("%u passed, %u failed\n", passed, failed);
     return failed != 0;
 }

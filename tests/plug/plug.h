@@ -3,7 +3,7 @@
 #ifndef PLUG_H
 #define PLUG_H
 
-#include "filedisk.h"
+#include "without.h"
 
 enum { PLUG_MOST_WORDS = 256, PLUG_MOST_SLOTS = 4, PLUG_MOST_PAGES = 16, PLUG_MOST_ACCOUNTS = 4 };
 
@@ -39,9 +39,6 @@ typedef struct {
     uint32_t type, a, b, c, calls, count;
     uint32_t words[PLUG_MOST_WORDS];
 } Note;
-
-/* Wrong drivers: each must be caught. */
-enum { WRONG_NONE = 0, WRONG_NO_JOURNAL = 1, WRONG_PAGE_EARLY = 2, WRONG_MAP_EARLY = 3, WRONG_NO_SLOT = 4, WRONG_NO_SYNC = 5, WRONG_TWO_STORES = 6, WRONG_COUNT = 7 };
 
 /* ── random numbers ── */
 uint32_t plug_random(uint64_t *state, uint32_t below);
@@ -79,14 +76,14 @@ uint32_t books_next_version(const Books *books);
 uint32_t books_next_number(const Books *books);
 
 typedef struct {
-    unsigned long kills, calls, reads, moves, broken;
+    unsigned long kills, resets, calls, reads, moves, broken;
     int quiet; /* print no broken promise */
 } Totals;
 extern Totals totals;
 
 /* ── the devices ── */
 
-/* A device in memory: what was not synced is lost, torn at `grain` bytes and reordered at the cut. */
+/* A device in memory: what was not synced is lost, torn at `grain` bytes and reordered at a cut. At a reset it stays in the cache. */
 typedef struct Simulated Simulated;
 Simulated *simulated_new(size_t bytes);
 void simulated_free(Simulated *device);
@@ -101,11 +98,5 @@ typedef struct {
     size_t grain;
 } Killer;
 FileBlocks killer_on(Killer *killer);
-
-/* A device that passes over what is written to the journal, or over every sync: as under a driver that leaves these out. */
-typedef struct {
-    FileBlocks inner;
-} Without;
-FileBlocks without_on(Without *device, FileBlocks inner, int wrong);
 
 #endif

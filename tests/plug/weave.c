@@ -218,10 +218,17 @@ static void truncate_at(Run *run, uint32_t slot, uint32_t from)
     remember(run);
 }
 
+/* An event that stores is carried out, or the disk is dead, and its answer says so. */
+static void must_be_done(Run *run, KeeperAnswer answer, uint32_t a, uint32_t b)
+{
+    if (answer.refusal != (run->disk.dead ? FILEDISK_DIED : KEEPER_DONE))
+        tell(run, NOTE_REFUSED, a, b, answer.refusal);
+}
+
 static void set_limit(Run *run, uint32_t account, uint32_t pages)
 {
     tell(run, NOTE_LIMIT, account, pages, 0);
-    filedisk_limit(&run->disk, run->own->keeper, account, pages);
+    must_be_done(run, filedisk_limit(&run->disk, run->own->keeper, account, pages), account, pages);
     if (!run->disk.dead)
         tell(run, NOTE_LIMIT_END, account, 0, 0);
 }
@@ -232,8 +239,8 @@ static KeeperAnswer move_in_two(Run *run, uint32_t giver, uint32_t taker, uint32
     Keeper *keeper = run->own->keeper;
     const FilePiece less = {KEEPER_TABLE_LIMITS, giver, 1, keeper->limits + giver}, more = {KEEPER_TABLE_LIMITS, taker, 1, keeper->limits + taker};
     KeeperAnswer answer = keeper_move(keeper, giver, taker, pages);
-    if (answer.refusal == KEEPER_DONE && filedisk_store(&run->disk, &less, 1) == 0)
-        filedisk_store(&run->disk, &more, 1);
+    if (answer.refusal == KEEPER_DONE && (filedisk_store(&run->disk, &less, 1) != 0 || filedisk_store(&run->disk, &more, 1) != 0))
+        answer.refusal = FILEDISK_DIED;
     return answer;
 }
 
@@ -247,8 +254,8 @@ static void move(Run *run)
     tell(run, NOTE_MOVE, giver, taker, pages);
     KeeperAnswer answer = run->own->wrong == WRONG_TWO_STORES ? move_in_two(run, giver, taker, pages)
                                                               : filedisk_move(&run->disk, keeper, giver, taker, pages);
-    if (answer.refusal != KEEPER_DONE && answer.refusal != KEEPER_NO_MOVE && answer.refusal != KEEPER_OVER_LIMIT)
-        tell(run, NOTE_REFUSED, giver, taker, answer.refusal);
+    if (answer.refusal != KEEPER_NO_MOVE && answer.refusal != KEEPER_OVER_LIMIT)
+        must_be_done(run, answer, giver, taker);
     if (!run->disk.dead)
         tell(run, NOTE_MOVE_END, answer.refusal == KEEPER_DONE, 0, 0);
 }
@@ -270,8 +277,7 @@ static void create(Run *run, uint32_t slot)
     tell(run, NOTE_SLOT, slot, number, account);
     KeeperAnswer answer = run->own->wrong == WRONG_NO_SLOT ? keeper_create(keeper, slot, account, number)
                                                            : filedisk_create(&run->disk, keeper, slot, account, number);
-    if (answer.refusal != KEEPER_DONE)
-        tell(run, NOTE_REFUSED, slot, number, answer.refusal);
+    must_be_done(run, answer, slot, number);
     if (!run->disk.dead)
         tell(run, NOTE_SLOT_END, slot, 0, 0);
 }
@@ -286,7 +292,7 @@ static void delete(Run *run, uint32_t slot)
         if (keeper->maps[slot * keeper->sizes.pages + page] != 0)
             return;
     tell(run, NOTE_SLOT, slot, 0, 0);
-    filedisk_delete(&run->disk, keeper, slot);
+    must_be_done(run, filedisk_delete(&run->disk, keeper, slot), slot, 0);
     if (!run->disk.dead)
         tell(run, NOTE_SLOT_END, slot, 0, 0);
 }
@@ -349,7 +355,7 @@ static int opens(Run *run)
 {
     Weaver *own = run->own;
     int answer = filedisk_open(&run->disk, own->blocks, own->keeper);
-    if (answer == FILEDISK_NO_DISK && !own->formatted) {
+    if ((answer == FILEDISK_NO_DISK || answer == FILEDISK_DAMAGED) && !own->formatted) { /* a cut in a format can leave half a header */
         uint16_t parents[KEEPER_MOST_ACCOUNTS];
         for (size_t account = 0; account < KEEPER_MOST_ACCOUNTS; account++)
             parents[account] = plug_parent(account);

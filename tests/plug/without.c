@@ -1,0 +1,56 @@
+/* Not proved: a device that passes over some of what is written or synced, as under a driver that leaves it out. */
+#include "without.h"
+
+static int in_journal(uint64_t at)
+{
+    return at >= FILEDISK_BLOCK && at < FILEDISK_BLOCK + FILEDISK_JOURNAL;
+}
+
+/* The header and the journal are read by an open alone, whose next writes to them are those that make them safe, or empty the journal. */
+static int read_of(void *self, uint64_t at, void *to, size_t bytes)
+{
+    Without *device = self;
+    device->heading = at == 0 || device->heading;
+    device->opening = in_journal(at);
+    return device->inner.read(device->inner.self, at, to, bytes);
+}
+
+static int write_of(void *self, uint64_t at, const void *from, size_t bytes)
+{
+    static const unsigned char nothing[8];
+    Without *device = self;
+    const int opening = device->opening && in_journal(at), empties = bytes >= sizeof nothing && memcmp(from, nothing, sizeof nothing) == 0;
+    const int heading = device->heading && at == 0 && !empties;
+    if (in_journal(at))
+        device->opening = 0;
+    if (at == 0)
+        device->heading = 0;
+    if (heading && device->wrong == WRONG_HEADER_STAYS)
+        return 0;
+    if (device->wrong == WRONG_NO_JOURNAL && in_journal(at))
+        return 0;
+    if (opening && device->wrong == (empties ? WRONG_TORN_STAYS : WRONG_HOME_FIRST)) {
+        device->skip = 1;
+        return 0;
+    }
+    if (opening && device->wrong == WRONG_SYNC_ALONE && !empties)
+        return 0;
+    return device->inner.write(device->inner.self, at, from, bytes);
+}
+
+static int sync_of(void *self)
+{
+    Without *device = self;
+    const int skip = device->skip || device->wrong == WRONG_NO_SYNC;
+    device->skip = 0;
+    return skip ? 0 : device->inner.sync(device->inner.self);
+}
+
+FileBlocks without_on(Without *device, FileBlocks inner, int wrong)
+{
+    const FileBlocks blocks = {device, read_of, write_of, sync_of};
+    memset(device, 0, sizeof *device);
+    device->inner = inner;
+    device->wrong = wrong;
+    return blocks;
+}
