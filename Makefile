@@ -59,7 +59,7 @@ plug: $(LIBRARY)
 # a target that was not tried is refused before anything is proved for it
 cross:
 	@python3 tools/cross.py --tried "$(TARGET)" $(CROSS_CC)
-	@$(MAKE) --no-print-directory $(MODULE)
+	@$(MAKE) -s --no-print-directory $(MODULE)
 	@python3 tools/cross.py "$(TARGET)" $(CROSS_CC)
 
 cross-test: $(MODULE)

@@ -166,7 +166,7 @@ def archive(name, given):
     inner = module.inner_names(text, prototypes(header), structs(header))
     keeper = compiled(target, module.for_target(text, inner, target.triple, layout(target), target.probes), folder)
     (folder / "shim.c").write_text(shim(header))
-    strict = ["-std=c11", "-O2", "-ffreestanding", "-ffunction-sections", "-Wall", "-Wextra", "-Werror", *([] if target.bare else ["-fPIC"])]
+    strict = ["-std=c11", "-O2", "-ffreestanding", "-ffunction-sections", "-Wall", "-Wextra", "-Werror", "-Wa,--noexecstack", *([] if target.bare else ["-fPIC"])]
     run(*compiler, *target.words, *strict, "-I", HEADER.parent, "-c", folder / "shim.c", "-o", folder / "shim.o")
     needed, code, constants = checked([keeper, folder / "shim.o"])
     run(tool("llvm-ar"), "--format=gnu", "rcsD", out, keeper, folder / "shim.o")

@@ -181,7 +181,7 @@ typedef struct {
     _Alignas(8) const void *at;
     _Alignas(8) uint64_t count;
 } Slice;
-_Static_assert(sizeof(Slice) == 16 && offsetof(Slice, at) == 0 && offsetof(Slice, count) == 8, "the layout of Slice");
+_Static_assert(sizeof(Slice) == 16 && offsetof(Slice, at) == 0 && offsetof(Slice, count) == 8 && sizeof((Slice){0}.count) == 8, "the layout of Slice");
 /* All tables together, at the largest sizes: so no place in a table is 2^31 bytes or more from its start. */
 struct Largest {
     KEEPER_DISK_TABLES(KEEPER_MOST_WORDS, KEEPER_MOST_RECORDS, KEEPER_MOST_FRAMES, KEEPER_MOST_SLOTS, KEEPER_MOST_PAGES, KEEPER_MOST_ACCOUNTS)

@@ -4,7 +4,7 @@
 #include <stdlib.h>
 #include "lists.h"
 
-enum { KINDS = 32, REFUSALS = 32, LIST = 20, RARE = 64 };
+enum { KINDS = 32, REFUSALS = 32, LIST = 20, OFTEN = 400 };
 
 static Keeper keeper;
 static uint64_t digest = 0xCBF29CE484222325u;
@@ -144,17 +144,19 @@ static void mend(void)
 
 static void step(void)
 {
-    switch (below(RARE)) {
-    case 0: cut(); break;
-    case 1:
-    case 2: damaged(); break;
-    case 3:
-    case 4: look(); break;
-    case 5:
-    case 6: list(); break;
-    case 7: mend(); break;
-    default: one(); break;
-    }
+    const uint32_t what = below(OFTEN);
+    if (what == 0)
+        cut();
+    else if (what == 1)
+        mend();
+    else if (what < 16)
+        damaged();
+    else if (what < 32)
+        look();
+    else if (what < 48)
+        list();
+    else
+        one();
 }
 
 /* So many calls at these sizes; all tables go into the digest after every call, or after every hundredth where they are large. */

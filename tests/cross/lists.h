@@ -26,7 +26,7 @@ static uint32_t some_kind(void)
 {
     static uint32_t made;
     static const uint8_t often[] = {
-        KEEPER_CREATE, KEEPER_ACTIVATE, KEEPER_FAULT, KEEPER_FAULT, KEEPER_WRITE, KEEPER_WRITE, KEEPER_WRITE, KEEPER_READ,
+        KEEPER_CREATE, KEEPER_ACTIVATE, KEEPER_ACTIVATE, KEEPER_FAULT, KEEPER_FAULT, KEEPER_WRITE, KEEPER_WRITE, KEEPER_WRITE, KEEPER_READ,
         KEEPER_CLAIM, KEEPER_PAGE_DONE, KEEPER_PAGE_DONE, KEEPER_UPDATE, KEEPER_MAP_DONE, KEEPER_WIRE, KEEPER_UNWIRE, KEEPER_JOIN, KEEPER_TURN,
         KEEPER_TURN};
     const uint32_t kind = below(2) != 0 ? often[below(sizeof often)] : 1 + below(24);
@@ -60,7 +60,7 @@ static uint32_t second_of(const Keeper *keeper, uint32_t kind, uint32_t first)
 static uint32_t third_of(const Keeper *keeper, uint32_t kind)
 {
     switch (kind) {
-    case KEEPER_CREATE: return below(100);
+    case KEEPER_CREATE: return below(30);
     case KEEPER_MOVE: return below(6);
     default: return near(keeper->sizes.words);
     }
@@ -77,12 +77,12 @@ static KeeperRequest some_request(const Keeper *keeper)
     return request;
 }
 
-/* A keeper in a block that is large enough for any sizes, formatted as a chain of accounts and restarted. */
+/* A keeper in a block that is large enough for any sizes, formatted with each account under the one below it, and restarted. */
 static KeeperAnswer new_disk(Keeper *keeper, KeeperSizes sizes, void *block, size_t bytes)
 {
     uint16_t chain[KEEPER_MOST_ACCOUNTS];
     for (uint16_t account = 0; account < KEEPER_MOST_ACCOUNTS; account++)
-        chain[account] = (uint16_t)(account < 2 ? 0 : account - 1 - account % 2);
+        chain[account] = (uint16_t)(account == 0 ? 0 : account - 1);
     memset(block, 0xA5, bytes);
     if (keeper_place(keeper, sizes, block, bytes) != KEEPER_PLACED || keeper_easy_format(keeper, chain).refusal != KEEPER_DONE)
         return (KeeperAnswer){KEEPER_NO_FIT, 0};

@@ -22,7 +22,7 @@ sys.path.insert(0, str(ROOT / "tools"))
 
 import cross  # noqa: E402
 
-CALLS, SHORT = 960_000, 60_000
+CALLS, SHORT = 960_000, 240_000
 EXAMPLES = ("firmware", "scheduler", "studios")
 SOURCES = {
     **{name: [f"examples/{name}.c"] for name in EXAMPLES},
@@ -59,7 +59,7 @@ BOARDS = {
     "riscv64-linux-gnu": RISCV64,
     "riscv64-none-elf": RISCV64,
     "arm-linux-gnueabihf": ARM,
-    "arm-none-eabi": ARM,
+    "arm-none-eabi": ARM._replace(packages="gcc-arm-none-eabi " + ARM.packages),
     "s390x-linux-gnu": Board(["s390x-linux-gnu-gcc", "-static"], ["qemu-s390x"], "gcc-s390x-linux-gnu libc6-dev-s390x-cross qemu-user"),
 }
 counts = {True: 0, False: 0}
@@ -93,10 +93,10 @@ def built(board, name):
     return folder / name
 
 
-def ran(board, name, *words, given=b""):
+def ran(board, name, *words):
     """The status and the output of a program on a board."""
     command = [*BOARDS[board].runner, str(built(board, name)), *map(str, words)]
-    done = subprocess.run(command, cwd=ROOT, input=given, stdout=subprocess.PIPE, stderr=subprocess.STDOUT, timeout=MOST_SECONDS)
+    done = subprocess.run(command, cwd=ROOT, stdin=subprocess.DEVNULL, stdout=subprocess.PIPE, stderr=subprocess.STDOUT, timeout=MOST_SECONDS)
     return done.returncode, done.stdout.decode(errors="replace")
 
 
@@ -139,6 +139,14 @@ def stack(board):
     over = [call for call in found if found[call] > limits.get(call, 0)]
     print(f"{board}: stack {', '.join(f'{call} {bytes_:,}' for call, bytes_ in found.items())}")
     return counted(f"{board}: stack", status == 0 and not over and (not limits or set(limits) == set(found)), f"more than docs/USING.md says: {' '.join(over)}\n{said}")
+
+
+def control():
+    """For x86-64 the kept module, unedited, gives the object of the kit's own archive."""
+    try:
+        counted(f"x86-64: the kit's own object, byte for byte, {cross.same(cross.module_text()):,} bytes", True)
+    except cross.Refused as said:
+        counted("x86-64: the kit's own object", False, str(said))
 
 
 def tried(board, is_short):
@@ -184,7 +192,8 @@ def in_turn(boards):
 def missing(board):
     """What is not installed for a board."""
     needs = [BOARDS[board].compiler[0], *BOARDS[board].runner[:1]]
-    return [need for need in needs if not shutil.which(need)]
+    for_calls = cross.TARGETS[board].compilers
+    return [need for need in needs if not shutil.which(need)] + ([] if any(map(shutil.which, for_calls)) else for_calls[:1])
 
 
 def main(words):
@@ -195,11 +204,12 @@ def main(words):
         print(f"no board of that name: {' '.join(unknown)}\n{__doc__.strip()}")
         return 2
     here = [board for board in wanted if not missing(board)]
+    control()
     for board in wanted:
         if board in here:
             tried(board, is_short)
         else:
-            print(f"{board}: skipped, without {' and '.join(missing(board))} (Debian: {BOARDS[board].packages})")
+            print(f"{board}: skipped, without {' and '.join(dict.fromkeys(missing(board)))} (Debian: {BOARDS[board].packages})")
     if not is_short:
         stack(KIT)
     in_turn(here)

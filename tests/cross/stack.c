@@ -77,16 +77,29 @@ static size_t taken(void (*wanted)(void))
     return ((size_t)(top - (uintptr_t)stack) - lowest + 15) / 16 * 16;
 }
 
+/* Requests, of which none gives a limit to an account above 0: so who pays is looked for all the way up. */
 static void some_requests(void)
 {
-    for (size_t at = 0; at < LIST; at++)
+    for (size_t at = 0; at < LIST; at++) {
         requests[at] = some_request(&keeper);
+        if (requests[at].kind == KEEPER_LIMIT)
+            requests[at].second *= requests[at].first == 0;
+    }
+}
+
+/* A design of the account that is farthest from account 0. */
+static void farthest(void)
+{
+    keeper_limit(&keeper, 0, 0xFFFF);
+    keeper_create(&keeper, 0, (uint32_t)keeper.sizes.accounts - 1, 77);
+    keeper_activate(&keeper, 0);
 }
 
 /* The most of each call over so many rounds of these sizes. */
 static void run(KeeperSizes sizes, unsigned rounds, size_t most[CALLS], void *block, size_t bytes)
 {
     new_disk(&keeper, sizes, block, bytes);
+    farthest();
     for (unsigned round = 0; round < rounds; round++) {
         static const uint8_t order[] = {APPLY, APPLY, APPLY, APPLY, APPLY_ALL, PAGE_LOOK};
         const unsigned which = below(100) != 0 ? order[below(sizeof order)] : RESTART + below(3);
@@ -96,6 +109,8 @@ static void run(KeeperSizes sizes, unsigned rounds, size_t most[CALLS], void *bl
         done[requests[0].kind % KINDS] += which == APPLY && answers[0].refusal == KEEPER_DONE;
         if (which > RESTART)
             keeper_easy_restart(&keeper);
+        if (which >= RESTART)
+            farthest();
     }
 }
 
@@ -110,7 +125,7 @@ static unsigned missing(void)
 
 int main(void)
 {
-    const KeeperSizes small = {4, 33, 5, 4, 9, 5},
+    const KeeperSizes small = {4, 33, 5, 4, 9, KEEPER_MOST_ACCOUNTS},
                       largest = {KEEPER_MOST_WORDS, KEEPER_MOST_RECORDS, KEEPER_MOST_FRAMES, KEEPER_MOST_SLOTS, KEEPER_MOST_PAGES, KEEPER_MOST_ACCOUNTS};
     const size_t bytes = keeper_workspace(largest);
     size_t most[CALLS] = {0};
