@@ -24,11 +24,12 @@ import cross  # noqa: E402
 
 CALLS, SHORT = 960_000, 240_000
 EXAMPLES = ("firmware", "scheduler", "studios")
+FILEDISK = sorted(f"examples/{path.name}" for path in (ROOT / "examples").glob("filedisk*.c"))
 SOURCES = {
     **{name: [f"examples/{name}.c"] for name in EXAMPLES},
     "easy": ["tests/easy.c"],
-    "filedisk": ["tests/filedisk.c", "examples/filedisk.c"],
-    "weaver": ["examples/weaver.c", "examples/filedisk.c"],
+    "filedisk": ["tests/filedisk.c", *FILEDISK],
+    "weaver": ["examples/weaver.c", *FILEDISK],
     "vectors": ["tests/cross/vectors.c"],
     "digest": ["tests/cross/digest.c"],
     "stack": ["tests/cross/stack.c"],
