@@ -96,6 +96,25 @@ int main(void)
                 self.refused(reason, shim.shim, STRUCTS + prototype)
 
 
+class Widths(test_module.Case):
+    """The header and the C file for it, as a C compiler for pointers of other widths sees them."""
+
+    def said(self, text, width):
+        words = ["gcc", "-std=c11", "-ffreestanding", "-fsyntax-only", "-Wall", "-Werror", width, "-I", cross.HEADER.parent, "-x", "c", "-"]
+        return subprocess.run(words, input=text, capture_output=True, text=True).stderr
+
+    def test_header(self):
+        """The assertions hold where size_t has 8 bytes and where it has 4, but not for short pointers on x86-64, which the library is not for."""
+        self.assertEqual([self.said('#include "keeper.h"', width) for width in ("-m64", "-m32")], ["", ""])
+        self.assertIn("pointers of 64 bits", self.said('#include "keeper.h"', "-mx32"))
+
+    def test_shim(self):
+        """A processor that lays structs out in another way, as the old x86 does with numbers of 64 bits, is refused."""
+        text = shim.shim(cross.HEADER.read_text())
+        self.assertEqual(self.said(text, "-m64"), "")
+        self.assertIn("the layout of ProvedKeeperPart", self.said(text, "-m32"))
+
+
 class Objects(test_module.Case):
     def made(self, text, *words):
         out = self.folder() / "object.o"
