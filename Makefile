@@ -4,7 +4,8 @@
 # make docs: what the documents take from the code, and whatever repeats the lent tables. make bench: the keeper's speed beside the C port's and the reference's (docs/BENCHMARKS.md).
 # make plug: kills a weaver on a file disk, KILLS times, and checks every promise. make break: a wrong definition, WRONG, refused before your eyes.
 # make timeline: a list of events, LIST, as one HTML file to look at. make misses: the misses of a list of page uses, TRACE, for 1 to 64 frames. (docs/TESTS.md; what these are made of is tested, not proved.)
-.PHONY: test replay starts mend convert named-pack named-files mutants docs bench plug break misses timeline
+# make cross: the library for another processor, TARGET. make cross-test: each of them beside x86-64's own, by emulation (docs/USING.md, "Another processor").
+.PHONY: test replay starts mend convert named-pack named-files mutants docs bench plug break misses timeline cross cross-test
 LIST = examples/two-mills.txt
 LIBRARY = target/staticlib/libkeeper.a
 KILLS = 2000
@@ -12,6 +13,8 @@ TRACE = examples/traces/weaving.txt
 FILEDISK = $(wildcard examples/filedisk*.c)
 # by the environment, so that a name may have blanks in it
 export PACK OLD NEW
+MODULE = target/cross/module.bc
+SOURCES = crates.txt $(shell find crates -name '*.rt' -o -name '*.antt')
 
 test:
 	bash .ci/run
@@ -68,5 +71,18 @@ misses: $(LIBRARY)
 plug: $(LIBRARY)
 	KILLS=$(KILLS) tests/plug.sh
 
-$(LIBRARY): crates.txt $(shell find crates -name '*.rt' -o -name '*.antt')
+# a target that was not tried is refused before anything is proved for it
+cross:
+	@python3 tools/cross.py --tried "$(TARGET)" $(CROSS_CC)
+	@$(MAKE) -s --no-print-directory $(MODULE)
+	@python3 tools/cross.py "$(TARGET)" $(CROSS_CC)
+
+cross-test: $(MODULE)
+	@python3 tests/cross/run.py $(TARGET)
+
+$(LIBRARY): $(SOURCES)
 	@python3 tools/prove.py --lib keeper
+
+# the library is built anew, and the module that it is compiled from is kept
+$(MODULE): $(SOURCES)
+	@tools/keep_module.sh python3 tools/prove.py --lib keeper

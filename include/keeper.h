@@ -1,4 +1,4 @@
-/* The page keeper's calls, for C on x86-64: link libkeeper.a. docs/USING.md says what the tables mean and in which order to call.
+/* The page keeper's calls, for C: link libkeeper.a, of x86-64 or of make cross. docs/USING.md says what the tables mean and in which order to call.
  *
  * All tables are lent by the caller, as a pointer and a count of elements each; the keeper keeps no memory of its own, never
  * allocates, never blocks, and every call ends. A table of a wrong length is answered 1. After a refusal everything lent is as it
@@ -72,7 +72,7 @@ enum {
     KEEPER_SHARED_RECORD = 5  /* the record stands in another entry too, so it is in none */
 };
 
-/* The layouts that the calls are proved for. */
+/* The layouts that the calls take. They are proved for a size_t of 8 bytes; where it has 4, the archive of make cross widens it. */
 #if defined __cplusplus
 #define KEEPER_ASSERT static_assert
 #elif __STDC_VERSION__ >= 201112L
@@ -80,14 +80,17 @@ enum {
 #else /* C99: an array of no length is an error */
 #define KEEPER_ASSERT(holds, text) extern const char keeper_holds[(holds) ? 1 : -1]
 #endif
-KEEPER_ASSERT(sizeof(size_t) == 8, "a 64-bit platform");
-KEEPER_ASSERT(sizeof(KeeperSizes) == 48, "six sizes of 8 bytes");
+#if defined __x86_64__
+KEEPER_ASSERT(sizeof(size_t) == 8, "on x86-64 the library is for pointers of 64 bits");
+#endif
+KEEPER_ASSERT(sizeof(size_t) == 8 || sizeof(size_t) == 4, "a platform of 64 or 32 bits");
+KEEPER_ASSERT(sizeof(KeeperSizes) == 6 * sizeof(size_t), "six sizes");
 KEEPER_ASSERT(sizeof(KeeperFrame) == 8 && offsetof(KeeperFrame, transfer) == 6, "page at 0, used at 2, .., transfer at 6");
 KEEPER_ASSERT(sizeof(KeeperPool) == 8, "hand at 0, free at 4");
 KEEPER_ASSERT(sizeof(KeeperRequest) == 20, "five numbers of 4 bytes");
 KEEPER_ASSERT(sizeof(KeeperAnswer) == 8, "refusal at 0, result at 4");
 KEEPER_ASSERT(sizeof(KeeperChange) == 16, "four numbers of 4 bytes");
-KEEPER_ASSERT(sizeof(KeeperPart) == 24 && offsetof(KeeperPart, start) == 8, "refusal at 0, start at 8, count at 16");
+KEEPER_ASSERT(sizeof(KeeperPart) == 3 * sizeof(size_t) && offsetof(KeeperPart, start) == sizeof(size_t), "refusal, start, count, each at a multiple of size_t");
 
 /* Arrays of requests and answers as arguments of keeper_apply_all: so many structs are the numbers that it takes. */
 #define KEEPER_REQUESTS(list, count) (const uint32_t *)(list), 5 * (size_t)(count)
