@@ -10,5 +10,6 @@ pub mod PayerEdges
 pub mod RuleList
 pub mod Refusals
 pub mod Runs
+pub mod StoreEdges
 pub mod Worlds
 pub mod Packs
