@@ -20,10 +20,12 @@ use Rattle.model.specs.Laws.Fit.{Fit, disk-fit, memory-fit}
 use Rattle.model.specs.Restart.{formatted, restarted}
 use Rattle.model.specs.Ledger as L
 use Rattle.model.specs.Ledger.{Ledger, unwritten, note, lose, finishWrite, finishUpdate, finishWrites, finishUpdates}
-use Rattle.model.specs.Acts.{Act, event, looking, restarting, cutting, World, fed, landed, noted, act, allowed, legal, run, start}
+use Rattle.model.specs.Acts.{Act, event, looking, restarting, cutting, cuttingIn, World, fed, landed, noted, part, act, allowed, legal, run, start}
 use Rattle.model.specs.Demand3.{Demand3}
 use Rattle.model.specs.FromPack.{FromPack, ListedLive}
+use Rattle.model.specs.Stores.{Call}
 use Rattle.invariant.proofs.Kept.{carried-kept, restarted-good}
+use Rattle.invariant.proofs.Stores.{Inside, inside, part-same}
 use Rattle.invariant.proofs.RestartedRecords.{zero-at}
 use Rattle.crash.proofs.Writes.{no-write, no-update}
 use Rattle.crash.proofs.Link.{OnDisk, Tied}
@@ -110,12 +112,17 @@ module _ (z : Sizes) where
           ap (finishUpdates (z .slots) updates) (none-written (z .frames) writes (w .ledger) (c .writing)) ∙ none-updated (z .slots) updates (w .ledger) (c .updating) in
           subst (λ (l : Ledger). Good z (after (w .state .disk) l)) (sym same) (lost z (w .state) (w .ledger) junk lengths (k .fit) (k .rules) (k .disk))
 
+  -- in the midst of a call
+  part-keeps : (w : World) (c : Call) (n : ℕ) (junk : Memory) → Inside z w c n junk → Good z w → Good z (part z w c n)
+  part-keeps w c n junk i k = subst (Good z) (sym (part-same z w c n junk i)) k
+
   act-keeps : (w : World) (a : Act) → T (allowed z w a) → Good z w → Good z (act z w a)
   unfolding allowed act
   act-keeps w (event e) t k = event-keeps w e t k
   act-keeps w (looking s p) t k = k
   act-keeps w restarting t k = restart-keeps w k
   act-keeps w (cutting writes updates junk) t k = cut-keeps w writes updates junk (sound (memoryLengths z junk) t) k
+  act-keeps w (cuttingIn c n writes updates junk) t k = let i = inside z w c n writes updates junk t in cut-keeps (part z w c n) writes updates junk (i .lengths) (part-keeps w c n junk i k)
 
   run-keeps : (acts : List Act) (w : World) → T (legal z w acts) → Good z w → Good z (run z w acts)
   unfolding run legal

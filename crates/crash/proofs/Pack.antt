@@ -10,7 +10,7 @@ use Rattle.model.specs.State.{Disk, State}
 use Rattle.model.specs.Step.{Outcome, step, restart}
 use Rattle.model.specs.Ledger.{Ledger, Fed, nothing, restarted, created, deleted, activated, deactivated, faulted, wrote, claimed, truncated, began, pageEnd, mapEnd, cut}
 use Rattle.model.specs.Ledger.{note, lose, voided, finishWrite, finishUpdate, strikeWrite, strikeUpdate, finishWrites, finishUpdates}
-use Rattle.model.specs.Acts.{Act, event, looking, restarting, cutting, World, fed, noted, act, run}
+use Rattle.model.specs.Acts.{Act, event, looking, restarting, cutting, cuttingIn, World, fed, noted, part, act, run}
 
 -- either of two ledgers
 either : (b : Bool) (x y : Ledger) (p : Disk) → x .pack ≡ p → y .pack ≡ p → (if b x y) .pack ≡ p
@@ -59,11 +59,12 @@ module _ (z : Sizes) where
   noted-pack o f l = either (eqb (o .answer .refusal) 0) _ l (l .pack) (note-pack l f) refl
 
   act-pack : (w : World) (a : Act) → act z w a .ledger .pack ≡ w .ledger .pack
-  unfolding act
+  unfolding act part
   act-pack w (event e) = noted-pack (step z (w .state) e) (fed z (w .state) e) (w .ledger)
   act-pack w (looking s p) = refl
   act-pack w restarting = noted-pack (restart z (w .state)) (restarted (w .state .disk)) (w .ledger)
   act-pack w (cutting writes updates junk) = note-pack (w .ledger) (cut writes updates)
+  act-pack w (cuttingIn c k writes updates junk) = note-pack (w .ledger) (cut writes updates)
 
   pub same-pack : (acts : List Act) (w : World) → run z w acts .ledger .pack ≡ w .ledger .pack
   unfolding run

@@ -10,7 +10,7 @@ use Rattle.model.specs.State.{State, files}
 use Rattle.model.specs.Laws.Ruled.{Ruled, ruled}
 use Rattle.model.specs.Laws.Ruled as R
 use Rattle.model.specs.Questions.{questions}
-use Rattle.model.specs.Step.{answer, asked, carried, in-order}
+use Rattle.model.specs.Step.{answer, asked, carried, all-above}
 use Rattle.model.specs.Laws.Fit.{Fit, fit}
 use Rattle.model.specs.Ledger.{Ledger, note}
 use Rattle.model.specs.Acts.{World, fed}
@@ -34,7 +34,7 @@ tied-at {z} p q k = subst₂ (λ (a : State) (b : Ledger). Tied z a b) (sym p) (
 -- an event that is carried out has its questions' rules
 pub before : (z : Sizes) (st : State) (l : Ledger) (e : Event) → answer z st e ≡ 0 → Tied z st l → Before z st l e
 unfolding answer
-before z st l e a t = let q = all-yes 0 (asked z st (questions z st e)) (in-order z st e) a in record { fit = fit z st (q .0); ruled = ruled z st (q .1 .0); asked = q .1 .1; tied = t }
+before z st l e a t = let q = all-yes 0 (asked z st (questions z st e)) (all-above z st e) a in record { fit = fit z st (q .0); ruled = ruled z st (q .1 .0); asked = q .1 .1; tied = t }
 
 -- ── lists of acts ──
 pub record Good (z : Sizes) (w : World) : Type 0 where

@@ -7,7 +7,7 @@ use Rattle.model.specs.declared.event.Answer.{Answer}
 use Rattle.model.specs.declared.event.Event.{Event}
 use Rattle.model.specs.State.{State}
 use Rattle.model.specs.Questions.{questions}
-use Rattle.model.specs.Step.{carried, result, in-order}
+use Rattle.model.specs.Step.{carried, result, own-above}
 use Rattle.model.specs.Laws.Own.{own, refusal, leaves}
 use Rattle.model.specs.Laws.OwnLaws.{done, own-no, own-yes}
 
@@ -19,7 +19,7 @@ pub own-by : (z : Sizes) (st t : State) (e : Event) {a : Answer} {left : State} 
 own-by z st t e same result-same answered goes stays = elim (ℕ-discrete (firstNo (questions z st e)) 0) [
   | yes h ↦
       let o : own z t e ≡ done z t e = sym (own-yes z t e (firstNo (questions z st e)) (sym same) h) in
-      let s = goes o (all-yes 2 (questions z st e) (in-order z st e) h) in
+      let s = goes o (all-yes 2 (questions z st e) (own-above z st e) h) in
       (λ x. leaves ((answered ∙ (λ y. o y .answer) ∙ (λ y. record { refusal = 0; result = result-same y })) x) (s x)) ∙ own-yes z st e (firstNo (questions z st e)) refl h
   | no h ↦
       let o : own z t e ≡ refusal (firstNo (questions z st e)) t = sym (own-no z t e (firstNo (questions z st e)) (sym same) h) in

@@ -10,6 +10,7 @@ pub mod PayerEdges
 pub mod RuleList
 pub mod Refusals
 pub mod Runs
+pub mod StoreEdges
 pub mod Worlds
 pub mod Packs
 pub mod MoreWorlds

@@ -30,6 +30,7 @@ use Rattle.model.specs.Writeback
 use Rattle.model.specs.Line
 use Rattle.model.specs.Restart
 use Rattle.model.specs.Step
+use Rattle.model.specs.Stores
 use Rattle.model.specs.Ledger
 use Rattle.model.specs.Acts
 use Rattle.model.specs.Acts.{Act, World}
@@ -133,6 +134,14 @@ among (y ∷ ys) x = eqb x y || among ys x
 abbrev pub cut : List ℕ → List ℕ → Act
 cut fs ss = Acts.cutting (among fs) (among ss) (junk small)
 
+-- the same inside an event, after so many of its stores
+abbrev pub cutIn : Act → ℕ → List ℕ → List ℕ → Act
+cutIn (Acts.event e) k fs ss = Acts.cuttingIn (Stores.event e) k (among fs) (among ss) (junk small)
+cutIn (Acts.looking s p) k fs ss = cut fs ss
+cutIn Acts.restarting k fs ss = cut fs ss
+cutIn (Acts.cutting writes updates m) k fs ss = cut fs ss
+cutIn (Acts.cuttingIn c n writes updates m) k fs ss = cut fs ss
+
 -- ── what a list answers and leaves ──
 -- the answer and the result of one act (a cut has none)
 unfoldable pub said : Sizes → World → Act → List ℕ
@@ -145,11 +154,12 @@ unfolding all any count find those tab bits members packed times without tail he
     Writeback.storeFrame Writeback.writeGood Writeback.writeFailed Writeback.pageDone Writeback.storeImage Writeback.updateOver Writeback.mapDone Restart.formatted Restart.isListed
     Restart.listedAt Restart.restarted Step.allFit Step.answer Step.carried Step.result Step.step Step.format Step.restart Step.look Ledger.noWrite Ledger.noUpdate Ledger.put
     Ledger.over Ledger.finishWrite Ledger.finishUpdate Ledger.strikeWrite Ledger.strikeUpdate Ledger.finishWrites Ledger.finishUpdates Ledger.lose Ledger.found Ledger.recount
-    Ledger.note Ledger.packDesign Ledger.unwritten Acts.fed Acts.landWrites Acts.landUpdates Acts.landed Acts.noted Acts.act Acts.allowed Acts.legal Acts.run Acts.start junk among
+    Ledger.note Ledger.packDesign Ledger.unwritten Stores.first Stores.stores Stores.answered Stores.made Acts.fed Acts.landWrites Acts.landUpdates Acts.landed Acts.noted Acts.part Acts.act Acts.allowed Acts.legal Acts.run Acts.start junk among
 said z w (Acts.event e) = let a = Step.step z (w .state) e .answer in a .refusal ∷ a .result ∷ []
 said z w (Acts.looking s p) = let a = Step.look z (w .state) s p .answer in a .refusal ∷ a .result ∷ []
 said z w Acts.restarting = let a = Step.restart z (w .state) .answer in a .refusal ∷ a .result ∷ []
 said z w (Acts.cutting writes updates m) = []
+said z w (Acts.cuttingIn c k writes updates m) = []
 
 -- the answers and results of a list
 unfoldable pub trace : Sizes → World → List Act → List ℕ

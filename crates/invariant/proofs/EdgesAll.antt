@@ -41,7 +41,7 @@ use Rattle.model.specs.Laws.Fit.{Fit, fit}
 use Rattle.model.specs.Step.{Outcome, carried, result, step}
 use Rattle.model.specs.Laws.Own.{refusal, completed, first-yes, first-no, step-own}
 use Rattle.model.specs.Laws.OwnLaws.{own-no, own-yes}
-use Rattle.model.specs.Laws.EveryCall.{Call, sizesIn, lengths, outcomeOf, later, later-order, refused-unchanged}
+use Rattle.model.specs.Laws.EveryCall.{Call, sizesIn, lengths, outcomeOf, later, later-above, refused-unchanged}
 use Rattle.model.specs.Terms.{Good, Present}
 use Rattle.invariant.proofs.Never as Never
 
@@ -52,7 +52,7 @@ unfit c h = refused-unchanged c .first ∙ first-no 1 (sizesFit (sizesIn c) and 
 fits : (c : Call) → Holds (sizesFit (sizesIn c)) → Holds (lengths c) → ¬ (outcomeOf c .answer .refusal ≡ 1)
 fits c h l e =
     let q : firstNo (later c) ≡ 1 = sym (first-yes 1 (sizesFit (sizesIn c) and lengths c) (later c) (h, l)) ∙ sym (refused-unchanged c .first) ∙ e in
-    omega (arith, q, ltb→lt 1 (firstNo (later c)) (Never.later 1 (later c) (later-order c) (λ n. omega (arith, n, q))))
+    omega (arith, q, ltb→lt 1 (firstNo (later c)) (Never.later 1 (later c) (later-above c) (λ n. omega (arith, n, q))))
 
 -- ── an event by its own questions ──
 module _ (z : Sizes) (st : State) (g : Good z st) (e : Event) where

@@ -17,7 +17,7 @@ use Rattle.model.specs.Rules.{lower, diskRules}
 use Rattle.model.specs.Laws.Ruled.{OnDisk, Ruled, ruled, rules, disk-ruled, rules-disk}
 use Rattle.model.specs.Questions.{questions}
 use Rattle.model.specs.Restart as R
-use Rattle.model.specs.Step.{outcome, allFit, asked, answer, carried, result, step, restart, in-order}
+use Rattle.model.specs.Step.{outcome, allFit, asked, answer, carried, result, step, restart, all-above}
 use Rattle.model.specs.Laws.Fit.{Fit, within, fit, all-fit}
 use Rattle.model.specs.Terms.{Good}
 use Rattle.model.specs.Acts as A
@@ -41,7 +41,7 @@ carried-kept z st e f r a = let k = frames-kept z st f r e a in (k .lengths, joi
 
 pub asked-all : (z : Sizes) (st : State) (e : Event) → answer z st e ≡ 0 → Asked (asked z st (questions z st e))
 unfolding answer
-asked-all z st e h = all-yes 0 (asked z st (questions z st e)) (in-order z st e) h
+asked-all z st e h = all-yes 0 (asked z st (questions z st e)) (all-above z st e) h
 
 good-carried : (z : Sizes) (st : State) (e : Event) → answer z st e ≡ 0 → Good z (carried z st e)
 good-carried z st e h =

@@ -33,6 +33,7 @@ pub mod Cases
 pub mod LineKept
 pub mod FramesKept
 pub mod Kept
+pub mod Stores
 pub mod AfterKept
 pub mod Never
 pub mod Tidy

@@ -7,6 +7,7 @@ use Prim.Native.Nat.{ℕ, zero, suc, _<_}
 use native.Mathlib.Omega.{arith}
 use lib.Dec.{T, eqb}
 use lib.ListN.{length}
+use Rattle.tables.specs.Base.{if}
 use Rattle.tables.specs.Laws.{if-elim, and-left, and-right}
 use Rattle.tables.specs.Rule.{same}
 use Rattle.tables.specs.Store.{store}
@@ -20,7 +21,7 @@ use Rattle.model.specs.declared.event.Waiting.the-variants.{Join, Turn}
 use Rattle.model.specs.declared.event.Event.{Event}
 use Rattle.model.specs.declared.event.Event.the-variants as Event
 use Rattle.model.specs.Lines.{FREE, RELEASED}
-use Rattle.model.specs.State.{Disk, Memory, Held, State, files, frames, WRITING}
+use Rattle.model.specs.State.{Disk, Memory, Held, State, files, frames, READING, WRITING}
 use Rattle.model.specs.Setters.{onDisk, onHeld, onSlots, setStates, setOwners, counted}
 use Rattle.model.specs.Rules.{diskRules}
 use Rattle.model.specs.Questions.{questions}
@@ -29,13 +30,15 @@ use Rattle.model.specs.Laws.Fit.{Fit, fit}
 use Rattle.model.specs.Designs
 use Rattle.model.specs.Accounts
 use Rattle.model.specs.Laws.AccountLaws.{sum-shifted}
-use Rattle.model.specs.Terms.{isLimit, noLimit, noLimits, asksLimit, sum}
+use Rattle.model.specs.Terms.{isLimit, noLimitCall, noLimit, noLimits, asksLimit, sum}
 use Rattle.model.specs.Pages
 use Rattle.model.specs.Writeback
 use Rattle.model.specs.Line
 use Rattle.model.specs.Restart as R
 use Rattle.model.specs.Step.{outcome, allFit, asked, answer, carried, result, step, restart}
-use Rattle.model.specs.Acts.{Act, event, looking, restarting, cutting, World, act, run, landWrites, landUpdates, landed}
+use Rattle.model.specs.Acts.{Act, event, looking, restarting, cutting, cuttingIn, World, part, cutOff, act, run, landWrites, landUpdates, landed}
+use Rattle.model.specs.Stores as S
+use Rattle.model.specs.Stores.{Call, stores, byAnswer, made}
 use Rattle.model.specs.declared.request.Decoded.{Decoded}
 use Rattle.model.specs.declared.request.Decoded.the-variants.{Known, Unknown}
 use Rattle.model.specs.Requests.{decoded, decodedNumber}
@@ -44,6 +47,7 @@ use Rattle.model.specs.ApplyAll.{requestAt, requestCount, turned, after, applyA
 use Rattle.invariant.proofs.Cases.{fault-by, claim-by, page-done-by}
 use Rattle.invariant.proofs.LineKept.{by-turn}
 use Rattle.invariant.proofs.Kept.{asked-all}
+use Rattle.invariant.proofs.Stores.{AfterEach, after-first}
 
 -- ── one event ──
 abbrev Sum : State → State → Type 0
@@ -52,6 +56,11 @@ Sum st st′ = sum (st′ .disk .limits) ≡ sum (st .disk .limits)
 -- a parent is lower, so parent and child are two accounts
 apart : (z : Sizes) (st : State) → Ruled z st → (g t : ℕ) → t < z .accounts → 0 < t → files st .parent t ≡ g → ¬ (t ≡ g)
 apart z st r g t h p k e = omega (arith, r .disk .parent-lower t h p, k, e)
+
+-- a move
+shifted-sum : (z : Sizes) (st : State) (g t m : ℕ) → Fit z st → Ruled z st → Asked (questions z st (Event.Account (Move g t m))) → sum (Accounts.shifted (st .disk .limits) g t m) ≡ sum (st .disk .limits)
+shifted-sum z st g t m f r a = sum-shifted (st .disk .limits) g t m (rw (f .disk .limits) (a .0 .0)) (rw (f .disk .limits) (a .0 .1))
+    (elim (a .1 .0 .0) [ inl k ↦ apart z st r g t (a .0 .1) (k .0) (k .1) | inr k ↦ λ e. apart z st r t g (a .0 .0) (k .0) (k .1) (sym e) ]) (a .1 .0 .1 .1 .0)
 
 -- a fault, a claim and the done reports store no limit
 module _ (z : Sizes) (st : State) where
@@ -78,8 +87,7 @@ module _ (z : Sizes) (st : State) where
 carried-sum : (z : Sizes) (st : State) (e : Event) → T (not (isLimit e)) → Fit z st → Ruled z st → Asked (questions z st e) → Sum st (carried z st e)
 unfolding carried counted Designs.create Designs.delete Designs.activate Designs.deactivate Accounts.move Pages.read Pages.write Pages.wire Pages.unwire Writeback.truncate Writeback.update Line.join
 carried-sum z st (Event.Account (Limit q n)) i f r a = absurd i
-carried-sum z st (Event.Account (Move g t m)) i f r a = sum-shifted (st .disk .limits) g t m (rw (f .disk .limits) (a .0 .0)) (rw (f .disk .limits) (a .0 .1))
-    (elim (a .1 .0 .0) [ inl k ↦ apart z st r g t (a .0 .1) (k .0) (k .1) | inr k ↦ λ e. apart z st r t g (a .0 .0) (k .0) (k .1) (sym e) ]) (a .1 .0 .1 .1 .0)
+carried-sum z st (Event.Account (Move g t m)) i f r a = shifted-sum z st g t m f r a
 carried-sum z st (Event.Design (Create s q n)) i f r a = refl
 carried-sum z st (Event.Design (Delete s)) i f r a = refl
 carried-sum z st (Event.Design (Activate s)) i f r a = refl
@@ -118,6 +126,49 @@ unfolding landUpdates Writeback.storeImage
 updates-land z st lands zero d = refl
 updates-land z st lands (suc s) d = if-elim (λ (x : Disk). x .limits ≡ d .limits) (lands s && eqb (files st .updating s) 1) _ _ (λ t. updates-land z st lands s d) (λ t. updates-land z st lands s d)
 
+cut-off-sum : (z : Sizes) (w : World) (writes updates : ℕ → Bool) (junk : Memory) → sum (cutOff z w writes updates junk .state .disk .limits) ≡ sum (w .state .disk .limits)
+unfolding landed
+cut-off-sum z w writes updates junk = ap sum (if-elim (λ (d : Disk). d .limits ≡ w .state .disk .limits) (w .up) _ _
+    (λ u. updates-land z (w .state) updates (z .slots) _ ∙ writes-land z (w .state) writes (z .frames) (w .state .disk)) (λ u. refl))
+
+-- each store of a call but limit leaves the sum
+abbrev SumIs : State → Disk → Type 0
+SumIs st d = sum (d .limits) ≡ sum (st .disk .limits)
+
+stores-sum : (z : Sizes) (st : State) (e : Event) → T (not (isLimit e)) → Fit z st → Ruled z st → Asked (questions z st e) → AfterEach (SumIs st) (stores z st (S.event e)) (st .disk)
+unfolding stores Writeback.storeFrame Writeback.storeImage
+stores-sum z st (Event.Account (Limit q n)) i f r a = absurd i
+stores-sum z st (Event.Account (Move g t m)) i f r a = (shifted-sum z st g t m f r a, tt)
+stores-sum z st (Event.Design (Create s q n)) i f r a = (refl, tt)
+stores-sum z st (Event.Design (Delete s)) i f r a = (refl, tt)
+stores-sum z st (Event.Design (Activate s)) i f r a = tt
+stores-sum z st (Event.Design (Deactivate s)) i f r a = tt
+stores-sum z st (Event.Page e) i f r a = tt
+stores-sum z st (Event.Writeback Claim) i f r a = tt
+stores-sum z st (Event.Writeback (Truncate s k)) i f r a = tt
+stores-sum z st (Event.Writeback (Update s)) i f r a = tt
+stores-sum z st (Event.Writeback (PageDone g good)) i f r a = go (eqb (frames st .frame g .transfer) READING) (eqb good 1)
+  where
+    go : (b c : Bool) → AfterEach (SumIs st) (if b [] (if c (Writeback.storeFrame z st g ∷ []) [])) (st .disk)
+    go true c = tt
+    go false true = (refl, tt)
+    go false false = tt
+stores-sum z st (Event.Writeback (MapDone s good)) i f r a = go (eqb good 1)
+  where
+    go : (c : Bool) → AfterEach (SumIs st) (if c (Writeback.storeImage z st s ∷ []) []) (st .disk)
+    go true = (refl, tt)
+    go false = tt
+stores-sum z st (Event.Waiting e) i f r a = tt
+
+-- so does every part of its stores
+part-sum : (z : Sizes) (w : World) (c : Call) (k : ℕ) → T (noLimitCall c) → sum (part z w c k .state .disk .limits) ≡ sum (w .state .disk .limits)
+unfolding part made S.answered
+part-sum z w (S.event e) k t = after-first (SumIs (w .state)) k _ (w .state .disk) refl (go (answer z (w .state) e) refl)
+  where
+    go : (n : ℕ) → answer z (w .state) e ≡ n → AfterEach (SumIs (w .state)) (byAnswer n (stores z (w .state) (S.event e))) (w .state .disk)
+    go zero h = let a = asked-all z (w .state) e h in stores-sum z (w .state) e t (fit z (w .state) (a .0)) (ruled z (w .state) (a .1 .0)) (a .1 .1)
+    go (suc n) h = tt
+
 act-sum : (z : Sizes) (w : World) (a : Act) → T (noLimit a) → sum (act z w a .state .disk .limits) ≡ sum (w .state .disk .limits)
 unfolding act restart R.restarted counted landed
 act-sum z w (event e) t = limits-sum z (w .state) e t
@@ -127,10 +178,10 @@ act-sum z w restarting t = go (firstNo (ask 1 (allFit z (w .state)) (ask 2 (disk
     go : (n : ℕ) → sum (outcome n 0 (w .state) (R.restarted z (w .state .disk)) .left .disk .limits) ≡ sum (w .state .disk .limits)
     go zero = refl
     go (suc n) = refl
-act-sum z w (cutting writes updates junk) t = ap sum (if-elim (λ (d : Disk). d .limits ≡ w .state .disk .limits) (w .up) _ _
-    (λ u. updates-land z (w .state) updates (z .slots) _ ∙ writes-land z (w .state) writes (z .frames) (w .state .disk)) (λ u. refl))
+act-sum z w (cutting writes updates junk) t = cut-off-sum z w writes updates junk
+act-sum z w (cuttingIn c k writes updates junk) t = cut-off-sum z (part z w c k) writes updates junk ∙ part-sum z w c k t
 
--- From any world, along every list of acts without a limit event: events, page looks, restarts and cuts.
+-- From any world, along every list of acts without a limit event: events, page looks, restarts and cuts, also inside calls.
 pub limits-sums : (z : Sizes) (w : World) (acts : List Act) → T (noLimits acts) → sum (run z w acts .state .disk .limits) ≡ sum (w .state .disk .limits)
 unfolding run
 limits-sums z w [] t = refl

@@ -1,5 +1,5 @@
 -- Over every legal list of acts from a pack that keeps the disk rules, so from a finished format, no event and no page look is answered 1 or 2, and no restart is refused.
-use mathlib.Core.Path.{_≡_, refl, _∙_}
+use mathlib.Core.Path.{_≡_, refl, sym, _∙_, subst}
 use mathlib.Core.Bool.{Bool, true, false}
 use mathlib.Core.List.{List, [], _∷_}
 use Prim.Native.Nat.{ℕ, zero, suc, _<_}
@@ -16,16 +16,18 @@ use Rattle.model.specs.State.{Disk, Memory, State, files}
 use Rattle.model.specs.Rules.{lower, diskRules, allRules}
 use Rattle.model.specs.Laws.Ruled.{ruled, disk-ruled, rules-disk}
 use Rattle.model.specs.Questions.{questions, lookQuestions}
-use Rattle.model.specs.Step.{outcome, diskLengths, memoryLengths, allFit, asked, answer, carried, result, step, restart, look, in-order}
+use Rattle.model.specs.Step.{outcome, diskLengths, memoryLengths, allFit, asked, answer, carried, result, step, restart, look, own-above}
 use Rattle.model.specs.Restart as R
 use Rattle.model.specs.Laws.Fit.{fit-disk, fit}
 use Rattle.model.specs.Laws.Own.{first-yes}
-use Rattle.model.specs.Acts.{Act, event, looking, restarting, cutting, World, act, allowed, legal, run, start}
+use Rattle.model.specs.Acts.{Act, event, looking, restarting, cutting, cuttingIn, World, part, cutOff, act, allowed, legal, run, start}
 use Rattle.model.specs.Acts as A
+use Rattle.model.specs.Stores.{Call}
 use Rattle.model.specs.Terms.{Good, blameless, answered, allAnswered}
 use Rattle.invariant.proofs.Records.{disk-alone}
 use Rattle.invariant.proofs.RecordsCut.{formatted-fit, landed-fit}
 use Rattle.invariant.proofs.Kept.{kept, restarted, formatted, landed}
+use Rattle.invariant.proofs.Stores.{Inside, inside, part-same}
 
 -- what every world of a list keeps: lengths and disk rules always, once restarted all rules
 pub record Safe (z : Sizes) (w : World) : Type 0 where
@@ -47,20 +49,17 @@ good-safe z w g = record { sizes = g .0 .0; disk = g .0 .1 .0; memory = g .0 .1 
 pub later : (k : ℕ) (q : Questions) → T (above k q) → ¬ (firstNo q ≡ 0) → T (ltb k (firstNo q))
 unfolding firstNo
 later k none t n = absurd (n refl)
-later k (ask m r q) t n = go (test r) (later m q (and-right (ltb k m) (above m q) t)) n
+later k (ask m r q) t n = go (test r) (later k q (and-right (ltb k m) (above k q) t)) n
   where
-    go : (b : Bool) → (¬ (firstNo q ≡ 0) → T (ltb m (firstNo q))) → ¬ (if b (firstNo q) m ≡ 0) → T (ltb k (if b (firstNo q) m))
-    go true f ne = lt→ltb k (firstNo q) (omega (arith, ltb→lt m (firstNo q) (f ne), ltb→lt k m (and-left (ltb k m) (above m q) t)))
-    go false f ne = and-left (ltb k m) (above m q) t
+    go : (b : Bool) → (¬ (firstNo q ≡ 0) → T (ltb k (firstNo q))) → ¬ (if b (firstNo q) m ≡ 0) → T (ltb k (if b (firstNo q) m))
+    go true f ne = f ne
+    go false f ne = and-left (ltb k m) (above k q) t
 
 not-blamed : (z : Sizes) (st : State) (q : Questions) → T (above 2 q) → Good z st → Holds (blameless (firstNo (asked z st q)))
 not-blamed z st q t g =
     let e : firstNo (asked z st q) ≡ firstNo q = first-yes 1 (allFit z st) (ask 2 (allRules z st) q) (g .0) ∙ first-yes 2 (allRules z st) q (g .1) in
     let big : ¬ (firstNo q ≡ 0) → 2 < firstNo q = λ n. ltb→lt 2 (firstNo q) (later 2 q t n) in
     (λ h. omega (arith, big (λ n. omega (arith, e, h, n)), e, h), λ h. omega (arith, big (λ n. omega (arith, e, h, n)), e, h))
-
-own-above : (z : Sizes) (st : State) (e : Event) → T (above 2 (questions z st e))
-own-above z st e = in-order z st e
 
 said : {A : Type 0} (n r : ℕ) (old new : A) → Holds (blameless n) → Holds (blameless (outcome n r old new .answer .refusal))
 said zero r old new b = b
@@ -75,23 +74,32 @@ pub look-blameless : (z : Sizes) (st : State) (s p : ℕ) → Good z st → Hold
 unfolding look
 look-blameless z st s p g = said (firstNo (asked z st (lookQuestions z st s p))) 0 [] _ (not-blamed z st (lookQuestions z st s p) tt g)
 
+-- a cut leaves a safe world
+cut-safe : (z : Sizes) (w : World) (writes updates : ℕ → Bool) (junk : Memory) → Holds (memoryLengths z junk) → Safe z w → Safe z (cutOff z w writes updates junk)
+cut-safe z w writes updates junk lengths s = go (w .up) refl
+  where
+    go : (b : Bool) → w .up ≡ b → Safe z (record { up = false; state = record { disk = if b (A.landed z (w .state) writes updates) (w .state .disk); memory = junk }; ledger = cutOff z w writes updates junk .ledger })
+    go true e = let g = s .up (rw e tt) in record {
+      sizes = s .sizes;
+      disk = fit-disk z (A.landed z (w .state) writes updates) (landed-fit z (w .state) (fit z (w .state) (g .0)) (ruled z (w .state) (g .1)) writes updates);
+      memory = lengths;
+      rules = landed z (w .state) writes updates junk g;
+      up = λ u. absurd u;
+    }
+    go false e = record { sizes = s .sizes; disk = s .disk; memory = lengths; rules = rules-disk z _ (disk-alone z (files (w .state)) (disk-ruled z (w .state) (s .rules)) _ _ _ _ _ _ _); up = λ u. absurd u }
+
+-- in the midst of a call the world is safe
+part-safe : (z : Sizes) (w : World) (c : Call) (k : ℕ) (junk : Memory) → Inside z w c k junk → Safe z w → Safe z (part z w c k)
+part-safe z w c k junk i s = subst (Safe z) (sym (part-same z w c k junk i)) s
+
 -- each act is answered so, and leaves a safe world
 pub one : (z : Sizes) (w : World) (a : Act) → T (allowed z w a) → Safe z w → Holds (answered z w a) × Safe z (act z w a)
 unfolding allowed act
 one z w (event e) t s = (event-blameless z (w .state) e (s .up t), good-safe z _ (kept z (w .state) e (s .up t)))
 one z w (looking p q) t s = (look-blameless z (w .state) p q (s .up t), s)
 one z w restarting t s = let r = restarted z (w .state) (safe-fit z w s) (s .rules) in (r .0, good-safe z _ (r .1))
-one z w (cutting writes updates junk) t s = (refl, go (w .up) refl)
-  where
-    go : (b : Bool) → w .up ≡ b → Safe z (record { up = false; state = record { disk = if b (A.landed z (w .state) writes updates) (w .state .disk); memory = junk }; ledger = act z w (cutting writes updates junk) .ledger })
-    go true e = let g = s .up (rw e tt) in record {
-      sizes = s .sizes;
-      disk = fit-disk z (A.landed z (w .state) writes updates) (landed-fit z (w .state) (fit z (w .state) (g .0)) (ruled z (w .state) (g .1)) writes updates);
-      memory = sound (memoryLengths z junk) t;
-      rules = landed z (w .state) writes updates junk g;
-      up = λ u. absurd u;
-    }
-    go false e = record { sizes = s .sizes; disk = s .disk; memory = sound (memoryLengths z junk) t; rules = rules-disk z _ (disk-alone z (files (w .state)) (disk-ruled z (w .state) (s .rules)) _ _ _ _ _ _ _); up = λ u. absurd u }
+one z w (cutting writes updates junk) t s = (refl, cut-safe z w writes updates junk (sound (memoryLengths z junk) t) s)
+one z w (cuttingIn c k writes updates junk) t s = let i = inside z w c k writes updates junk t in (refl, cut-safe z (part z w c k) writes updates junk (i .lengths) (part-safe z w c k junk i s))
 
 pub all-answered : (z : Sizes) (w : World) (acts : List Act) → T (legal z w acts) → Safe z w → Holds (allAnswered z w acts) × Safe z (run z w acts)
 unfolding legal run

@@ -32,7 +32,7 @@ use Rattle.model.specs.Writeback
 use Rattle.model.specs.Line
 use Rattle.model.specs.Restart as R
 use Rattle.model.specs.Step.{outcome, diskLengths, memoryLengths, answer, carried, result, step, restart}
-use Rattle.model.specs.Acts.{Act, event, looking, restarting, cutting, World, act, allowed, legal, run, start}
+use Rattle.model.specs.Acts.{Act, event, looking, restarting, cutting, cuttingIn, World, act, allowed, legal, run, start}
 use Rattle.model.specs.Terms.{tidy}
 use Rattle.invariant.proofs.LineKept.{by-turn}
 use Rattle.invariant.proofs.Records.{Tidied}
@@ -94,6 +94,7 @@ module _ (z : Sizes) where
   act-tidy w (looking p q) s t u = t u
   act-tidy w restarting s t u = restart-tidy w s
   act-tidy w (cutting writes updates junk) s t u = absurd u
+  act-tidy w (cuttingIn c k writes updates junk) s t u = absurd u
 
   run-tidy : (w : World) (acts : List Act) → T (legal z w acts) → Safe z w → (T (w .up) → Tidied z (w .state)) → T (run z w acts .up) → Tidied z (run z w acts .state)
   unfolding legal run

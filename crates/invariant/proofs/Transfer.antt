@@ -234,6 +234,7 @@ one-act z w (A.event e) g f t o = (transfer-words z (w .state) e g f t o, kept z
 one-act z w (A.looking s p) g f t o = (same-core z (w .state) (w .state) f refl, g)
 one-act z w A.restarting g f t o = absurd o
 one-act z w (A.cutting writes updates junk) g f t o = absurd o
+one-act z w (A.cuttingIn c k writes updates junk) g f t o = absurd o
 
 -- Along every list of events and page looks without its page done, a frame in transfer keeps its words, and stays in that transfer.
 pub transfer-words-list : (z : Sizes) (w : World) (acts : List Act) → Good z (w .state) → (f : ℕ) → InTransfer z (w .state) f → T (allOther f acts) → Untouched z (w .state) (run z w acts .state) f

@@ -56,9 +56,9 @@ module _ (b : Bool) (range : Rule) (t : b ≡ test range) (p q : Questions) (n :
   pub part-no : ¬ (n ≡ 0) → n ≡ firstNo (ask 3 range (p also q))
   part-no h = e ∙ sym (also-no (ask 3 (is b) p) q (λ x. h (e ∙ x))) ∙ asked-range b range (p also q) t
 
-  module _ (rises : T (above 3 p)) (yes : n ≡ 0) where
+  module _ (numbered : T (above 0 p)) (yes : n ≡ 0) where
     pub part-yes : firstNo q ≡ firstNo (ask 3 range (p also q))
-    part-yes = sym (also-yes 0 (ask 3 (is b) p) q rises (sym e ∙ yes)) ∙ asked-range b range (p also q) t
+    part-yes = sym (also-yes 0 (ask 3 (is b) p) q numbered (sym e ∙ yes)) ∙ asked-range b range (p also q) t
 
     pub part-range : Holds range
-    part-range = sound range (rw (← t) (all-yes 0 (ask 3 (is b) p) rises (sym e ∙ yes) .0))
+    part-range = sound range (rw (← t) (all-yes 0 (ask 3 (is b) p) numbered (sym e ∙ yes) .0))

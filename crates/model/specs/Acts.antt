@@ -1,8 +1,9 @@
--- Lists of acts: events, page looks, restarts, and cuts with any choice of what lands and anything in memory after.
+-- Lists of acts: events, page looks, restarts, and cuts, also inside a call, with any choice of what lands and anything in memory after.
 use mathlib.Core.Bool.{Bool, true, false, _&&_}
 use mathlib.Core.List.{List, [], _∷_}
 use Prim.Native.Nat.{ℕ, zero, suc, _%_}
-use lib.Dec.{eqb}
+use lib.Dec.{eqb, ltb}
+use lib.ListN.{length}
 use Rattle.tables.specs.Base.{if}
 use Rattle.tables.specs.Rule.{test}
 use Rattle.model.specs.declared.sizes.Sizes.{Sizes}
@@ -17,7 +18,9 @@ use Rattle.model.specs.Pages.{faultFrame}
 use Rattle.model.specs.Writeback
 use Rattle.model.specs.Writeback.{beginsWrite, recordIn, storeFrame, storeImage}
 use Rattle.model.specs.Questions.{Turning, nobody, serves, goesBack, faults, claims, sendsAway, nextPage, turning}
+use Rattle.model.specs.Setters.{onDisk}
 use Rattle.model.specs.Step.{Outcome, memoryLengths, step, restart}
+use Rattle.model.specs.Stores.{Call, made, first}
 use Rattle.model.specs.Ledger as L
 
 pub data Act : Type 0 where
@@ -27,6 +30,8 @@ pub data Act : Type 0 where
   restarting : Act
   -- which open writes land, by frame; which open updates, by slot; what the memory holds after
   cutting : (ℕ → Bool) → (ℕ → Bool) → Memory → Act
+  -- the same inside a call: how many of its stores are made
+  cuttingIn : Call → ℕ → (ℕ → Bool) → (ℕ → Bool) → Memory → Act
 
 -- what a fault of a page and a claim feed the ledger
 abbrev fedFault : State → ℕ → ℕ → L.Fed
@@ -89,17 +94,26 @@ module _ (z : Sizes) where
   unfoldable pub noted : Outcome State → L.Fed → L.Ledger → L.Ledger
   noted o f l = if (eqb (o .answer .refusal) 0) (L.note z l f) l
 
+  -- a cut; a second one before the restart finds nothing open
+  abbrev pub cutOff : World → (ℕ → Bool) → (ℕ → Bool) → Memory → World
+  cutOff w writes updates junk = record {
+    up = false;
+    state = record { disk = if (w .up) (landed z (w .state) writes updates) (w .state .disk); memory = junk };
+    ledger = L.note z (w .ledger) (L.cut writes updates);
+  }
+
+  -- the world once the first k of a call's stores are made
+  unfoldable pub part : World → Call → ℕ → World
+  part w c k = record { up = w .up; state = onDisk (first k (made z (w .state) c)) (w .state); ledger = w .ledger }
+
   unfoldable pub act : World → Act → World
   act w (event e) = let o = step z (w .state) e in record { up = w .up; state = o .left; ledger = noted o (fed z (w .state) e) (w .ledger) }
   -- a page look leaves all as it was, and is no event: the ledger is fed nothing
   act w (looking s p) = w
   act w restarting = let o = restart z (w .state) in record { up = if (eqb (o .answer .refusal) 0) true (w .up); state = o .left; ledger = noted o (L.restarted (w .state .disk)) (w .ledger) }
-  act w (cutting writes updates junk) = record {
-    up = false;
-    -- a second cut before the restart finds nothing open
-    state = record { disk = if (w .up) (landed z (w .state) writes updates) (w .state .disk); memory = junk };
-    ledger = L.note z (w .ledger) (L.cut writes updates);
-  }
+  act w (cutting writes updates junk) = cutOff w writes updates junk
+  -- a cut falls before or after a store
+  act w (cuttingIn c k writes updates junk) = cutOff (part w c k) writes updates junk
 
   -- Restart is the first call after a format or a cut, made again while refused. Memory keeps its lengths.
   unfoldable pub allowed : World → Act → Bool
@@ -107,6 +121,8 @@ module _ (z : Sizes) where
   allowed w (looking s p) = w .up
   allowed w restarting = true
   allowed w (cutting writes updates junk) = test (memoryLengths z junk)
+  -- before its last store; after that one it is a cut after the call
+  allowed w (cuttingIn c k writes updates junk) = w .up && (ltb k (length (made z (w .state) c)) && test (memoryLengths z junk))
 
   unfoldable pub legal : World → List Act → Bool
   legal w [] = true

@@ -22,6 +22,7 @@ pub mod Calls
 pub mod ApplyAll
 pub mod Part
 pub mod Ledger
+pub mod Stores
 pub mod Acts
 pub mod Demand3
 pub mod FromPack

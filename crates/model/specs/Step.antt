@@ -4,7 +4,7 @@ use Prim.Native.Nat.{ℕ, zero, suc, _*_}
 use lib.Dec.{T}
 use lib.ListN.{length, take, drop}
 use Rattle.tables.specs.Base.{at}
-use Rattle.tables.specs.Questions.{Questions, none, ask, firstNo, above}
+use Rattle.tables.specs.Questions.{Questions, none, ask, firstNo, above, rising, rising-above}
 use Rattle.tables.specs.Rule.{Rule, same, _and_}
 use Rattle.model.specs.declared.sizes.Sizes.{Sizes}
 use Rattle.model.specs.declared.event.Answer.{Answer}
@@ -117,7 +117,7 @@ restart z st = outcome (firstNo (ask 1 (allFit z st) (ask 2 (diskRules z st) non
 unfoldable pub look : Sizes → State → ℕ → ℕ → Outcome (List ℕ)
 look z st s p = outcome (firstNo (asked z st (lookQuestions z st s p))) 0 [] (take (z .words) (drop (Pages.lookStart z st s p) (st .memory .core .words)))
 
-turn-order : (z : Sizes) (st : State) (t : Turning) → T (above 0 (asked z st (turnQuestions z st t)))
+turn-order : (z : Sizes) (st : State) (t : Turning) → T (rising 0 (asked z st (turnQuestions z st t)))
 turn-order z st nobody = tt
 turn-order z st serves = tt
 turn-order z st goesBack = tt
@@ -126,7 +126,7 @@ turn-order z st claims = tt
 turn-order z st (sendsAway n) = tt
 
 -- Asked in number order, 1 to 3 first.
-pub in-order : (z : Sizes) (st : State) (e : Event) → T (above 0 (asked z st (questions z st e)))
+pub in-order : (z : Sizes) (st : State) (e : Event) → T (rising 0 (asked z st (questions z st e)))
 in-order z st (Event.Design (Create s q n)) = tt
 in-order z st (Event.Design (Delete s)) = tt
 in-order z st (Event.Design (Activate s)) = tt
@@ -145,3 +145,10 @@ in-order z st (Event.Writeback (PageDone f good)) = tt
 in-order z st (Event.Writeback (MapDone s good)) = tt
 in-order z st (Event.Waiting (Join s p)) = tt
 in-order z st (Event.Waiting Turn) = turn-order z st (turning z st)
+
+-- so no question has the number 0, and an event's own have numbers from 3 up
+pub all-above : (z : Sizes) (st : State) (e : Event) → T (above 0 (asked z st (questions z st e)))
+all-above z st e = rising-above 0 (asked z st (questions z st e)) (in-order z st e)
+
+pub own-above : (z : Sizes) (st : State) (e : Event) → T (above 2 (questions z st e))
+own-above z st e = rising-above 2 (questions z st e) (in-order z st e)

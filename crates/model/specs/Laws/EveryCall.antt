@@ -4,7 +4,7 @@ use mathlib.Core.List.{List, []}
 use Prim.Native.Nat.{ℕ, zero, suc}
 use lib.Dec.{T}
 use Rattle.tables.specs.Base.{at}
-use Rattle.tables.specs.Questions.{Questions, none, ask, above, firstNo}
+use Rattle.tables.specs.Questions.{Questions, none, ask, above, rising, rising-above, firstNo}
 use Rattle.tables.specs.Rule.{Rule, same, _and_}
 use Rattle.model.specs.declared.sizes.Sizes.{Sizes}
 use Rattle.model.specs.declared.event.Event.{Event}
@@ -85,16 +85,20 @@ abbrev pub asks : Call → Questions
 asks c = ask 1 (sizesFit (sizesIn c) and lengths c) (later c)
 
 -- in number order
-decoded-order : (z : Sizes) (st : State) (d : Decoded) → T (above 2 (decodedQuestions z st d))
+decoded-order : (z : Sizes) (st : State) (d : Decoded) → T (rising 2 (decodedQuestions z st d))
 decoded-order z st (Known e) = in-order z st e
 decoded-order z st Unknown = tt
 
-pub later-order : (c : Call) → T (above 1 (later c))
+pub later-order : (c : Call) → T (rising 1 (later c))
 later-order (stepping z st e) = in-order z st e
 later-order (applying z st r) = decoded-order z st (decoded r)
 later-order (restarting z st) = tt
 later-order (formatting z w d) = tt
 later-order (looking z st s p) = tt
+
+-- so 1 is the first question's number alone
+pub later-above : (c : Call) → T (above 1 (later c))
+later-above c = rising-above 1 (later c) (later-order c)
 
 -- ── the answer, and a refusal ──
 -- the refusal is the number of the first question that fails, or 0; where it is not 0, the result is 0 and nothing has changed

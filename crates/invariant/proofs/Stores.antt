@@ -1,0 +1,171 @@
+-- The disk after a call that is carried out is what its own stores leave, in order; and what holds in the midst of a call, before its last store.
+use mathlib.Core.Path.{_≡_, refl, ap, sym, _∙_, subst}
+use mathlib.Core.Bool.{Bool, true, false, _&&_}
+use mathlib.Core.List.{List, [], _∷_}
+use Prim.Native.Nat.{ℕ, zero, suc, _<_, _≤_}
+use native.Mathlib.Omega.{arith}
+use lib.Dec.{T, eqb, ltb, ltb→lt}
+use lib.ListN.{length}
+use Rattle.tables.specs.Base.{if}
+use Rattle.tables.specs.Laws.{and-left, and-right}
+use Rattle.tables.specs.Questions.{Asked}
+use Rattle.tables.specs.Rule.{Holds, test, sound}
+use Rattle.tables.specs.Store.{store}
+use Rattle.model.specs.declared.sizes.Sizes.{Sizes}
+use Rattle.model.specs.declared.event.Design.the-variants.{Create, Delete, Activate, Deactivate}
+use Rattle.model.specs.declared.event.Account.the-variants.{Limit, Move}
+use Rattle.model.specs.declared.event.Page.the-variants.{Fault, Read, Write, Wire, Unwire}
+use Rattle.model.specs.declared.event.Writeback.the-variants.{Claim, Truncate, Update, PageDone, MapDone}
+use Rattle.model.specs.declared.event.Waiting.the-variants.{Join, Turn}
+use Rattle.model.specs.declared.event.Event.{Event}
+use Rattle.model.specs.declared.event.Event.the-variants as Event
+use Rattle.model.specs.Lines.{FREE, RELEASED}
+use Rattle.model.specs.State.{Disk, Memory, Held, State, frames, READING}
+use Rattle.model.specs.Setters.{onDisk, onHeld, onSlots, setStates, setOwners, counted}
+use Rattle.model.specs.Questions.{questions}
+use Rattle.model.specs.Laws.Ruled.{Ruled, ruled}
+use Rattle.model.specs.Laws.Fit.{Fit, fit}
+use Rattle.model.specs.Designs
+use Rattle.model.specs.Accounts
+use Rattle.model.specs.Pages
+use Rattle.model.specs.Writeback
+use Rattle.model.specs.Line
+use Rattle.model.specs.Step.{outcome, memoryLengths, answer, carried, result, step}
+use Rattle.model.specs.Stores as S
+use Rattle.model.specs.Stores.{Call, stores, byAnswer, made, first, allOf}
+use Rattle.model.specs.Acts.{World, cuttingIn, part, allowed}
+use Rattle.invariant.proofs.Cases.{fault-by, claim-by}
+use Rattle.invariant.proofs.LineKept.{by-turn}
+use Rattle.invariant.proofs.Kept.{asked-all}
+
+-- ── the disk after a call ──
+abbrev Same : State → State → Type 0
+Same st st′ = st′ .disk ≡ st .disk
+
+module _ (z : Sizes) (st : State) where
+  fault-same : (s p : ℕ) → Same st (Pages.fault z st s p)
+  unfolding Pages.beginRead Pages.serveZeros Pages.takeRecord counted
+  fault-same s p = fault-by z st (Same st) s p refl (λ r. refl) refl
+
+  claim-same : Same st (Writeback.claim z st)
+  unfolding Writeback.freeFrame counted
+  claim-same = claim-by z st (Same st) refl refl refl
+
+  done-stores : (f good : ℕ) → Writeback.pageDone z st f good .disk ≡ allOf (stores z st (S.event (Event.Writeback (PageDone f good)))) (st .disk)
+  unfolding stores first Writeback.pageDone Writeback.readGood Writeback.readFailed Writeback.writeGood Writeback.writeFailed Writeback.freeFrame counted
+  done-stores f good = go (eqb (frames st .frame f .transfer) READING) (eqb good 1)
+    where
+      go : (a b : Bool)
+          → (if a (if b (Writeback.readGood z st f) (Writeback.readFailed z st f)) (if b (Writeback.writeGood z st f) (Writeback.writeFailed z st f))) .disk
+          ≡ allOf (if a [] (if b (Writeback.storeFrame z st f ∷ []) [])) (st .disk)
+      go true true = refl
+      go true false = refl
+      go false true = refl
+      go false false = refl
+
+  map-stores : (s good : ℕ) → Writeback.mapDone z st s good .disk ≡ allOf (stores z st (S.event (Event.Writeback (MapDone s good)))) (st .disk)
+  unfolding stores first Writeback.mapDone counted
+  map-stores s good = go (eqb good 1)
+      (over (λ h. setStates (store (h .states) (Writeback.leaver z st s) (λ r. FREE)) (setOwners (store (h .owners) (Writeback.leaver z st s) (λ r. 0)) h)))
+      (over (λ h. setStates (store (h .states) (Writeback.leaver z st s) (λ r. RELEASED)) h)) refl refl
+    where
+      over : (Held → Held) → State
+      over f = onSlots (Writeback.updateOver z st s) (onHeld f st)
+
+      go : (b : Bool) (x y : State) → x .disk ≡ st .disk → y .disk ≡ st .disk → (if b (onDisk (Writeback.storeImage z st s) x) y) .disk ≡ allOf (if b (Writeback.storeImage z st s ∷ []) []) (st .disk)
+      go true x y e f = ap (Writeback.storeImage z st s) e
+      go false x y e f = f
+
+carried-stores : (z : Sizes) (st : State) (e : Event) → Fit z st → Ruled z st → Asked (questions z st e) → carried z st e .disk ≡ allOf (stores z st (S.event e)) (st .disk)
+unfolding carried stores first counted Designs.create Designs.delete Designs.activate Designs.deactivate Accounts.limit Accounts.move Pages.read Pages.write Pages.wire Pages.unwire Writeback.truncate Writeback.update Line.join
+carried-stores z st (Event.Design (Create s q n)) f r a = refl
+carried-stores z st (Event.Design (Delete s)) f r a = refl
+carried-stores z st (Event.Design (Activate s)) f r a = refl
+carried-stores z st (Event.Design (Deactivate s)) f r a = refl
+carried-stores z st (Event.Account (Limit q n)) f r a = refl
+carried-stores z st (Event.Account (Move g t m)) f r a = refl
+carried-stores z st (Event.Page (Fault s p)) f r a = fault-same z st s p
+carried-stores z st (Event.Page (Read s p w)) f r a = refl
+carried-stores z st (Event.Page (Write s p w x)) f r a = refl
+carried-stores z st (Event.Page (Wire s p)) f r a = refl
+carried-stores z st (Event.Page (Unwire s p)) f r a = refl
+carried-stores z st (Event.Writeback Claim) f r a = claim-same z st
+carried-stores z st (Event.Writeback (Truncate s k)) f r a = refl
+carried-stores z st (Event.Writeback (Update s)) f r a = refl
+carried-stores z st (Event.Writeback (PageDone g good)) f r a = done-stores z st g good
+carried-stores z st (Event.Writeback (MapDone s good)) f r a = map-stores z st s good
+carried-stores z st (Event.Waiting (Join s p)) f r a = refl
+carried-stores z st (Event.Waiting Turn) f r a = by-turn z st f r (Same st) (λ l h. refl) (λ k. fault-same z st _ _) (λ k. claim-same z st) a
+
+-- For every state and every event, carried out or refused: its stores, in order, and nothing stored otherwise.
+pub stores-whole : (z : Sizes) (st : State) (e : Event) → step z st e .left .disk ≡ allOf (made z st (S.event e)) (st .disk)
+unfolding step made S.answered
+stores-whole z st e = go (answer z st e) refl
+  where
+    go : (n : ℕ) → answer z st e ≡ n → outcome n (result z st e) st (carried z st e) .left .disk ≡ allOf (byAnswer n (stores z st (S.event e))) (st .disk)
+    go zero h = let a = asked-all z st e h in carried-stores z st e (fit z st (a .0)) (ruled z st (a .1 .0)) (a .1 .1)
+    go (suc n) h = unfold first in refl
+
+-- ── in the midst of a call ──
+-- something holds of the disk after each of some stores
+abbrev pub AfterEach : (Disk → Type 0) → List (Disk → Disk) → Disk → Type 0
+AfterEach P [] d = Unit {0}
+AfterEach P (f ∷ fs) d = P (f d) × AfterEach P fs (f d)
+
+-- so it holds after the first k, if it held before
+pub after-first : (P : Disk → Type 0) (k : ℕ) (fs : List (Disk → Disk)) (d : Disk) → P d → AfterEach P fs d → P (first k fs d)
+unfolding first
+after-first P zero fs d h a = h
+after-first P (suc k) [] d h a = h
+after-first P (suc k) (f ∷ fs) d h a = after-first P k fs (f d) (a .0) (a .1)
+
+-- no event has more than one store
+one-store : (z : Sizes) (st : State) (e : Event) → length (stores z st (S.event e)) ≤ 1
+unfolding stores
+one-store z st (Event.Design (Create s q n)) = omega arith
+one-store z st (Event.Design (Delete s)) = omega arith
+one-store z st (Event.Design (Activate s)) = omega arith
+one-store z st (Event.Design (Deactivate s)) = omega arith
+one-store z st (Event.Account (Limit q n)) = omega arith
+one-store z st (Event.Account (Move g t m)) = omega arith
+one-store z st (Event.Page e) = omega arith
+one-store z st (Event.Writeback Claim) = omega arith
+one-store z st (Event.Writeback (Truncate s k)) = omega arith
+one-store z st (Event.Writeback (Update s)) = omega arith
+one-store z st (Event.Writeback (PageDone f good)) = short (eqb (frames st .frame f .transfer) READING) (eqb good 1)
+  where
+    short : (a b : Bool) → length (if a [] (if b (Writeback.storeFrame z st f ∷ []) [])) ≤ 1
+    short true b = omega arith
+    short false true = omega arith
+    short false false = omega arith
+one-store z st (Event.Writeback (MapDone s good)) = short (eqb good 1)
+  where
+    short : (b : Bool) → length (if b (Writeback.storeImage z st s ∷ []) []) ≤ 1
+    short true = omega arith
+    short false = omega arith
+one-store z st (Event.Waiting e) = omega arith
+
+-- a cut inside a call that a list allows
+pub record Inside (z : Sizes) (w : World) (c : Call) (k : ℕ) (junk : Memory) : Type 0 where
+  pub up : T (w .up)
+  pub before : k < length (made z (w .state) c)
+  pub lengths : Holds (memoryLengths z junk)
+
+pub inside : (z : Sizes) (w : World) (c : Call) (k : ℕ) (writes updates : ℕ → Bool) (junk : Memory) → T (allowed z w (cuttingIn c k writes updates junk)) → Inside z w c k junk
+unfolding allowed
+inside z w c k writes updates junk t =
+    let b : Bool = ltb k (length (made z (w .state) c)) in
+    let m : Bool = test (memoryLengths z junk) in
+    let u = and-right (w .up) (b && m) t in
+    record { up = and-left (w .up) (b && m) t; before = ltb→lt k (length (made z (w .state) c)) (and-left b m u); lengths = sound (memoryLengths z junk) (and-right b m u) }
+
+-- before an event's last store nothing is stored: the world is as before the call
+pub part-same : (z : Sizes) (w : World) (c : Call) (k : ℕ) (junk : Memory) → Inside z w c k junk → part z w c k ≡ w
+unfolding part made
+part-same z w (S.event e) k junk i =
+    let none : k ≡ 0 = omega (arith, i .before, short (S.answered z (w .state) (S.event e)) (stores z (w .state) (S.event e)) (one-store z (w .state) e)) in
+    rw none (unfold first in refl)
+  where
+    short : (n : ℕ) (fs : List (Disk → Disk)) → length fs ≤ 1 → length (byAnswer n fs) ≤ 1
+    short zero fs h = h
+    short (suc n) fs h = omega arith
