@@ -16,9 +16,11 @@ import textwrap
 import time
 
 ROOT = pathlib.Path(__file__).resolve().parent.parent
-MUTANTS = ROOT / "tests" / "mutants"
 FIRST = "freed_at_update"
-sys.path.insert(0, str(MUTANTS))
+sys.path.insert(0, str(ROOT / "tests" / "mutants"))
+
+import edits
+import run
 
 
 def plain(text):
@@ -26,20 +28,16 @@ def plain(text):
     return re.sub(r"\s+", " ", re.sub(r" ?\([^()]*`[^()]*\)", "", text).replace("**", "")).strip()
 
 
-def field(name, key):
-    """A line of an edit, or None; 'what' is the comment at its top."""
-    text = (MUTANTS / f"{name}.edit").read_text()
-    found = re.match(r"# (.*)", text) if key == "what" else re.search(rf"^{key}: (.*)$", text, re.M)
-    return found.group(1) if found else None
+def sentences():
+    """The edits that name the sentence they break, by name."""
+    found = map(edits.Edit, edits.names())
+    return {edit.name: edit for edit in found if edit.breaks}
 
 
-def names():
-    return sorted(path.stem for path in MUTANTS.glob("*.edit") if field(path.stem, "breaks"))
-
-
-def definition(name, text):
+def definition(edit, text):
     """The paragraph of the file in which the edit's old text stands, with `text` in its place."""
-    whole, old = (ROOT / field(name, "file")).read_text(), field(name, "old")
+    file, old, _ = edit.pairs[0]
+    whole = (ROOT / file).read_text()
     at = whole.index(old)
     start, end = whole.rfind("\n\n", 0, at) + 2, whole.find("\n\n", at)
     return whole[start:at] + text + whole[at + len(old) : end if end >= 0 else len(whole)]
@@ -55,54 +53,54 @@ def quote(text):
     print(textwrap.fill(text.strip(), 100, initial_indent="    ", subsequent_indent="    "), flush=True)
 
 
-def proved_wrong(name):
+def proved_wrong(edit):
     """Proves the edited copy: the place of the first refusal or '', what the prover said of it, the seconds."""
-    import run
-
-    start, to = time.monotonic(), pathlib.Path(run.WORK) / name
+    start, to = time.monotonic(), run.WORK / edit.name
     try:
-        edit = run.read_edit(name)
-        run.copy_sources(to)
-        run.apply_edit(to, edit)
-        status, text = run.check(to, edit["crate"])
+        edits.make(edit, to)
+        status, text = run.check(edits.command(edit, to), to, to / "check.log")
         said = re.search(r"^.*: error: .*(?:\n .*)*", text, re.M)
-        return run.refused_by(status, text), said.group().replace(f"{to}/", "") if said else "", time.monotonic() - start
+        return run.refused_by(edit, status, text), said.group().replace(f"{to}/", "") if said else "", time.monotonic() - start
     finally:
         shutil.rmtree(to, ignore_errors=True)
 
 
 def main(words):
     if words == ["--list"]:
-        print("\n".join(f"{name}: {field(name, 'what')}" for name in names()))
+        print("\n".join(f"{name}: {edit.what}" for name, edit in sentences().items()))
         return 0
     if len(words) > 1 or words[:1] == ["--help"]:
         print(__doc__.strip())
         return 0 if words[:1] == ["--help"] else 2
-    name = (words or [FIRST])[0]
-    if name not in names():
-        print(f"break.py: no edit of that name that names its sentence: {name}. There are: {', '.join(names())}", file=sys.stderr)
+    name, known = (words or [FIRST])[0], sentences()
+    if name not in known:
+        print(f"break.py: no edit of that name that names its sentence: {name}. There are: {', '.join(known)}", file=sys.stderr)
         return 2
+    return shown(known[name])
+
+
+def shown(edit):
+    """Shows the sentence, its definition, the wrong one and what the prover says of it: 0 if it is refused."""
+    file, old, new = edit.pairs[0]
     print("The specification says (docs/SPEC.md):\n")
-    quote(field(name, "breaks"))
-    print(f"\nIts definition, in {field(name, 'file')}:\n")
-    lines(definition(name, field(name, "old")), 12)
-    print(f"\nTried in its place: {field(name, 'what')}.\n")
-    lines(definition(name, field(name, "new")), 12)
+    quote(edit.breaks)
+    print(f"\nIts definition, in {file}:\n")
+    lines(definition(edit, old), 12)
+    print(f"\nTried in its place: {edit.what}.\n")
+    lines(definition(edit, new), 12)
     print("\nThe prover goes through a copy with this one change; a minute or so ..", flush=True)
-    place, said, seconds = proved_wrong(name)
+    place, said, seconds = proved_wrong(edit)
     if not place:
         print(f"\nNOT REFUSED, after {seconds:.0f} s: everything is proved with this definition. That must not be.")
         return 1
     print(f"\nRefused, after {seconds:.0f} s, by the crate {place}. The prover's first words:\n")
-    lines(said or "(see docs/PROOF.md)", 4)
+    lines(said or f"({edit.refused})", 4)
     print("\nSo this sentence of the specification does not hold with it:\n")
-    quote(field(name, "breaks"))
+    quote(edit.breaks)
     return 0
 
 
 if __name__ == "__main__":
-    import run
-
     try:
         sys.exit(main(sys.argv[1:]))
     except (run.Bad, OSError) as bad:

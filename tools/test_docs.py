@@ -3,6 +3,7 @@
 
 import pathlib
 import re
+import sys
 import unittest
 
 ROOT = pathlib.Path(__file__).resolve().parent.parent
@@ -79,26 +80,22 @@ class Named(unittest.TestCase):
         """What docs/PROOF.md quotes of a statement is its text in the crates, but for where lines end."""
         text = (ROOT / "docs" / "PROOF.md").read_text()
         quotes = re.findall(r"\n\n((?:    .+\n)+)", text)
-        crates = "\n".join(" ".join(path.read_text().split()) for path in CRATES.glob("*/*/*.antt"))
+        crates = "\n".join(" ".join(path.read_text().split()) for path in CRATES.rglob("*.antt"))
         self.assertGreaterEqual(len(quotes), 3)
         for quote in quotes:
             with self.subTest(quote.split()[0]):
                 self.assertIn(" ".join(quote.split()), crates)
 
-    def test_must_fail(self):
-        """The edits of each crate are those of the table in docs/PROOF.md."""
-        text = (ROOT / "docs" / "PROOF.md").read_text()
-        table = text[text.index("| crate | edit |") :].split("\n\n")[0]
-        rows = [row.split("|")[1:3] for row in table.splitlines()[2:]]
-        listed = {(crate.strip(), edit) for crate, edits in rows for edit in re.findall(r"`(\w+)`", edits)}
-        self.assertEqual(listed, {(path.parts[-3], path.stem) for path in CRATES.glob("*/must-fail/*.edit")})
-
     def test_mutants(self):
-        """The wrong definitions are those of the table in docs/PROOF.md."""
-        text = (ROOT / "docs" / "PROOF.md").read_text()
-        table = text[text.index("| edit | what is wrong |") :].split("\n\n")[0]
-        listed = set(re.findall(r"^\| `(\w+)` \|", table, re.M))
-        self.assertEqual(listed, {path.stem for path in (ROOT / "tests" / "mutants").glob("*.edit")})
+        """Each wrong edit says what is wrong and by which fact it is refused; its crate, and the file of its first error, are there."""
+        sys.path.insert(0, str(ROOT / "tests" / "mutants"))
+        edits = __import__("edits")
+        self.assertGreater(len(edits.names()), 150)
+        for edit in map(edits.Edit, edits.names()):
+            with self.subTest(edit.name):
+                self.assertTrue(edit.what and edit.refused)
+                self.assertIn(edit.crate, NAMES)
+                self.assertTrue(not edit.at or (CRATES / edit.at).is_file())
 
 
 if __name__ == "__main__":

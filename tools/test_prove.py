@@ -76,7 +76,8 @@ class Break(Tools):
         self.put("crates/high/specs/A.antt", "one\n")
         self.put("tests/mutants/freed_at_update.edit", self.EDIT)
         self.put("tests/mutants/silent.edit", self.EDIT.replace("breaks", "says"))
-        shutil.copy(ROOT / "tests" / "mutants" / "run.py", self.root / "tests" / "mutants")
+        for name in ("run.py", "edits.py"):
+            shutil.copy(ROOT / "tests" / "mutants" / name, self.root / "tests" / "mutants")
 
     def test_refused(self):
         status, said = self.run_tool("break.py", BAD, 1)
@@ -104,10 +105,10 @@ class Break(Tools):
         sys.path.insert(0, str(TOOLS))
         breaks = __import__("break")
         text = breaks.plain((ROOT / "docs" / "SPEC.md").read_text())
-        self.assertGreater(len(breaks.names()), 5)
-        for name in breaks.names():
+        self.assertGreater(len(breaks.sentences()), 5)
+        for name, edit in breaks.sentences().items():
             with self.subTest(name):
-                self.assertIn(breaks.plain(breaks.field(name, "breaks")), text)
+                self.assertIn(breaks.plain(edit.breaks), text)
 
 
 if __name__ == "__main__":

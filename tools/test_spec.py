@@ -15,10 +15,9 @@ STARTS = re.compile(r"^\s*(?:abbrev |unfoldable )?(?:pub )?(?:record |data )?([\
 
 
 def source(crate, file):
-    """The text of a file of definitions, or of laws, or nothing."""
+    """The text of a file of definitions, or nothing."""
     specs = ROOT / "crates" / (crate or "model") / "specs"
-    paths = [path for path in (specs / (file + ".antt"), specs / "Laws" / (file + ".antt")) if path.exists()]
-    return paths[0].read_text() if paths else ""
+    return next((path.read_text() for path in (specs / f"{file}.antt", specs / "Laws" / f"{file}.antt") if path.exists()), "")
 
 
 def defined(text):
@@ -32,8 +31,8 @@ def named():
 
 
 def said(file, crate=""):
-    """The names of one file of crates/model/specs, or of another crate's, that the specification names."""
-    return {name for where, name_of, name in named() if (where, name_of) == (crate, file)}
+    """The names of one file of a crate's definitions, the model's if none is named, that the specification names."""
+    return {name for crate_of, name_of, name in named() if (crate_of, name_of) == (crate, file)}
 
 
 def typed(file, kind):
@@ -127,8 +126,7 @@ class Whole(unittest.TestCase):
         self.all_said("Accounts", {"shifted"})
 
     def test_edges(self):
-        text = source("edges", "Edges")
-        names = set(re.findall(r"^ *(e\d+(?:-\w+)?) :", text, re.M))
+        names = set(re.findall(r"^ *(e\d+(?:-\w+)?) :", source("edges", "Edges"), re.M))
         self.all_said("Edges", names, "edges")
 
     def test_tables(self):

@@ -48,14 +48,14 @@ def fields(record):
     return re.findall(r"^  pub ([\w-]+) :", text, re.M)
 
 
-def lengths():
-    """The lengths that question 1 asks for: field, and the length by letters."""
+def lengths(step=STEP):
+    """The lengths that question 1 asks for: field, and the length by letters; a length is a term, the name of a number, or a number."""
     letters = {size.name: size.letter for size in lent.SIZES}
-    found = re.findall(r"same \(length \(\w ((?:\.[\w-]+ ?)+)\)\) (\([^)]*\)|[A-Z]+)", STEP)
+    found = re.findall(r"same \(length \(\w ((?:\.[\w-]+ ?)+)\)\) (\([^)]*\)|[A-Z]+|\d+)", step)
     fixed = dict(re.findall(r"^([A-Z]+) = (\d+)$", STATE, re.M))
     out = {}
     for path, length in found:
-        length = fixed.get(length) or length[1:-1].replace("allPages z", "S * N").replace("mapWords z", "(R + 31) / 32")
+        length = fixed.get(length) or length.strip("()").replace("allPages z", "S * N").replace("mapWords z", "(R + 31) / 32")
         out[path.split(".")[-1].strip()] = re.sub(r"z \.(\w+)", lambda size: letters[size.group(1)], length)
     return out
 
@@ -82,6 +82,8 @@ class Code(unittest.TestCase):
 
     def test_lengths(self):
         self.assertEqual(lengths(), {table.field: table.length for table in lent.TABLES if not table.is_one()})
+        text = "same (length (d .one)) 1 and same (length (m .held .free-map)) (mapWords z) and same (length (m .line)) LINE and same (length (d .more)) (z .slots)"
+        self.assertEqual(lengths(text), {"one": "1", "free-map": "(R + 31) / 32", "line": "32", "more": "S"})
 
     def test_limits(self):
         most = dict(re.findall(r"^most(\w+) = (\d+)$", (CRATES / "model" / "specs" / "Sizes.antt").read_text(), re.M))
@@ -115,8 +117,8 @@ class NewTable(unittest.TestCase):
 
     ROWS = """
         sisters | disk | u16 | Q | sisters | mut | ref | mut | ref | the account's sister
-        highest | disk | u32 | 1 | highest | mut | mut | mut | ref | the highest number given
-        chip | memory | u16 | 32 | chip | - | mut | mut | ref | the records that are held in between
+        serial | disk | u32 | 1 | serial | mut | mut | mut | ref | the number of the disk
+        recent | memory | u16 | 32 | recent | - | mut | mut | ref | the pages that were used last
     """
 
     def setUp(self):
@@ -128,21 +130,21 @@ class NewTable(unittest.TestCase):
 
     def test_everywhere(self):
         for _, name, make in tables.MADE:
-            for table in ("sisters", "highest", "chip"):
+            for table in ("sisters", "serial", "recent"):
                 self.assertIn(table, make(), name)
 
     def test_order(self):
         self.assertEqual([table.name for table in lent.in_call("restart")][:2], ["frames", "pool"])
-        self.assertEqual([table.name for table in lent.in_call("format")][-2:], ["sisters", "highest"])
-        self.assertEqual([table.name for table in lent.in_call("apply")][-2:], ["used", "chip"])
-        self.assertEqual([(table.name, table.lent["mend"]) for table in lent.in_call("mend")][-2:], [("sisters", "ref"), ("highest", "ref")])
+        self.assertEqual([table.name for table in lent.in_call("format")][-2:], ["sisters", "serial"])
+        self.assertEqual([table.name for table in lent.in_call("apply")][-2:], ["used", "recent"])
+        self.assertEqual([(table.name, table.lent["mend"]) for table in lent.in_call("mend")][-2:], [("sisters", "ref"), ("serial", "ref")])
 
     def test_the_header_compiles(self):
         text = (lent.ROOT / "include" / "keeper.h").read_text()
         before, _, after = tables.parts(text, *tables.marks("keeper.h", "tables and calls"), "keeper.h")
         use = (
             "static struct { KEEPER_DISK_TABLES(2, 33, 2, 2, 3, 1) } disk;\nstatic struct { KEEPER_MEMORY_TABLES(2, 33, 2, 2, 3, 1) } memory;\n"
-            "_Static_assert(sizeof disk.sisters == 2 && sizeof disk.highest == 4 && sizeof memory.chip == 64 && sizeof memory.free_map == 8, \"\");\n"
+            "_Static_assert(sizeof disk.sisters == 2 && sizeof disk.serial == 4 && sizeof memory.recent == 64 && sizeof memory.free_map == 8, \"\");\n"
             "KeeperAnswer call(KeeperSizes sizes);\nKeeperAnswer call(KeeperSizes sizes)\n{\n    return keeper_restart(sizes, KEEPER_LEND(memory.frames),"
             " &memory.pool, KEEPER_LEND_DISK(disk), KEEPER_LEND_MEMORY(memory));\n}\n"
         )
@@ -167,7 +169,7 @@ class NewTable(unittest.TestCase):
             made = ceasy.easy()
         text = plain + before.replace('#include "keeper.h"', "") + made + after
         use = (
-            "KeeperAnswer call(Keeper *keeper);\nKeeperAnswer call(Keeper *keeper)\n{\n    keeper->sisters[0] = keeper->highest[0] > keeper->chip[31];\n"
+            "KeeperAnswer call(Keeper *keeper);\nKeeperAnswer call(Keeper *keeper)\n{\n    keeper->sisters[0] = keeper->serial[0] > keeper->recent[31];\n"
             "    keeper_greet(keeper, 1, 0, 2);\n    keeper_easy_format(keeper, keeper->parents);\n    return keeper_easy_restart(keeper, keeper->sisters, 1);\n}\n"
         )
         for words in (["gcc", "-std=c99", "-x", "c"], ["g++", "-std=c++11", "-x", "c++"]):

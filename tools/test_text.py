@@ -5,6 +5,8 @@ import pathlib
 import re
 import unittest
 
+import walks
+
 ROOT = pathlib.Path(__file__).resolve().parent.parent
 LONGEST_LINE = 400
 LONGEST_FILE = 300
@@ -29,10 +31,28 @@ def is_long(text):
     return len(text.splitlines()) > LONGEST_FILE
 
 
-def long_chains(text):
-    """Where a chain of `.before` starts that is too long, by line, and how long it is, over line ends too."""
-    chains = ((match.start(), len(re.findall("before", match.group()))) for match in re.finditer(r"(?:\.before\b\s*)+", text))
-    return [(text.count("\n", 0, start) + 1, length) for start, length in chains if length > LONGEST_CHAIN]
+def long_chains(word):
+    """Finds where a chain of a word, as `.before`, starts that is too long: by line, how long it is, over line ends too, and the word."""
+    def search(text):
+        chains = ((match.start(), match.group().count(word)) for match in re.finditer(rf"(?:{re.escape(word)}\b\s*)+", text))
+        return [(text.count("\n", 0, start) + 1, length, word) for start, length in chains if length > LONGEST_CHAIN]
+    return search
+
+
+def counted_places(text):
+    """Where a place is named by the number of an argument or of a compiler's temporary, by line, and the name."""
+    return [(text.count("\n", 0, match.start()) + 1, match.group()) for match in re.finditer(r"\b[A-Z][\w-]*-(?:arg|t)\d+\b", text)]
+
+
+def by_place():
+    """The proofs that count by place, as docs/DECISIONS.md says."""
+    part = DECISIONS[DECISIONS.index("proofs count by place") :].split(". ")[0]
+    return {ROOT / "crates" / name for name in re.findall(r"`([\w/]+\.antt)`", part)}
+
+
+def by_hand():
+    """The files that a person writes: the walks are made from the list of tables."""
+    return sorted({*sources()} - {walks.proof(name) for name in walks.TEXTS} - by_place())
 
 
 def functions(text):
@@ -62,11 +82,10 @@ def long_functions(body_alone):
     }
 
 
-def excused(start, end):
-    """The functions that docs/DECISIONS.md names between two words: crate and name."""
-    part = DECISIONS[DECISIONS.index(start) :].split(end)[0]
-    groups = re.findall(r"((?:`\w+`(?:, )?)+) \((\w+)\)", part)
-    return {(crate, name) for names, crate in groups for name in re.findall(r"\w+", names)}
+def excused(by):
+    """The functions that tools/long_functions.txt lists as long by their bodies, or only as a whole: crate and name."""
+    rows = [line.split(" | ") for line in (ROOT / "tools" / "long_functions.txt").read_text().splitlines() if not line.startswith("#")]
+    return {(crate, name) for crate, name, kind in rows if kind == by}
 
 
 def excused_files():
@@ -86,10 +105,15 @@ class Found(unittest.TestCase):
 
     def test_chains(self):
         chain = "c" + " .before" * 8
-        self.assertEqual(long_chains(f"{chain} .args\n{chain}\n    .before .args"), [(2, 9)])
-        self.assertEqual(long_chains("c" + ".before" * 9), [(1, 9)])
-        self.assertEqual(long_chains("c" + " .beforehand" * 9), [])
+        self.assertEqual(long_chains(".before")(f"{chain} .args\n{chain}\n    .before .args"), [(2, 9, ".before")])
+        self.assertEqual(long_chains(".before")("c" + ".before" * 9), [(1, 9, ".before")])
+        self.assertEqual(long_chains(".before")("c" + " .beforehand" * 9), [])
+        self.assertEqual(long_chains(".1")("c" + " .1" * 8 + " .0" + " .1" * 9 + " .0"), [(1, 9, ".1")])
+        self.assertEqual(long_chains(".1")("c" + " .1" * 8 + " .10"), [])
 
+    def test_places(self):
+        text = "f : tie.After-carry-arg19 → tie.Need-cast-t54\n\ng : tie.After-carry → tie.Need-cast-total\n"
+        self.assertEqual(counted_places(text), [(1, "After-carry-arg19"), (1, "Need-cast-t54")])
 
     def test_functions(self):
         text = "pub fn a(\n    x: u8,\n) -> u8\n    ensures {\n        record {\n        }\n    }\n{\n    x\n}\n\nfn b() {\n    if c {\n    }\n}\n"
@@ -97,8 +121,8 @@ class Found(unittest.TestCase):
 
 
 class Text(unittest.TestCase):
-    def nowhere(self, search, words):
-        found = [(path.relative_to(ROOT), *place) for path in sources() for place in search(path.read_text())]
+    def nowhere(self, search, words, paths=None):
+        found = [(path.relative_to(ROOT), *place) for path in paths or sources() for place in search(path.read_text())]
         if found:
             self.fail("\n" + "\n".join(words.format(*place) for place in found))
 
@@ -113,11 +137,17 @@ class Text(unittest.TestCase):
         self.assertEqual(excused_files(), long)
 
     def test_no_long_chain(self):
-        self.nowhere(long_chains, "{}:{}: a chain of {} times .before")
+        self.nowhere(long_chains(".before"), "{}:{}: a chain of {} times {}")
+        self.nowhere(long_chains(".1"), "{}:{}: a chain of {} times {}", by_hand())
+        needed = {path for path in by_place() if long_chains(".1")(path.read_text()) or counted_places(path.read_text())}
+        self.assertEqual(by_place(), needed)
+
+    def test_no_counted_place(self):
+        self.nowhere(counted_places, "{}:{}: a place named by a number, {}", by_hand())
 
     def test_long_functions(self):
-        self.assertEqual(excused("By their bodies alone", "Only with"), long_functions(True))
-        self.assertEqual(excused("Only with parameters", "Of them"), long_functions(False))
+        self.assertEqual(excused("body"), long_functions(True))
+        self.assertEqual(excused("whole"), long_functions(False))
 
 
 if __name__ == "__main__":

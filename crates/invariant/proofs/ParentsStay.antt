@@ -1,9 +1,10 @@
 -- "stored on disk at format": no event, and no list of acts, changes a parent.
 use mathlib.Core.Path.{_≡_, refl, _∙_}
-use mathlib.Core.Bool.{Bool, _&&_}
+use mathlib.Core.Bool.{Bool, true, false, _&&_}
 use mathlib.Core.List.{List, [], _∷_}
 use Prim.Native.Nat.{ℕ, zero, suc}
 use lib.Dec.{eqb}
+use Rattle.tables.specs.Base.{if}
 use Rattle.tables.specs.Laws.{if-elim}
 use Rattle.tables.specs.Store.{store}
 use Rattle.tables.specs.Questions.{Asked, ask, none, firstNo}
@@ -16,7 +17,7 @@ use Rattle.model.specs.declared.event.Waiting.the-variants.{Join, Turn}
 use Rattle.model.specs.declared.event.Event.{Event}
 use Rattle.model.specs.declared.event.Event.the-variants as Event
 use Rattle.model.specs.Lines.{FREE, RELEASED}
-use Rattle.model.specs.State.{Disk, Memory, Held, State, files, frames, WRITING}
+use Rattle.model.specs.State.{Disk, Memory, Held, State, files, frames, WRITING, READING}
 use Rattle.model.specs.Setters.{onDisk, onHeld, onSlots, setStates, setOwners, counted}
 use Rattle.model.specs.Rules.{diskRules}
 use Rattle.model.specs.Questions.{questions}
@@ -29,9 +30,12 @@ use Rattle.model.specs.Writeback
 use Rattle.model.specs.Line
 use Rattle.model.specs.Restart as R
 use Rattle.model.specs.Step.{outcome, allFit, answer, carried, result, step, restart}
-use Rattle.model.specs.Acts.{Act, event, looking, restarting, cutting, World, act, run, start, landWrites, landUpdates, landed}
+use Rattle.model.specs.Stores as S
+use Rattle.model.specs.Stores.{Call, stores, byAnswer, made}
+use Rattle.model.specs.Acts.{Act, event, looking, restarting, cutting, World, act, run, start, landWrites, landUpdates, landed, cuttingIn, part, cutOff}
 use Rattle.invariant.proofs.Cases.{fault-by, claim-by, page-done-by}
 use Rattle.invariant.proofs.LineKept.{by-turn}
+use Rattle.invariant.proofs.Stores.{AfterEach, after-first}
 use Rattle.invariant.proofs.Kept.{asked-all}
 
 -- ── one event ──
@@ -100,6 +104,48 @@ unfolding landUpdates Writeback.storeImage
 updates-land z st lands zero d = refl
 updates-land z st lands (suc s) d = if-elim (λ (x : Disk). x .parents ≡ d .parents) (lands s && eqb (files st .updating s) 1) _ _ (λ t. updates-land z st lands s d) (λ t. updates-land z st lands s d)
 
+cut-stays : (z : Sizes) (w : World) (writes updates : ℕ → Bool) (junk : Memory) → cutOff z w writes updates junk .state .disk .parents ≡ w .state .disk .parents
+unfolding landed
+cut-stays z w writes updates junk = if-elim (λ (d : Disk). d .parents ≡ w .state .disk .parents) (w .up) _ _
+    (λ u. updates-land z (w .state) updates (z .slots) _ ∙ writes-land z (w .state) writes (z .frames) (w .state .disk)) (λ u. refl)
+
+-- no store of an event is one of the parents
+abbrev Stays : State → Disk → Type 0
+Stays st d = d .parents ≡ st .disk .parents
+
+stores-stay : (z : Sizes) (st : State) (e : Event) → AfterEach (Stays st) (stores z st (S.event e)) (st .disk)
+unfolding stores Writeback.storeFrame Writeback.storeImage
+stores-stay z st (Event.Account (Limit q n)) = (refl, tt)
+stores-stay z st (Event.Account (Move g t m)) = (refl, tt)
+stores-stay z st (Event.Design (Create s q n)) = (refl, tt)
+stores-stay z st (Event.Design (Delete s)) = (refl, tt)
+stores-stay z st (Event.Design (Activate s)) = tt
+stores-stay z st (Event.Design (Deactivate s)) = tt
+stores-stay z st (Event.Page e) = tt
+stores-stay z st (Event.Writeback Claim) = tt
+stores-stay z st (Event.Writeback (Truncate s k)) = tt
+stores-stay z st (Event.Writeback (Update s)) = tt
+stores-stay z st (Event.Writeback (PageDone g good)) = go (eqb (frames st .frame g .transfer) READING) (eqb good 1)
+  where
+    go : (b c : Bool) → AfterEach (Stays st) (if b [] (if c (Writeback.storeFrame z st g ∷ []) [])) (st .disk)
+    go true c = tt
+    go false true = (refl, tt)
+    go false false = tt
+stores-stay z st (Event.Writeback (MapDone s good)) = go (eqb good 1)
+  where
+    go : (c : Bool) → AfterEach (Stays st) (if c (Writeback.storeImage z st s ∷ []) []) (st .disk)
+    go true = (refl, tt)
+    go false = tt
+stores-stay z st (Event.Waiting e) = tt
+
+part-stays : (z : Sizes) (w : World) (c : Call) (k : ℕ) → part z w c k .state .disk .parents ≡ w .state .disk .parents
+unfolding part made S.answered
+part-stays z w (S.event e) k = after-first (Stays (w .state)) k _ (w .state .disk) refl (go (answer z (w .state) e))
+  where
+    go : (n : ℕ) → AfterEach (Stays (w .state)) (byAnswer n (stores z (w .state) (S.event e))) (w .state .disk)
+    go zero = stores-stay z (w .state) e
+    go (suc n) = tt
+
 act-stays : (z : Sizes) (w : World) (a : Act) → act z w a .state .disk .parents ≡ w .state .disk .parents
 unfolding act restart R.restarted counted landed
 act-stays z w (event e) = parents-stay z (w .state) e
@@ -109,8 +155,8 @@ act-stays z w restarting = go (firstNo (ask 1 (allFit z (w .state)) (ask 2 (disk
     go : (n : ℕ) → outcome n 0 (w .state) (R.restarted z (w .state .disk)) .left .disk .parents ≡ w .state .disk .parents
     go zero = refl
     go (suc n) = refl
-act-stays z w (cutting writes updates junk) = if-elim (λ (d : Disk). d .parents ≡ w .state .disk .parents) (w .up) _ _
-    (λ u. updates-land z (w .state) updates (z .slots) _ ∙ writes-land z (w .state) writes (z .frames) (w .state .disk)) (λ u. refl)
+act-stays z w (cutting writes updates junk) = cut-stays z w writes updates junk
+act-stays z w (cuttingIn c k writes updates junk) = cut-stays z (part z w c k) writes updates junk ∙ part-stays z w c k
 
 -- From any world, along every list of acts, the parents are those that it started with;
 pub parents-along : (z : Sizes) (w : World) (acts : List Act) → run z w acts .state .disk .parents ≡ w .state .disk .parents

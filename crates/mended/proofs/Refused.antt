@@ -19,9 +19,10 @@ use Rattle.model.specs.Step.{outcome, allFit, restart}
 use Rattle.model.specs.Parts.{wordAt}
 use Rattle.model.specs.Ledger as L
 use Rattle.model.specs.Ledger.{Ledger, packDesign, noWrite, noUpdate, finishWrite, finishUpdate, finishWrites, finishUpdates, lose, unwritten}
-use Rattle.model.specs.Acts.{Act, event, looking, restarting, cutting, World, act, allowed, legal, run, noted, start}
+use Rattle.model.specs.Acts.{Act, event, looking, restarting, cutting, cuttingIn, World, act, allowed, legal, run, noted, start}
 use Rattle.model.specs.Demand3.{After, lastInto, lastUpdate, liveListed}
 use Rattle.model.specs.FromPack.{fromPack, writtenWords, packWords, writtenReads, packReads, birthMaps}
+use Rattle.invariant.proofs.Stores.{inside}
 use Rattle.crash.proofs.Writes.{no-write, no-update}
 
 -- nothing open, nothing finished at a cut
@@ -68,6 +69,7 @@ module _ (z : Sizes) (pack : Disk) (high : ¬ (Holds (lower (z .accounts) (at (p
           → (let o = outcome n 0 (w .state) (restarted z (w .state .disk)) in Still pack (record { up = if (eqb (o .answer .refusal) 0) true (w .up); state = o .left; ledger = noted z o (L.restarted (w .state .disk)) (w .ledger) }))
       go zero e = absurd (not-ruled (w .state) (k .disk) (all-yes 0 (ask 1 (allFit z (w .state)) (ask 2 (diskRules z (w .state)) none)) tt e .1 .0))
       go (suc n) e = rw (ne-eqb (suc n) 0 (λ x. omega (arith, x))) k
+  act-still w (cuttingIn c n writes updates junk) t k = absurd (k .down (inside z w c n writes updates junk t .up))
   act-still w (cutting writes updates junk) t k =
       let l = w .ledger in
       let same : finishUpdates (z .slots) updates (finishWrites (z .frames) writes l) ≡ l = ap (finishUpdates (z .slots) updates) (none-written (z .frames) writes l (k .writing)) ∙ none-updated (z .slots) updates l (k .updating) in

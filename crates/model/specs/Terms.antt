@@ -19,7 +19,9 @@ use Rattle.model.specs.Parts.{wordAt, byHand, neighbour}
 use Rattle.model.specs.Step.{allFit, step, restart, look}
 use Rattle.model.specs.Requests.{decoded}
 use Rattle.model.specs.ApplyAll.{requestAt}
-use Rattle.model.specs.Acts.{Act, World, event, looking, restarting, cutting, act}
+use Rattle.model.specs.Stores as S
+use Rattle.model.specs.Stores.{Call}
+use Rattle.model.specs.Acts.{Act, World, event, looking, restarting, cutting, cuttingIn, act}
 
 -- ── tables that pass ──
 -- questions 1 and 2 say yes
@@ -48,6 +50,7 @@ answered z w (event e) = blameless (step z (w .state) e .answer .refusal)
 answered z w (looking s p) = blameless (look z (w .state) s p .answer .refusal)
 answered z w restarting = same (restart z (w .state) .answer .refusal) 0
 answered z w (cutting writes updates junk) = same 0 0
+answered z w (cuttingIn c k writes updates junk) = same 0 0
 
 -- and each act of a list
 abbrev pub allAnswered : Sizes → World → List Act → Rule
@@ -63,12 +66,17 @@ isLimit (Event.Page e) = false
 isLimit (Event.Writeback e) = false
 isLimit (Event.Waiting e) = false
 
--- an act that is no limit event: another event, a page look, a restart, a cut
+-- a call that is no limit event
+abbrev pub noLimitCall : Call → Bool
+noLimitCall (S.event e) = not (isLimit e)
+
+-- an act that is none: another event, a page look, a restart, a cut, also inside another call
 abbrev pub noLimit : Act → Bool
 noLimit (event e) = not (isLimit e)
 noLimit (looking s p) = true
 noLimit restarting = true
 noLimit (cutting writes updates junk) = true
+noLimit (cuttingIn c k writes updates junk) = noLimitCall c
 
 abbrev pub noLimits : List Act → Bool
 noLimits [] = true
@@ -118,6 +126,7 @@ other f (event e) = not (isDone f e)
 other f (looking s p) = true
 other f restarting = false
 other f (cutting writes updates junk) = false
+other f (cuttingIn c k writes updates junk) = false
 
 abbrev pub allOther : ℕ → List Act → Bool
 allOther f [] = true

@@ -94,12 +94,11 @@ returns-3 c =
     let k = h .before .before in
     let s = start (k .before) in
     let a = s .args in
-    let e = t .ensures in
-    restart-left (a .sizes) (lent s) (after w) _ (t .result .answer) (e .0)
+    let (answered, (frames, (words, (queue, (list, (addresses, (states, (owners, (map, (pool, (active, (updating, (images, used))))))))))))) = t .ensures in
+    restart-left (a .sizes) (lent s) (after w) _ (t .result .answer) answered
     (restarted-tables (a .sizes) (lent s .disk)
-    (restarted-lent (a .sizes) (seen (a .accounts .now) (a .maps .now) (a .limits .now) (a .parents .now)) (t .result .frames) (a .lent) (all-lent (a .sizes) (at s) (λ l. refl) (a .frames) (a .lent) (learn (allFit (a .sizes) (lent s)) (fitted k))) (e .1 .0))
-    (e .1 .1 .1 .1 .1 .1 .1 .1 .1 .0) (e .1 .1 .0) (e .1 .1 .1 .0) (e .1 .1 .1 .1 .0) (e .1 .1 .1 .1 .1 .0) (e .1 .1 .1 .1 .1 .1 .0) (e .1 .1 .1 .1 .1 .1 .1 .0) (e .1 .1 .1 .1 .1 .1 .1 .1 .0)
-    (e .1 .1 .1 .1 .1 .1 .1 .1 .1 .1 .0) (e .1 .1 .1 .1 .1 .1 .1 .1 .1 .1 .1 .0) (e .1 .1 .1 .1 .1 .1 .1 .1 .1 .1 .1 .1 .0) (e .1 .1 .1 .1 .1 .1 .1 .1 .1 .1 .1 .1 .1))
+    (restarted-lent (a .sizes) (seen (a .accounts .now) (a .maps .now) (a .limits .now) (a .parents .now)) (t .result .frames) (a .lent) (all-lent (a .sizes) (at s) (λ l. refl) (a .frames) (a .lent) (learn (allFit (a .sizes) (lent s)) (fitted k))) frames)
+    pool words queue list addresses states owners map active updating images used)
     (emptied w .zero16 .ensures ∙ no-line-zeros (a .line .now) (fit-told (a .sizes) (lent s) (fitted k) .memory .line)) (fitted k) (listed h)
 
 pub restart-core-spec : {M : Type 1} → statement M
@@ -136,16 +135,16 @@ restart-core-spec =
     returns-2
     (λ c κs. search needs)
     restart-tables-requires
-    (λ c. let w : tie.After-restart-tables = search in w .restart-tables .kept .1 .1 .1 .1 .1 .0)
-    (λ c. let w : tie.After-restart-tables = search in w .restart-tables .kept .1 .1 .1 .1 .1 .1 .0)
-    (λ c. let w : tie.After-restart-tables = search in w .restart-tables .kept .1 .1 .1 .1 .1 .1 .1 .0)
-    (λ c. let w : tie.After-restart-tables = search in w .restart-tables .kept .1 .1 .1 .1 .1 .1 .1 .1 .0)
-    (λ c. let w : tie.After-restart-tables = search in w .restart-tables .kept .1 .1 .1 .1 .1 .1 .1 .1 .1 .0)
-    (λ c. let w : tie.After-restart-tables = search in w .restart-tables .kept .1 .1 .1 .1 .1 .1 .1 .1 .1 .1 .0)
-    (λ c. let w : tie.After-restart-tables = search in w .restart-tables .kept .1 .1 .1 .1 .1 .1 .1 .1 .1 .1 .1 .0)
-    (λ c. let w : tie.After-restart-tables = search in w .restart-tables .kept .1 .1 .1 .1 .1 .1 .1 .1 .1 .1 .1 .1 .0)
-    (λ c. let w : tie.After-restart-tables = search in w .restart-tables .kept .1 .1 .1 .1 .1 .1 .1 .1 .1 .1 .1 .1 .1 .0)
-    (λ c. let w : tie.After-restart-tables = search in w .restart-tables .kept .1 .1 .1 .1 .1 .1 .1 .1 .1 .1 .1 .1 .1 .1 .0)
+    (λ c. let w : tie.After-restart-tables = search in let k = w .restart-tables .kept in search)
+    (λ c. let w : tie.After-restart-tables = search in let k = w .restart-tables .kept in search)
+    (λ c. let w : tie.After-restart-tables = search in let k = w .restart-tables .kept in search)
+    (λ c. let w : tie.After-restart-tables = search in let k = w .restart-tables .kept in search)
+    (λ c. let w : tie.After-restart-tables = search in let k = w .restart-tables .kept in search)
+    (λ c. let w : tie.After-restart-tables = search in let k = w .restart-tables .kept in search)
+    (λ c. let w : tie.After-restart-tables = search in let k = w .restart-tables .kept in search)
+    (λ c. let w : tie.After-restart-tables = search in let k = w .restart-tables .kept in search)
+    (λ c. let w : tie.After-restart-tables = search in let k = w .restart-tables .kept in search)
+    (λ c. let w : tie.After-restart-tables = search in let k = w .restart-tables .kept in search)
     (λ c. let w : tie.After-restart-tables = search in emptied w .zero16 .kept .0)
-    (λ c. let w : tie.After-restart-tables = search in w .restart-tables .kept .1 .1 .1 .1 .1 .1 .1 .1 .1 .1 .1 .1 .1 .1 .1 .0)
+    (λ c. let w : tie.After-restart-tables = search in let k = w .restart-tables .kept in search)
     returns-3)

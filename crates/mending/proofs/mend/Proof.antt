@@ -150,28 +150,6 @@ drop-shared-requires c κs =
     let c4 = chain-next z l f 3 c3 (p4 .fit-entries .ensures _ _) in
     (given-maps z l f r c4, chain-fit z l f c4)
 
-cast-t54 : tie.Need-cast-t54
-cast-t54 c =
-    let p5 : tie.After-drop-shared = search in
-    let p4 = fourth p5 in
-    let p3 = third p4 in
-    let p2 = second p3 in
-    let p1 = first p2 in
-    let e = roomed p1 in
-    let t = fitted e in
-    let s = start t in
-    let z = s .args .sizes in
-    let l = lent s in
-    let f = said-yes (fits z l) (t .before .disk-fit .ensures) (t .if1 .taken) in
-    let r : Holds (roomy z l) = λ h. omega (arith, h, e .if2 .left) in
-    let c0 = chain-none z l f in
-    let c1 = chain-next z l f 0 c0 (p1 .empty-doubled .ensures) in
-    let c2 = chain-next z l f 1 c1 (p2 .empty-unfilled .ensures) in
-    let c3 = chain-next z l f 2 c2 (p3 .fit-accounts .ensures _ _) in
-    let c4 = chain-next z l f 3 c3 (p4 .fit-entries .ensures _ _) in
-    let c5 = chain-next z l f 4 c4 (p5 .drop-shared .ensures _ _) in
-    omega (arith, chain-most z l f c5)
-
 returns-3 : tie.Need-returns-3
 returns-3 c =
     let p5 : tie.After-drop-shared = search in
@@ -199,4 +177,24 @@ mend-spec =
     tie.close
     (tie.spec (λ c κs. search needs) (λ c. search needs) (λ c. search needs) (λ c. search needs) returns add-if2 mul-if2 mul-if2-2
     (λ c. search needs) (λ c. search needs) (λ c. search needs) returns-2 empty-doubled-requires empty-unfilled-requires fit-accounts-requires fit-entries-requires drop-shared-requires
-    cast-t54 (λ c. search needs) (λ c. search needs) (λ c. search needs) (λ c. search needs) returns-3)
+    (λ c.
+    let p5 : tie.After-drop-shared = search in
+    let p4 = fourth p5 in
+    let p3 = third p4 in
+    let p2 = second p3 in
+    let p1 = first p2 in
+    let e = roomed p1 in
+    let t = fitted e in
+    let s = start t in
+    let z = s .args .sizes in
+    let l = lent s in
+    let f = said-yes (fits z l) (t .before .disk-fit .ensures) (t .if1 .taken) in
+    let r : Holds (roomy z l) = λ h. omega (arith, h, e .if2 .left) in
+    let c0 = chain-none z l f in
+    let c1 = chain-next z l f 0 c0 (p1 .empty-doubled .ensures) in
+    let c2 = chain-next z l f 1 c1 (p2 .empty-unfilled .ensures) in
+    let c3 = chain-next z l f 2 c2 (p3 .fit-accounts .ensures _ _) in
+    let c4 = chain-next z l f 3 c3 (p4 .fit-entries .ensures _ _) in
+    let c5 = chain-next z l f 4 c4 (p5 .drop-shared .ensures _ _) in
+    omega (arith, chain-most z l f c5))
+    (λ c. search needs) (λ c. search needs) (λ c. search needs) (λ c. search needs) returns-3)

@@ -90,27 +90,28 @@ rules-disk z st h = (h .empty-account, (h .empty-map, (h .map-fit, (h .map-once,
 
 records-ruled : (z : Sizes) (st : State) → Holds (Rules.rangeRules z st) → Holds (Rules.recordRules z st) → OfRecords z (files st)
 unfolding Rules.rangeRules Rules.recordRules
-records-ruled z st a h = record {
-  address-fit = a .0;
-  image-fit = a .1 .0;
-  state-fit = a .1 .1 .0;
-  owner-fit = a .1 .1 .1 .0;
-  active-fit = a .1 .1 .1 .1 .0;
-  updating-fit = a .1 .1 .1 .1 .1;
-  held-once = h .0;
-  held = h .1 .0;
-  held-by = h .1 .1 .0;
-  filed = h .1 .1 .1 .0;
-  filed-by = h .1 .1 .1 .1 .0;
-  mapped = h .1 .1 .1 .1 .1 .0;
-  imaged = h .1 .1 .1 .1 .1 .1 .0;
-  image-once = h .1 .1 .1 .1 .1 .1 .1 .0;
-  image-zero = h .1 .1 .1 .1 .1 .1 .1 .1 .0;
-  leaving-begun = h .1 .1 .1 .1 .1 .1 .1 .1 .1 .0;
-  active-filled = h .1 .1 .1 .1 .1 .1 .1 .1 .1 .1 .0;
-  address-active = h .1 .1 .1 .1 .1 .1 .1 .1 .1 .1 .1 .0;
-  update-active = h .1 .1 .1 .1 .1 .1 .1 .1 .1 .1 .1 .1;
-}
+records-ruled z st a h =
+    let (held-once, (held, (held-by, (filed, (filed-by, (mapped, (imaged, (image-once, (image-zero, (leaving-begun, (active-filled, (address-active, update-active)))))))))))) = h in record {
+      address-fit = a .0;
+      image-fit = a .1 .0;
+      state-fit = a .1 .1 .0;
+      owner-fit = a .1 .1 .1 .0;
+      active-fit = a .1 .1 .1 .1 .0;
+      updating-fit = a .1 .1 .1 .1 .1;
+      held-once = held-once;
+      held = held;
+      held-by = held-by;
+      filed = filed;
+      filed-by = filed-by;
+      mapped = mapped;
+      imaged = imaged;
+      image-once = image-once;
+      image-zero = image-zero;
+      leaving-begun = leaving-begun;
+      active-filled = active-filled;
+      address-active = address-active;
+      update-active = update-active;
+    }
 
 rules-ranges : (z : Sizes) (st : State) → OfRecords z (files st) → Holds (Rules.rangeRules z st)
 unfolding Rules.rangeRules

@@ -28,7 +28,7 @@ abbrev μ-loop : tie.MeasureT-loop
 abbrev start : tie.At-loop Inv-loop μ-loop → tie.Start Inv-loop μ-loop
 start l = search
 
-abbrev turning : tie.After-turn-arg19 Inv-loop μ-loop → tie.In-loop Inv-loop μ-loop
+abbrev turning : tie.After-turn Inv-loop μ-loop → tie.In-loop Inv-loop μ-loop
 turning c = search
 
 abbrev turned : tie.After-slice-known38 Inv-loop μ-loop → tie.After-turn Inv-loop μ-loop
@@ -42,7 +42,7 @@ loop-holds c = (omega arith, turned-none, refl, λ h. refl, λ h. absurd (omega 
 
 turn-requires : tie.Need-turn-requires Inv-loop μ-loop
 turn-requires c κs =
-    let i = turning c in
+    let i : tie.In-loop Inv-loop μ-loop = search in
     let s = start (i .before) in (
       omega (arith, s .pre .0, i .loop-test .taken),
       omega (arith, s .pre .1, i .loop-test .taken, turned-long (i .before .loop .inv .1)),
@@ -50,15 +50,15 @@ turn-requires c κs =
     )
 
 add-k : tie.Need-add-k Inv-loop μ-loop
-add-k c = let i = turning (turned c .before) in omega (arith, i .loop-test .taken, start (i .before) .fits .n)
+add-k c = let i = turning (turned c) in omega (arith, i .loop-test .taken, start (i .before) .fits .n)
 
 loop-less : tie.Need-loop-less Inv-loop μ-loop
-loop-less c = let i = turning (turned c .before) in omega (arith, i .loop-test .taken)
+loop-less c = let i = turning (turned c) in omega (arith, i .loop-test .taken)
 
 loop-again : tie.Need-loop-again Inv-loop μ-loop
 loop-again c =
     let w = turned c in
-    let i = turning (w .before) in
+    let i = turning w in
     let l = i .before .loop in (
       omega (arith, i .loop-test .taken),
       turned-next (l .inv .1) (w .turn .ensures .0),

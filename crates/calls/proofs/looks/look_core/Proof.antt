@@ -12,10 +12,10 @@ abbrev start : tie.After-place-core → tie.Start
 start k = search
 
 add-end : tie.Need-add-end
-add-end c = let s : tie.Start = search in omega (arith, c .before .place-core .ensures .1, s .good .1 .1 .1 .1 .1 .1 .1 .1 .1 .1 .1 .1 .1 .0 .0)
+add-end c = let s : tie.Start = search in omega (arith, c .before .place-core .ensures .1, s .good)
 
 mul-result : tie.Need-mul-result
-mul-result c = let s : tie.Start = search in omega (arith, c .before .place-core .ensures .1, s .good .1 .1 .1 .1 .1 .1 .1 .1 .1 .1 .1 .1 .1 .0 .1)
+mul-result c = let s : tie.Start = search in omega (arith, c .before .place-core .ensures .1, s .good)
 
 returns : tie.Need-returns
 returns c =

@@ -5,7 +5,7 @@ use Rattle.replay.proofs.machine.start.Statement.{statement}
 use Rattle.replay.proofs.machine.start.Tie as tie
 
 -- the place before the call
-abbrev blanked : tie.After-carry-arg18 → tie.After-blank
+abbrev blanked : tie.After-carry → tie.After-blank
 blanked c = search
 
 abbrev sized : tie.After-format → tie.After-sizes
@@ -13,7 +13,7 @@ sized f = search
 
 returns : tie.Need-returns
 returns c =
-    let b = blanked (c .before) in
+    let b = blanked c in
     let k = b .before in
     let f = k .before in
     let z = sized f in

@@ -26,7 +26,7 @@ abbrev μ-loop : tie.MeasureT-loop
 abbrev In : Type 0
 In = tie.In-loop Inv-loop μ-loop
 
-abbrev turned : tie.After-carry-arg17 Inv-loop μ-loop → In
+abbrev turned : tie.After-carry Inv-loop μ-loop → In
 turned c = search
 
 loop-holds : tie.Need-loop-holds Inv-loop μ-loop
@@ -36,17 +36,17 @@ add-n : tie.Need-add-n Inv-loop μ-loop
 add-n c = let t : In = search in omega (arith, at-room (t .before .loop .inv) (t .before .before .before .before .before .pre) (t .loop-test .taken))
 
 event-requires : tie.Need-event-requires Inv-loop μ-loop
-event-requires c κs = let k : tie.After-carry Inv-loop μ-loop = search in let t = turned (k .before) in at-room (t .before .loop .inv) (t .before .before .before .before .before .pre) (t .loop-test .taken) .0
+event-requires c κs = let k : tie.After-carry Inv-loop μ-loop = search in let t = turned k in at-room (t .before .loop .inv) (t .before .before .before .before .before .pre) (t .loop-test .taken) .0
 
 loop-less : tie.Need-loop-less Inv-loop μ-loop
-loop-less c = let k : tie.After-carry Inv-loop μ-loop = search in let t = turned (k .before) in omega (arith, at-room (t .before .loop .inv) (t .before .before .before .before .before .pre) (t .loop-test .taken) .1)
+loop-less c = let k : tie.After-carry Inv-loop μ-loop = search in let t = turned k in omega (arith, at-room (t .before .loop .inv) (t .before .before .before .before .before .pre) (t .loop-test .taken) .1)
 
 loop-again : tie.Need-loop-again Inv-loop μ-loop
 loop-again c =
     let s : tie.After-step-at2 Inv-loop μ-loop = search in
     let e : tie.After-event Inv-loop μ-loop = search in
     let k : tie.After-carry Inv-loop μ-loop = search in
-    let t = turned (k .before) in
+    let t = turned k in
     at-more (t .before .loop .inv) (t .loop-test .taken) (k .carry .ensures) (e .event .ensures) (s .step-at2 .ensures)
 
 same-length : tie.Need-same-length Inv-loop μ-loop

@@ -21,12 +21,6 @@ fill-queue-requires c κs =
     let s₀ : tie.Start = search in
     let p = s₀ .pre in omega (arith, p .free-queue-long, p .recorded .within .frames-most)
 
-cast-t44 : tie.Need-cast-t44
-cast-t44 c =
-    let records : tie.After-restart-records = search in let t = records .restart-records in
-    let s = begun (cleared records) in
-    omega (arith, pool-room (s .args .sizes) (seen (s .args .accounts .now) (s .args .maps .now) (s .args .limits .now) (s .args .parents .now)) (t .result) (s .pre .recorded .within) (t .ensures .1 .1 .1 .1))
-
 returns : tie.Need-returns
 returns c =
     let records : tie.After-restart-records = search in let t = records .restart-records .ensures in
@@ -76,4 +70,8 @@ returns c =
 pub restart-tables-spec : {M : Type 1} → statement M
 restart-tables-spec =
     tie.close
-    (tie.spec (λ c κs. search needs) fill-queue-requires (λ c κs. search needs) (λ c κs. search needs) cast-t44 (λ c. search needs) (λ c. search needs) (λ c. search needs) (λ c. search needs) (λ c. search needs) (λ c. search needs) (λ c. search needs) (λ c. search needs) (λ c. search needs) (λ c. search needs) (λ c. search needs) returns)
+    (tie.spec (λ c κs. search needs) fill-queue-requires (λ c κs. search needs) (λ c κs. search needs) (λ c.
+    let records : tie.After-restart-records = search in let t = records .restart-records in
+    let s = begun (cleared records) in
+    omega (arith, pool-room (s .args .sizes) (seen (s .args .accounts .now) (s .args .maps .now) (s .args .limits .now) (s .args .parents .now)) (t .result) (s .pre .recorded .within) (t .ensures .1 .1 .1 .1)))
+    (λ c. search needs) (λ c. search needs) (λ c. search needs) (λ c. search needs) (λ c. search needs) (λ c. search needs) (λ c. search needs) (λ c. search needs) (λ c. search needs) (λ c. search needs) (λ c. search needs) returns)

@@ -88,15 +88,15 @@ fetch-spec =
     fault-requires
     claim-requires
     (λ c κs. search needs)
-    (λ c. let m : tie.After-claim = search in let t : tie.Then1 = search in m .claim .kept .1 .0 ∙ faulted (t .before) .fault .kept .1 .1 .1 .0)
-    (λ c. let t : tie.Then1 = search in faulted (t .before) .fault .kept .1 .1 .1 .1 .1 .1 .0)
-    (λ c. let m : tie.After-claim = search in let t : tie.Then1 = search in m .claim .kept .1 .1 .1 .1 .1 .1 .0 ∙ faulted (t .before) .fault .kept .1 .1 .1 .1 .1 .1 .1 .0)
-    (λ c. let m : tie.After-claim = search in let t : tie.Then1 = search in m .claim .kept .1 .1 .1 .1 .1 .1 .1 .0 ∙ faulted (t .before) .fault .kept .1 .1 .1 .1 .1 .1 .1 .1 .0)
-    (λ c. let t : tie.Then1 = search in faulted (t .before) .fault .kept .1 .1 .1 .1 .1 .1 .1 .1 .1 .0)
-    (λ c. let m : tie.After-claim = search in let t : tie.Then1 = search in m .claim .kept .1 .1 .1 .1 .1 .1 .1 .1 .1 .0 ∙ faulted (t .before) .fault .kept .1 .1 .1 .1 .1 .1 .1 .1 .1 .1 .0)
-    (λ c. let t : tie.Then1 = search in faulted (t .before) .fault .kept .1 .1 .1 .1 .1 .1 .1 .1 .1 .1 .1 .0)
-    (λ c. let t : tie.Then1 = search in faulted (t .before) .fault .kept .1 .1 .1 .1 .1 .1 .1 .1 .1 .1 .1 .1 .0)
-    (λ c. let m : tie.After-claim = search in m .claim .kept .1 .1 .1 .1 .1 .1 .1 .1 .1 .1 .0)
+    (λ c. let m : tie.After-claim = search in let t : tie.Then1 = search in omega (arith, m .claim .kept, faulted (t .before) .fault .kept))
+    (λ c. let t : tie.Then1 = search in let k = faulted (t .before) .fault .kept in search)
+    (λ c. let m : tie.After-claim = search in let t : tie.Then1 = search in omega (arith, m .claim .kept, faulted (t .before) .fault .kept))
+    (λ c. let m : tie.After-claim = search in let t : tie.Then1 = search in omega (arith, m .claim .kept, faulted (t .before) .fault .kept))
+    (λ c. let t : tie.Then1 = search in let k = faulted (t .before) .fault .kept in search)
+    (λ c. let m : tie.After-claim = search in let t : tie.Then1 = search in omega (arith, m .claim .kept, faulted (t .before) .fault .kept))
+    (λ c. let t : tie.Then1 = search in let k = faulted (t .before) .fault .kept in search)
+    (λ c. let t : tie.Then1 = search in let k = faulted (t .before) .fault .kept in search)
+    (λ c. let m : tie.After-claim = search in let k = m .claim .kept in search)
     returns
     settle-requires
     (λ c. search needs)
