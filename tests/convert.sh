@@ -12,17 +12,7 @@ gcc $strict examples/weaver.c examples/filedisk*.c target/staticlib/libkeeper.a 
 export ASAN_OPTIONS=detect_leaks=0 # a program that ends gives its memory back
 folder=$(mktemp -d)
 trap 'rm -rf "$folder"' EXIT
-passed=0
-failed=0
-# same WHAT FOUND WANTED
-same() {
-    if [ "$2" = "$3" ]; then
-        passed=$((passed + 1))
-    else
-        failed=$((failed + 1))
-        printf '%s:\n%s\nnot\n%s\n' "$1" "$2" "$3"
-    fi
-}
+. tests/same.sh
 # refused WHAT OLD LINE: status 1, that line, and nothing made
 refused() {
     status=0

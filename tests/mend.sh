@@ -9,17 +9,7 @@ gcc $strict tools/mend.c examples/filedisk*.c target/staticlib/libkeeper.a -o ta
 gcc $strict tests/mend.c examples/filedisk*.c target/staticlib/libkeeper.a -o target/mend/packs
 folder=$(mktemp -d)
 trap 'rm -rf "$folder"' EXIT
-passed=0
-failed=0
-# same WHAT FOUND WANTED
-same() {
-    if [ "$2" = "$3" ]; then
-        passed=$((passed + 1))
-    else
-        failed=$((failed + 1))
-        printf '%s:\n%s\nnot\n%s\n' "$1" "$2" "$3"
-    fi
-}
+. tests/same.sh
 # refused WHAT PACK LINE: status 1, that line, and nothing made
 refused() {
     status=0

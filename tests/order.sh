@@ -5,17 +5,7 @@ set -eu
 cd "$(dirname "$0")/.."
 mkdir -p target/order
 rm -f target/order/*
-passed=0
-failed=0
-# same WHAT FOUND WANTED
-same() {
-    if [ "$2" = "$3" ]; then
-        passed=$((passed + 1))
-    else
-        failed=$((failed + 1))
-        printf '%s:\n%s\nnot\n%s\n' "$1" "$2" "$3"
-    fi
-}
+. tests/same.sh
 # no part of the keeper is called, and none is linked
 flags="-std=c99 -O1 -Wall -Wextra -Werror -pedantic -Iinclude -Iexamples -no-pie -Wl,--defsym=keeper_format=0,--defsym=keeper_restart=0"
 sources="tests/order.c examples/filedisk.c examples/filedisk_bytes.c examples/filedisk_journal.c examples/filedisk_file.c"
