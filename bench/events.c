@@ -113,7 +113,7 @@ static int free_down(const struct keeper *k, int from, int end)
 }
 
 /* The first free record counting up from the hand. */
-static size_t pick_by_hand(const struct keeper *k)
+size_t pick_by_hand(const struct keeper *k)
 {
     int hand = (int)k->memory.pool->hand;
     int record = free_up(k, hand, (int)k->sizes.records);
@@ -121,7 +121,7 @@ static size_t pick_by_hand(const struct keeper *k)
 }
 
 /* The free record nearest to one that is held, of two equally near the lower: as far again each time, on both sides. */
-static size_t pick_near(const struct keeper *k, size_t held)
+size_t pick_near(const struct keeper *k, size_t held)
 {
     int at = (int)held, records = (int)k->sizes.records;
     for (int passed = 0, reach = 32;; passed = reach, reach *= 2) {
@@ -156,16 +156,22 @@ size_t PICK_ALONE(const struct keeper *keeper, size_t page)
 }
 #endif
 
-static void take_record(struct keeper *k, size_t page)
+/* A free record becomes a slot's. */
+void take(struct keeper *k, size_t record, size_t slot, uint8_t state)
 {
     struct memory *m = &k->memory;
-    size_t record = pick(k, page);
     m->free_map.at[record / 32] &= ~(UINT32_C(1) << (record % 32));
     m->pool->free--;
     m->pool->hand = (uint32_t)((record + 1) % k->sizes.records);
-    m->states.at[record] = NULLED;
-    m->owners.at[record] = (uint8_t)(page / k->sizes.pages);
-    m->addresses.at[page] = (uint16_t)(record + 1);
+    m->states.at[record] = state;
+    m->owners.at[record] = (uint8_t)slot;
+}
+
+static void take_record(struct keeper *k, size_t page)
+{
+    size_t record = pick(k, page);
+    take(k, record, page / k->sizes.pages, NULLED);
+    k->memory.addresses.at[page] = (uint16_t)(record + 1);
 }
 
 static uint32_t fault(struct keeper *k, size_t page)

@@ -11,13 +11,18 @@ enum { LOOK = 0x100 };
 /* how a turn treats the first request of the line; SENT_AWAY + n: question n sends it away */
 enum { NOBODY, SERVED, TO_BACK, FAULTS, CLAIMS, SENT_AWAY };
 
+uint32_t common(const struct keeper *k);
 bool fits_disk(const struct keeper *k);
 bool fits_memory(const struct keeper *k);
 bool keeps_disk_rules(const struct keeper *k);
 bool keeps_memory_rules(const struct keeper *k);
 uint32_t first_refusal(const struct keeper *k, const struct request *r);
+uint32_t refuses_create(const struct keeper *k, size_t slot, uint32_t number);
 uint32_t treatment(const struct keeper *k);
 uint32_t carry_out(struct keeper *k, const struct request *r);
+size_t pick_by_hand(const struct keeper *k);
+size_t pick_near(const struct keeper *k, size_t held);
+void take(struct keeper *k, size_t record, size_t slot, uint8_t state);
 uint32_t refuses_move(const struct keeper *k, const struct request *r);
 void move_pages(struct keeper *k, const struct request *r);
 void set_limit(struct keeper *k, size_t account, uint32_t pages);

@@ -5,7 +5,7 @@
 static struct answer refused(uint32_t number) { return (struct answer){.refusal = number}; }
 
 /* Questions 1 and 2. */
-static uint32_t common(const struct keeper *k)
+uint32_t common(const struct keeper *k)
 {
     if (!fits_disk(k) || !fits_memory(k))
         return 1;

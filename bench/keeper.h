@@ -80,5 +80,8 @@ struct answer keeper_mend(struct keeper *keeper, struct changes changes);
 struct answer keeper_apply_all(
     struct keeper *keeper, const uint32_t *requests, size_t requests_count, uint32_t *answers, size_t answers_count);
 struct part keeper_page_look(const struct keeper *keeper, size_t slot, size_t page);
+struct answer keeper_export(const struct keeper *keeper, size_t slot, uint8_t *sheet, size_t sheet_count);
+struct answer keeper_import(
+    struct keeper *keeper, size_t slot, size_t account, uint32_t number, const uint8_t *sheet, size_t sheet_count);
 
 #endif

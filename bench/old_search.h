@@ -15,7 +15,7 @@ static size_t find_free(const uint32_t *map, size_t from, size_t to)
     return to;
 }
 
-static size_t pick_by_hand(const struct keeper *k)
+size_t pick_by_hand(const struct keeper *k)
 {
     const uint32_t *map = k->memory.free_map.at;
     size_t high = find_free(map, k->memory.pool->hand, k->sizes.records);
@@ -27,7 +27,7 @@ static bool free_at(const struct keeper *k, size_t record)
     return record < k->sizes.records && (k->memory.free_map.at[record / 32] >> (record % 32)) % 2 == 1;
 }
 
-static size_t pick_near(const struct keeper *k, size_t held)
+size_t pick_near(const struct keeper *k, size_t held)
 {
     size_t end = held + k->sizes.records;
     for (size_t distance = 0; distance <= end; distance++) {

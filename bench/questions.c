@@ -1,4 +1,4 @@
-/* Questions 3 to 27, in number order for each event. */
+/* Questions 3 to 27, in number order for each event. Those of the sheets are in sheets.c. */
 #include "inside.h"
 
 static bool in_range(const struct keeper *k, const struct request *r)
@@ -19,12 +19,12 @@ static bool in_range(const struct keeper *k, const struct request *r)
     }
 }
 
-static uint32_t create(const struct keeper *k, const struct request *r)
+uint32_t refuses_create(const struct keeper *k, size_t slot, uint32_t number)
 {
-    if (k->disk.numbers.at[r->first] != 0)
+    if (k->disk.numbers.at[slot] != 0)
         return 5;
-    for (size_t slot = 0; slot < k->sizes.slots; slot++)
-        if (k->disk.numbers.at[slot] == r->third)
+    for (size_t other = 0; other < k->sizes.slots; other++)
+        if (k->disk.numbers.at[other] == number)
             return 6;
     return 0;
 }
@@ -131,7 +131,7 @@ uint32_t first_refusal(const struct keeper *k, const struct request *r)
     if (!in_range(k, r))
         return 3;
     switch (r->kind) { /* no slot events */
-    case CREATE: return create(k, r);
+    case CREATE: return refuses_create(k, r->first, r->third);
     case LIMIT: return 0;
     case MOVE: return refuses_move(k, r);
     case CLAIM: return nothing_to_claim(k);

@@ -3,6 +3,7 @@
 
 run.py [--into FILE]    measures and prints the tables; or puts them into FILE, in place of all below its heading '## Tables'
 run.py --search         measures and prints the table of the search for a free record alone
+run.py --sheets         measures and prints the table of design sheets
 """
 import datetime
 import os
@@ -19,16 +20,21 @@ BENCH = ROOT / "target" / "cargo" / "bench-run" / "bench"
 SEARCH = OUT / "search"
 ALONE = OUT / "alone"
 SEARCH_ALONE = OUT / "search_alone"
-PORT = ["keeper", "accounts", "rules", "questions", "events"]
+CARRY = OUT / "carry"
+GCC = ["gcc", "-O2", "-Wall", "-Wextra", "-Werror"]
+PORT = ["keeper", "accounts", "rules", "questions", "events", "sheets"]
 # what the C port's files share; in the port with the old search each name is another
-CALLS = ["keeper_format", "keeper_restart", "keeper_apply", "keeper_apply_all", "keeper_mend", "keeper_page_look"]
+CALLS = ["keeper_format", "keeper_restart", "keeper_apply", "keeper_apply_all", "keeper_mend", "keeper_page_look", "keeper_export", "keeper_import"]
 INSIDE = [
     "fits_disk", "fits_memory", "keeps_disk_rules", "keeps_memory_rules", "first_refusal", "treatment", "carry_out", "refuses_move", "move_pages", "set_limit", "are_lower",
+    "common", "refuses_create", "pick_by_hand", "pick_near", "take",
 ]
 BUILD = "cargo build --quiet --offline --profile bench-run --manifest-path tests/reference/Cargo.toml --target-dir target/cargo --bin bench"
 # callgrind counts a repeated string instruction once a step: in the counting run the C library is to use none
 NO_REPEATS = {"GLIBC_TUNABLES": "glibc.cpu.hwcaps=-ERMS,-FSRM"}
 SIZES = ["smallest", "middle", "largest"]
+# where design sheets are measured
+CARRIED = {"middle": "W 64 R 512 F 16 S 16 N 64 Q 4", "largest": "W 1024 R 4096 F 64 S 64 N 256 Q 16"}
 SECONDS = "20"
 HEADING = "## Tables"
 # the mean leaves these out: they are no events of a running keeper
@@ -93,28 +99,31 @@ def built_alone():
     return str(ALONE / "target/staticlib/libalone.a")
 
 
+def built_port(side):
+    """The C port's objects, as it is (c) and with the old search (old), each with names of its own."""
+    names = {"c": [f"-D{call}={call.replace('keeper', 'c_port')}" for call in CALLS] + ["-DPICK_ALONE=c_port_pick"],
+             "old": ["-DOLD_SEARCH", *(f"-D{call}={call.replace('keeper', 'old_port')}" for call in CALLS), *(f"-D{name}=old_{name}" for name in INSIDE),
+                     "-DPICK_ALONE=old_port_pick"]}[side]
+    objects = [str(OUT / f"{side}_{file}.o") for file in PORT]
+    for file, made in zip(PORT, objects):
+        output(*GCC, "-std=c11", *names, "-c", "-o", made, f"bench/{file}.c")
+    return objects
+
+
 def built_search():
     """Builds bench/search.c with the proved keeper and two C ports, as it is and with the old search; and bench/alone.c with the three searches."""
-    gcc = ["gcc", "-O2", "-Wall", "-Wextra", "-Werror"]
-    sides = {"c": [f"-D{call}={call.replace('keeper', 'c_port')}" for call in CALLS] + ["-DPICK_ALONE=c_port_pick"],
-             "old": ["-DOLD_SEARCH", *(f"-D{call}={call.replace('keeper', 'old_port')}" for call in CALLS), *(f"-D{name}=old_{name}" for name in INSIDE),
-                     "-DPICK_ALONE=old_port_pick"]}
-    objects = []
-    for side, names in sides.items():
-        for file in PORT:
-            objects.append(str(OUT / f"{side}_{file}.o"))
-            output(*gcc, "-std=c11", *names, "-c", "-o", objects[-1], f"bench/{file}.c")
-    output(*gcc, "-std=gnu11", "-o", str(SEARCH), "bench/search.c", *objects, str(LIBRARY))
-    output(*gcc, "-std=gnu11", "-o", str(SEARCH_ALONE), "bench/alone.c", *objects, built_alone())
+    objects = built_port("c") + built_port("old")
+    output(*GCC, "-std=gnu11", "-o", str(SEARCH), "bench/search.c", *objects, str(LIBRARY))
+    output(*GCC, "-std=gnu11", "-o", str(SEARCH_ALONE), "bench/alone.c", *objects, built_alone())
 
 
-def counted_calls(program, calls):
+def counted_calls(program, calls, *words):
     """Instructions of each call that a program makes, so many a case, by case: callgrind writes a file for each call."""
     file = OUT / f"{program.name}.callgrind"
     for old in OUT.glob(f"{file.name}*"):
         old.unlink()
     run = ["valgrind", "--quiet", "--tool=callgrind", "--instr-atstart=no", f"--callgrind-out-file={file}"]
-    cases = output(*run, str(program), more=NO_REPEATS).splitlines()
+    cases = output(*run, str(program), *words, more=NO_REPEATS).splitlines()
     texts = [OUT.joinpath(f"{file.name}.{n + 1}").read_text() for n in range(calls * len(cases))]
     counts = [int(re.search(r"^totals: (\d+)", text, re.MULTILINE)[1]) for text in texts]
     return {case: counts[calls * n:calls * (n + 1)] for n, case in enumerate(cases)}
@@ -142,6 +151,22 @@ def search():
         whole = [f"{times[case][n]:,.0f}" for n in (2, 0, 1)] + [f"{counts[case][n]:,}" for n in (2, 0, 1)]
         place = "at the hand" if by == "none" else f"{int(distance):,} {side}"
         yield f"| {'hand' if by == 'none' else by} | {place} | {' | '.join(ns + own + whole)} |"
+    yield ""
+
+
+def sheets(names):
+    """The table of design sheets, for the sizes by their names."""
+    print("sheets ..", file=sys.stderr)
+    output(*GCC, "-std=gnu11", "-o", str(CARRY), "bench/carry.c", *built_port("c"), str(LIBRARY))
+    yield "### Design sheets: a design all of whose pages have words\n"
+    yield "Export and import of it, into an empty slot while as many records are free as it has pages; who lists the others is by chance. Nanoseconds a call.\n"
+    yield "| size | call | keeper | C | keeper/C | instructions keeper/C | keeper instructions | C instructions |\n|---|---|" + "--:|" * 6
+    for size, name in names.items():
+        times, counts = fields(output(str(CARRY), size, SECONDS)), counted_calls(CARRY, 2, size)
+        for call in counts:
+            keeper, c_port = map(float, times[call])
+            own, other = counts[call]
+            yield f"| {name} | {call} | {keeper:,.0f} | {c_port:,.0f} | {keeper / c_port:.2f} | {own / other:.2f} | {own:,} | {other:,} |"
     yield ""
 
 
@@ -194,20 +219,20 @@ def machine():
 
 def main():
     into = pathlib.Path(sys.argv[2]) if sys.argv[1:2] == ["--into"] and len(sys.argv) == 3 else None
-    alone = sys.argv[1:] == ["--search"]
+    alone = sys.argv[1] if sys.argv[1:] in (["--search"], ["--sheets"]) else None
     if sys.argv[1:] and not into and not alone:
         sys.exit(__doc__)
     if not LIBRARY.exists():
         sys.exit("run.py: the keeper's library is not built: make bench, or rt staticlib keeper")
     OUT.mkdir(parents=True, exist_ok=True)
-    searches = list(search())
     if alone:
-        print("\n".join([*machine(), *searches]))
+        print("\n".join([*machine(), *(search() if alone == "--search" else sheets(CARRIED))]))
         return
+    searches, carried = list(search()), list(sheets(CARRIED))
     subprocess.run(BUILD.split(), cwd=ROOT, check=True)
     sizes = [measured(size) for size in SIZES]
     lists = [line for size, (name, _, _) in zip(SIZES, sizes) for line in lists_table(name, size)]
-    lines = [*machine(), *summary(sizes), *searches, *(line for size in sizes for line in table(*size)), *lists]
+    lines = [*machine(), *summary(sizes), *searches, *carried, *(line for size in sizes for line in table(*size)), *lists]
     text = "\n".join(lines)
     if into:
         above = into.read_text().split(HEADING)[0]

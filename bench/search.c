@@ -3,7 +3,6 @@
    search SECONDS prints the least times in nanoseconds; search alone makes each fault once, for callgrind to count, a file for each. */
 #include <stdbool.h>
 #include <string.h>
-#include <x86intrin.h>
 #include "cases.h"
 #include "../include/keeper.h"
 #undef KEEPER_H
@@ -13,6 +12,8 @@
 #define keeper_apply_all c_port_apply_all
 #define keeper_mend c_port_mend
 #define keeper_page_look c_port_page_look
+#define keeper_export c_port_export
+#define keeper_import c_port_import
 #include "keeper.h"
 #undef keeper_apply
 struct answer old_port_apply(struct keeper *keeper, struct request request);
@@ -95,14 +96,6 @@ static void check(const struct one *c, int side, size_t refusal)
         return;
     fprintf(stderr, "search: side %d, %s %zu %s: refusal %zu, record %d\n", side, c->by, c->distance, c->side, refusal, memory.addresses[c->page] - 1);
     exit(1);
-}
-
-static uint64_t ticks(void)
-{
-    _mm_lfence();
-    uint64_t now = __rdtsc();
-    _mm_lfence();
-    return now;
 }
 
 /* Faults for so long, the sides in turn; prints each case's least time by each side. */

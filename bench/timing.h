@@ -1,35 +1,18 @@
-/* How the benchmarks of the search measure: the time, callgrind's counts, the lines that they print, and their main. One includes this, sets TURNS, the calls
+/* How the benchmarks of the search measure: the lines that they print, and their main. One includes this, sets TURNS, the calls
    that it makes of a case, and defines the five functions that are declared here alone. */
 #ifndef TIMING_H
 #define TIMING_H
 
 #include <stdio.h>
 #include <stdlib.h>
-#include <time.h>
 #include "cases.h"
+#include "clock.h"
 
 static void fill(const struct one *c); /* the tables of a case */
 static void again(void); /* as fill has left them */
 static size_t call(int turn, size_t page);
 static void check(const struct one *c, int turn, size_t result); /* ends the program if the call did anything else */
 static void measure(const struct one *cases, double wanted);
-
-static double seconds(void)
-{
-    struct timespec now;
-    clock_gettime(CLOCK_MONOTONIC, &now);
-    return (double)now.tv_sec + (double)now.tv_nsec * 1e-9;
-}
-
-/* CALLGRIND_DUMP_STATS, _START_INSTRUMENTATION and _STOP_ of valgrind/callgrind.h, by the instructions that valgrind knows them by */
-enum { DUMP = 0x43540000, START = 0x43540004, STOP = 0x43540005 };
-
-static void callgrind(uint64_t request)
-{
-    uint64_t values[6] = {request}, result = 0;
-    __asm__ volatile("rolq $3, %%rdi; rolq $13, %%rdi; rolq $61, %%rdi; rolq $51, %%rdi; xchgq %%rbx, %%rbx"
-                     : "+d"(result) : "a"(values) : "cc", "memory");
-}
 
 /* A case, and the nanoseconds of each side behind it. */
 static void print(const struct one *c, const double *nanoseconds, int sides, int digits)

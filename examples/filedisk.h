@@ -107,6 +107,10 @@ KeeperAnswer filedisk_move(FileDisk *disk, Keeper *keeper, uint32_t giver, uint3
 KeeperAnswer filedisk_create(FileDisk *disk, Keeper *keeper, uint32_t slot, uint32_t account, uint32_t number);
 KeeperAnswer filedisk_delete(FileDisk *disk, Keeper *keeper, uint32_t slot);
 
+/* An import: the call, then each record that it has filled as a store of its own, pages rising, then the slot as one store: number, account, map. If a
+ * cut comes before the last, the slot is empty and the records are free. An export stores nothing: keeper_easy_export. */
+KeeperAnswer filedisk_import(FileDisk *disk, Keeper *keeper, uint32_t slot, uint32_t account, uint32_t number, const uint8_t *sheet, size_t bytes);
+
 /* What a step asks for: the store or the read, and then the report. 0, or -1, and the disk is dead. */
 int filedisk_transfer(FileDisk *disk, Keeper *keeper, KeeperTransfer transfer);
 int filedisk_map(FileDisk *disk, Keeper *keeper, uint32_t slot);

@@ -47,6 +47,42 @@ KeeperAnswer filedisk_delete(FileDisk *disk, Keeper *keeper, uint32_t slot)
     return stored(answer, answer.refusal == KEEPER_DONE && store_slot(disk, keeper, slot) != 0);
 }
 
+/* The record that an entry of a map names: its words as one store. */
+static int store_record(FileDisk *disk, const Keeper *keeper, uint16_t entry)
+{
+    const size_t count = keeper->sizes.words, first = (entry - 1u) * count;
+    const FilePiece piece = {KEEPER_TABLE_RECORDS, first, count, keeper->records + first};
+    return filedisk_store(disk, &piece, 1);
+}
+
+/* The slot with its map: three places, one store. */
+static int store_design(FileDisk *disk, const Keeper *keeper, uint32_t slot)
+{
+    const size_t count = keeper->sizes.pages, first = slot * count;
+    const FilePiece pieces[3] = {
+        {KEEPER_TABLE_NUMBERS, slot, 1, keeper->numbers + slot},
+        {KEEPER_TABLE_ACCOUNTS, slot, 1, keeper->accounts + slot},
+        {KEEPER_TABLE_MAPS, first, count, keeper->maps + first},
+    };
+    return filedisk_store(disk, pieces, 3);
+}
+
+/* The stores of an import that was carried out, in their order; the slot is the last. */
+static int store_import(FileDisk *disk, const Keeper *keeper, uint32_t slot)
+{
+    const uint16_t *map = keeper->maps + slot * keeper->sizes.pages;
+    for (size_t page = 0; page < keeper->sizes.pages; page++)
+        if (map[page] != 0 && store_record(disk, keeper, map[page]) != 0)
+            return -1;
+    return store_design(disk, keeper, slot);
+}
+
+KeeperAnswer filedisk_import(FileDisk *disk, Keeper *keeper, uint32_t slot, uint32_t account, uint32_t number, const uint8_t *sheet, size_t bytes)
+{
+    const KeeperAnswer answer = keeper_easy_import(keeper, slot, account, number, sheet, bytes);
+    return stored(answer, answer.refusal == KEEPER_DONE && store_import(disk, keeper, slot) != 0);
+}
+
 /* Whether the device still has the record as the lent copy has it. */
 static int confirmed(FileDisk *disk, const Keeper *keeper, uint32_t record)
 {

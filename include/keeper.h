@@ -2,7 +2,7 @@
  *
  * All tables are lent by the caller, as a pointer and a count of elements each; the keeper keeps no memory of its own, never
  * allocates, never blocks, and every call ends. A table of a wrong length is answered 1. After a refusal everything lent is as it
- * was. What the caller owes: no pointer is null, each is aligned as its elements, no two tables or lists overlap, one call at a
+ * was. What the caller owes: no pointer is null, each is aligned as its elements, no two tables, lists or sheets overlap, one call at a
  * time on one set of tables; and for one disk the same sizes at every call, from its format on. The keeper does not store the
  * sizes and cannot tell: a disk formatted with W 16 and R 8 has all its lengths with W 8 and R 16 too, restart answers 0, and
  * then one design shows another's words. Keep the sizes on the device and refuse others, as examples/firmware.c does. */
@@ -96,6 +96,9 @@ KEEPER_ASSERT(sizeof(KeeperPart) == 3 * sizeof(size_t) && offsetof(KeeperPart, s
 #define KEEPER_REQUESTS(list, count) (const uint32_t *)(list), 5 * (size_t)(count)
 #define KEEPER_ANSWERS(list, count) (uint32_t *)(list), 2 * (size_t)(count)
 
+/* How many bytes the longest sheet has that keeper_export writes: every page has a word that is not 0. */
+#define KEEPER_SHEET_BYTES(N, W) (17 + (N) * (5 + 4 * (W)))
+
 /* The kinds of request. */
 enum {
     KEEPER_CREATE = 1,      /* slot, account, number */
@@ -126,11 +129,11 @@ enum {
     KEEPER_NO_RULE = 2,         /* the tables break a rule */
     KEEPER_NO_RANGE = 3,        /* a value out of range, or a kind that is no event */
     KEEPER_NO_DESIGN = 4,       /* the slot is empty */
-    KEEPER_SLOT_FILLED = 5,     /* create: the slot is filled */
-    KEEPER_NUMBER_TAKEN = 6,    /* create: the number stands in a slot */
+    KEEPER_SLOT_FILLED = 5,     /* create, import: the slot is filled */
+    KEEPER_NUMBER_TAKEN = 6,    /* create, import: the number stands in a slot */
     KEEPER_MAP_NOT_EMPTY = 7,   /* delete: the map still lists pages */
     KEEPER_NOT_ACTIVE = 8,      /* the design is not active */
-    KEEPER_ACTIVE = 9,          /* activate, delete: the design is active */
+    KEEPER_ACTIVE = 9,          /* activate, delete, export: the design is active */
     KEEPER_UPDATING = 10,       /* update, deactivate: an update of it is under way */
     KEEPER_PAGES_IN = 11,       /* deactivate: a page of it is in a frame */
     KEEPER_MAP_OLD = 12,        /* deactivate: its map is not up to date, or a record of it is nulled or released */
@@ -139,8 +142,8 @@ enum {
     KEEPER_PAGE_IN = 15,        /* fault: the page is in a frame */
     KEEPER_WIRED = 16,          /* a page concerned is wired */
     KEEPER_NOT_WIRED = 17,      /* unwire: the page is not wired */
-    KEEPER_AT_LIMIT = 18,       /* write to a page that is not charged: the account that pays is at its limit or above */
-    KEEPER_NO_RECORD = 19,      /* fault: no record is free */
+    KEEPER_AT_LIMIT = 18,       /* write to a page that is not charged: the account that pays is at its limit or above; import: it has too few pages left */
+    KEEPER_NO_RECORD = 19,      /* fault: no record is free; import: fewer are free than the sheet has pages */
     KEEPER_NO_FRAME = 20,       /* fault: no frame is free */
     KEEPER_NOTHING_TO_CLAIM = 21, /* claim, turn: the removal list is empty */
     KEEPER_NO_TRANSFER = 22,    /* done: no such transfer or update is under way */
@@ -148,7 +151,10 @@ enum {
     KEEPER_LIST_SHORT = 24,     /* mend: the list has fewer than S * (N + 2) places */
     KEEPER_NO_MOVE = 25,        /* move: not parent and child, no pages, more than the giver has, or the taker would pass 65,535 */
     KEEPER_OVER_LIMIT = 26,     /* move: an account whose limit or count it changes would have more used than its limit */
-    KEEPER_LINE_FULL = 27       /* join: 32 pages are waiting */
+    KEEPER_LINE_FULL = 27,      /* join: 32 pages are waiting */
+    KEEPER_SHEET_WRONG = 29,    /* import: these bytes are no sheet */
+    KEEPER_SHEET_OTHER = 30,    /* import: the sheet is of a board with another W or N */
+    KEEPER_SHEET_SHORT = 31     /* export: the buffer has fewer bytes than the sheet */
 };
 
 /* tables and calls: made by tools/tables.py from tools/tables.txt */
@@ -338,6 +344,67 @@ KeeperAnswer keeper_mend(
     const uint16_t *limits, size_t limits_count,   /* Q */
     const uint16_t *parents, size_t parents_count, /* Q */
     uint32_t *changes, size_t changes_count        /* 4 * S * (N + 2), or more */
+);
+
+/* Writes a design's sheet into a buffer: its number, and each page that is not all zeros. The design is not active, so all of
+ * it is on the disk. KEEPER_SHEET_BYTES(N, W) bytes are always enough. Lent: everything, only read; the pool goes by value.
+ * Answers 0, 1, 2, 3, 4, 9 or 31. The result is the sheet's length; the bytes after it, and all on a refusal, are untouched. */
+KeeperAnswer keeper_export(
+    KeeperSizes sizes,
+    size_t slot,
+    uint8_t *sheet, size_t sheet_count,                      /* bytes */
+    const KeeperFrame *frames, size_t frames_count,          /* F */
+    KeeperPool pool,
+    const uint32_t *records, size_t records_count,           /* R * W */
+    const uint32_t *numbers, size_t numbers_count,           /* S */
+    const uint16_t *accounts, size_t accounts_count,         /* S */
+    const uint16_t *maps, size_t maps_count,                 /* S * N */
+    const uint16_t *limits, size_t limits_count,             /* Q */
+    const uint16_t *parents, size_t parents_count,           /* Q */
+    const uint32_t *frame_words, size_t frame_words_count,   /* F * W */
+    const uint16_t *free_queue, size_t free_queue_count,     /* F */
+    const uint16_t *removal_list, size_t removal_list_count, /* F */
+    const uint16_t *addresses, size_t addresses_count,       /* S * N */
+    const uint8_t *states, size_t states_count,              /* R */
+    const uint8_t *owners, size_t owners_count,              /* R */
+    const uint32_t *free_map, size_t free_map_count,         /* (R + 31) / 32 */
+    const uint8_t *active, size_t active_count,              /* S */
+    const uint8_t *updating, size_t updating_count,          /* S */
+    const uint16_t *images, size_t images_count,             /* S * N */
+    const uint16_t *line, size_t line_count,                 /* 32 */
+    const uint16_t *used, size_t used_count                  /* Q */
+);
+
+/* Makes a design of a sheet, in an empty slot, for an account, with a number that the caller gives; it is not active. Any
+ * bytes are a sheet to ask about. Lent: everything; records, numbers, accounts, maps, states, owners, free_map, used and pool
+ * are changed. Answers 0, 1, 2, 3, 5, 6, 29, 30, 18 or 19. The result is the number that stands in the sheet. It makes several
+ * stores on the disk part; docs/USING.md says in which order they come to the device. */
+KeeperAnswer keeper_import(
+    KeeperSizes sizes,
+    size_t slot,
+    size_t account,
+    uint32_t number,
+    const uint8_t *sheet, size_t sheet_count,                /* bytes */
+    const KeeperFrame *frames, size_t frames_count,          /* F */
+    KeeperPool *pool,
+    uint32_t *records, size_t records_count,                 /* R * W */
+    uint32_t *numbers, size_t numbers_count,                 /* S */
+    uint16_t *accounts, size_t accounts_count,               /* S */
+    uint16_t *maps, size_t maps_count,                       /* S * N */
+    const uint16_t *limits, size_t limits_count,             /* Q */
+    const uint16_t *parents, size_t parents_count,           /* Q */
+    const uint32_t *frame_words, size_t frame_words_count,   /* F * W */
+    const uint16_t *free_queue, size_t free_queue_count,     /* F */
+    const uint16_t *removal_list, size_t removal_list_count, /* F */
+    const uint16_t *addresses, size_t addresses_count,       /* S * N */
+    uint8_t *states, size_t states_count,                    /* R */
+    uint8_t *owners, size_t owners_count,                    /* R */
+    uint32_t *free_map, size_t free_map_count,               /* (R + 31) / 32 */
+    const uint8_t *active, size_t active_count,              /* S */
+    const uint8_t *updating, size_t updating_count,          /* S */
+    const uint16_t *images, size_t images_count,             /* S * N */
+    const uint16_t *line, size_t line_count,                 /* 32 */
+    uint16_t *used, size_t used_count                        /* Q */
 );
 /* end of tables and calls */
 

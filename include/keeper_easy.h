@@ -339,6 +339,66 @@ static inline KeeperAnswer keeper_easy_mend(Keeper *keeper, KeeperChange *change
         (uint32_t *)changes, 4 * places);
 }
 
+static inline KeeperAnswer keeper_easy_export(const Keeper *keeper, size_t slot, uint8_t *sheet, size_t sheet_count)
+{
+    const KeeperSizes sizes = keeper->sizes;
+    return keeper_export(
+        sizes,
+        slot,
+        sheet, sheet_count,
+        keeper->frames, sizes.frames,
+        *keeper->pool,
+        keeper->records, sizes.records * sizes.words,
+        keeper->numbers, sizes.slots,
+        keeper->accounts, sizes.slots,
+        keeper->maps, sizes.slots * sizes.pages,
+        keeper->limits, sizes.accounts,
+        keeper->parents, sizes.accounts,
+        keeper->frame_words, sizes.frames * sizes.words,
+        keeper->free_queue, sizes.frames,
+        keeper->removal_list, sizes.frames,
+        keeper->addresses, sizes.slots * sizes.pages,
+        keeper->states, sizes.records,
+        keeper->owners, sizes.records,
+        keeper->free_map, (sizes.records + 31) / 32,
+        keeper->active, sizes.slots,
+        keeper->updating, sizes.slots,
+        keeper->images, sizes.slots * sizes.pages,
+        keeper->line, 32,
+        keeper->used, sizes.accounts);
+}
+
+static inline KeeperAnswer keeper_easy_import(Keeper *keeper, size_t slot, size_t account, uint32_t number, const uint8_t *sheet, size_t sheet_count)
+{
+    const KeeperSizes sizes = keeper->sizes;
+    return keeper_import(
+        sizes,
+        slot,
+        account,
+        number,
+        sheet, sheet_count,
+        keeper->frames, sizes.frames,
+        keeper->pool,
+        keeper->records, sizes.records * sizes.words,
+        keeper->numbers, sizes.slots,
+        keeper->accounts, sizes.slots,
+        keeper->maps, sizes.slots * sizes.pages,
+        keeper->limits, sizes.accounts,
+        keeper->parents, sizes.accounts,
+        keeper->frame_words, sizes.frames * sizes.words,
+        keeper->free_queue, sizes.frames,
+        keeper->removal_list, sizes.frames,
+        keeper->addresses, sizes.slots * sizes.pages,
+        keeper->states, sizes.records,
+        keeper->owners, sizes.records,
+        keeper->free_map, (sizes.records + 31) / 32,
+        keeper->active, sizes.slots,
+        keeper->updating, sizes.slots,
+        keeper->images, sizes.slots * sizes.pages,
+        keeper->line, 32,
+        keeper->used, sizes.accounts);
+}
+
 /* The events, one function each; the values are in the order of the requests. */
 static inline KeeperAnswer keeper_asked(
     Keeper *keeper, uint32_t kind, uint32_t first, uint32_t second, uint32_t third, uint32_t fourth)
@@ -451,11 +511,11 @@ static inline const char *keeper_text(uint32_t refusal)
     case KEEPER_NO_RULE: return "the tables break a rule";
     case KEEPER_NO_RANGE: return "a value out of range, or a kind that is no event";
     case KEEPER_NO_DESIGN: return "the slot is empty";
-    case KEEPER_SLOT_FILLED: return "create: the slot is filled";
-    case KEEPER_NUMBER_TAKEN: return "create: the number stands in a slot";
+    case KEEPER_SLOT_FILLED: return "create, import: the slot is filled";
+    case KEEPER_NUMBER_TAKEN: return "create, import: the number stands in a slot";
     case KEEPER_MAP_NOT_EMPTY: return "delete: the map still lists pages";
     case KEEPER_NOT_ACTIVE: return "the design is not active";
-    case KEEPER_ACTIVE: return "activate, delete: the design is active";
+    case KEEPER_ACTIVE: return "activate, delete, export: the design is active";
     case KEEPER_UPDATING: return "update, deactivate: an update of it is under way";
     case KEEPER_PAGES_IN: return "deactivate: a page of it is in a frame";
     case KEEPER_MAP_OLD: return "deactivate: its map is not up to date, or a record of it is nulled or released";
@@ -464,8 +524,8 @@ static inline const char *keeper_text(uint32_t refusal)
     case KEEPER_PAGE_IN: return "fault: the page is in a frame";
     case KEEPER_WIRED: return "a page concerned is wired";
     case KEEPER_NOT_WIRED: return "unwire: the page is not wired";
-    case KEEPER_AT_LIMIT: return "write to a page that is not charged: the account that pays is at its limit or above";
-    case KEEPER_NO_RECORD: return "fault: no record is free";
+    case KEEPER_AT_LIMIT: return "write to a page that is not charged: the account that pays is at its limit or above; import: it has too few pages left";
+    case KEEPER_NO_RECORD: return "fault: no record is free; import: fewer are free than the sheet has pages";
     case KEEPER_NO_FRAME: return "fault: no frame is free";
     case KEEPER_NOTHING_TO_CLAIM: return "claim, turn: the removal list is empty";
     case KEEPER_NO_TRANSFER: return "done: no such transfer or update is under way";
@@ -473,6 +533,9 @@ static inline const char *keeper_text(uint32_t refusal)
     case KEEPER_NO_MOVE: return "move: not parent and child, no pages, more than the giver has, or the taker would pass 65,535";
     case KEEPER_OVER_LIMIT: return "move: an account whose limit or count it changes would have more used than its limit";
     case KEEPER_LINE_FULL: return "join: 32 pages are waiting";
+    case KEEPER_SHEET_WRONG: return "import: these bytes are no sheet";
+    case KEEPER_SHEET_OTHER: return "import: the sheet is of a board with another W or N";
+    case KEEPER_SHEET_SHORT: return "export: the buffer has fewer bytes than the sheet";
     default: return "no refusal of this keeper";
     }
 }

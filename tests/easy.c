@@ -211,6 +211,61 @@ static void test_mend(void)
     CHECK(keeper.parents[2] == 2);
 }
 
+/* ── design sheets beside keeper.h ── */
+enum { SHEET = KEEPER_SHEET_BYTES(N, W) };
+
+/* Design 5 in slot 0, of account 0: page 1 in record 3, page 4 in record 0; page 2 is listed with a record of zeros. */
+static void two_pages(void)
+{
+    keeper.numbers[0] = disk.numbers[0] = 5;
+    keeper.limits[0] = disk.limits[0] = 5;
+    keeper.maps[1] = disk.maps[1] = 4;
+    keeper.maps[2] = disk.maps[2] = 9;
+    keeper.maps[4] = disk.maps[4] = 1;
+    for (size_t word = 0; word < W; word++) {
+        keeper.records[3 * W + word] = disk.records[3 * W + word] = 0x01020304u * (uint32_t)(word + 1);
+        keeper.records[word] = disk.records[word] = word == W - 1;
+    }
+    CHECK(keeper_easy_restart(&keeper).refusal == KEEPER_DONE && keeper_restart(keeper.sizes, EVERYTHING).refusal == KEEPER_DONE);
+}
+
+/* An import by both ways: one answer, and the same tables. */
+static KeeperAnswer imported(size_t slot, uint32_t number, const uint8_t *sheet, size_t count)
+{
+    const KeeperAnswer easy = keeper_easy_import(&keeper, slot, 0, number, sheet, count);
+    const KeeperAnswer plain = keeper_import(keeper.sizes, slot, 0, number, sheet, count, EVERYTHING);
+    CHECK(easy.refusal == plain.refusal && easy.result == plain.result && same_tables());
+    return easy;
+}
+
+static void test_sheets(void)
+{
+    static const uint8_t head[14] = {3, 0, 4, 0, W, 0, N, 1, 0, 4, 0, 0, 0, 5}, page[9] = {2, 0, 2 + 4 * W, 0, 1, 1, 2, 3, 4};
+    uint8_t easy[SHEET], plain[SHEET];
+    set_up(sizes_of(W, R, F, S, N, Q));
+    CHECK(keeper_format(keeper.sizes, KEEPER_LEND(parents), KEEPER_LEND_DISK(disk)).refusal == KEEPER_DONE);
+    two_pages();
+    memset(easy, 0x5A, sizeof easy);
+    memset(plain, 0x5A, sizeof plain);
+    const size_t length = 17 + 2 * (5 + 4 * W);
+    CHECK(keeper_easy_export(&keeper, 0, easy, length - 1).refusal == KEEPER_SHEET_SHORT && memcmp(easy, plain, sizeof easy) == 0);
+    CHECK(keeper_easy_export(&keeper, 1, easy, SHEET).refusal == KEEPER_NO_DESIGN && memcmp(easy, plain, sizeof easy) == 0);
+    CHECK(keeper_easy_export(&keeper, 0, easy, SHEET).result == length && easy[length] == 0x5A);
+    CHECK(keeper_export(keeper.sizes, 0, plain, length, KEEPER_LEND(memory.frames), memory.pool, KEEPER_LEND_DISK(disk), KEEPER_LEND_MEMORY(memory)).result == length);
+    CHECK(memcmp(easy, plain, sizeof easy) == 0 && memcmp(easy, head, sizeof head) == 0 && memcmp(easy + 14, page, sizeof page) == 0 && same_tables());
+    CHECK(imported(0, 6, easy, length).refusal == KEEPER_SLOT_FILLED && imported(1, 5, easy, length).refusal == KEEPER_NUMBER_TAKEN);
+    CHECK(imported(1, 6, easy, length - 1).refusal == KEEPER_SHEET_WRONG && imported(1, 6, easy, length + 1).refusal == KEEPER_SHEET_WRONG);
+    easy[4]++; /* another W: the pages have a wrong length then */
+    CHECK(imported(1, 6, easy, length).refusal == KEEPER_SHEET_WRONG);
+    easy[4]--, easy[6]++; /* another N */
+    CHECK(imported(1, 6, easy, length).refusal == KEEPER_SHEET_OTHER);
+    easy[6]--;
+    CHECK(imported(1, 6, easy, length).result == 5 && keeper.used[0] == 5 && keeper.maps[N + 1] != 0 && keeper.maps[N + 2] == 0);
+    CHECK(imported(2, 7, easy, length).refusal == KEEPER_AT_LIMIT);
+    CHECK(keeper_easy_export(&keeper, 1, plain, SHEET).result == length && plain[13] == 6 && memcmp(easy + 14, plain + 14, length - 14) == 0);
+    CHECK(keeper_activate(&keeper, 1).refusal == KEEPER_DONE && keeper_easy_export(&keeper, 1, plain, SHEET).refusal == KEEPER_ACTIVE);
+}
+
 /* ── many requests in one call ── */
 enum { MOST_LISTED = 20 };
 static void test_lists(void)
@@ -309,8 +364,8 @@ static void test_line(void)
 static void test_text(void)
 {
     CHECK(strcmp(keeper_text(KEEPER_LINE_FULL), "join: 32 pages are waiting") == 0);
-    for (uint32_t a = 0; a <= KEEPER_LINE_FULL; a++) {
-        if (a == 23) { /* no call answers it */
+    for (uint32_t a = 0; a <= KEEPER_SHEET_SHORT; a++) {
+        if (a == 23 || a == 28) { /* no call answers these */
             CHECK(strcmp(keeper_text(a), keeper_text(1000)) == 0);
             continue;
         }
@@ -522,6 +577,7 @@ int main(void)
     test_events();
     test_format();
     test_mend();
+    test_sheets();
     test_lists();
     test_transfers();
     test_line();

@@ -64,13 +64,14 @@ static void fault_at(int kind, unsigned number)
     fault = kind, at = number, writes = syncs = reads = calls = 0;
 }
 
-/* ── the work: limits and pages, each with its number ── */
+/* ── the work: limits and pages, each with its number, then an import of the design as it was at first ── */
 static const KeeperSizes sizes = {.words = 200, .records = 6, .frames = 2, .slots = 2, .pages = 3, .accounts = 2};
-enum { ROUNDS = 4, SETTLED = 9 };
+enum { ROUNDS = 4, SETTLED = 9, IMPORTED = 8 };
 static Keeper keeper;
 static FileDisk disk;
 static FileBlocks blocks;
-static uint32_t limit_told, limit_tried, page_told, page_tried;
+static uint32_t limit_told, limit_tried, page_told, page_tried, import_told, import_tried;
+static uint8_t sheet[KEEPER_SHEET_BYTES(3, 200)];
 
 static uint32_t weave(uint32_t value)
 {
@@ -86,6 +87,7 @@ static uint32_t weave(uint32_t value)
 static uint32_t work(void)
 {
     uint32_t refusal = (uint32_t)filedisk_open(&disk, blocks, &keeper);
+    const size_t bytes = refusal == FILEDISK_GOOD ? keeper_easy_export(&keeper, 0, sheet, sizeof sheet).result : 0;
     if (refusal == FILEDISK_GOOD)
         refusal = keeper_activate(&keeper, 0).refusal;
     for (uint32_t round = 1; round <= ROUNDS && refusal == KEEPER_DONE; round++) {
@@ -98,6 +100,11 @@ static uint32_t work(void)
         refusal = weave(page_tried);
         page_told = refusal == KEEPER_DONE ? page_tried : page_told;
     }
+    if (refusal != KEEPER_DONE)
+        return refusal;
+    import_tried = IMPORTED;
+    refusal = filedisk_import(&disk, &keeper, 1, 0, IMPORTED, sheet, bytes).refusal;
+    import_told = refusal == KEEPER_DONE ? IMPORTED : 0;
     return refusal;
 }
 
@@ -110,21 +117,33 @@ static void settle(void)
     CHECK(filedisk_create(&disk, &keeper, 0, 0, 7).refusal == KEEPER_DONE && keeper_activate(&keeper, 0).refusal == KEEPER_DONE);
     CHECK(weave(SETTLED) == KEEPER_DONE);
     limit_told = limit_tried = page_told = page_tried = SETTLED;
+    import_told = import_tried = 0;
+}
+
+/* The page of a slot reads one value in all its words: that, or no value of this test's. */
+static uint32_t value_of(uint32_t slot)
+{
+    if (keeper_activate(&keeper, slot).refusal != KEEPER_DONE || filedisk_bring(&disk, &keeper, slot, 0) != KEEPER_DONE)
+        return UINT32_MAX;
+    const uint32_t *words = keeper_words(&keeper, slot, 0), first = words[0];
+    size_t word = 0;
+    while (word < sizes.words && words[word] == first)
+        word++;
+    return word == sizes.words ? first : UINT32_MAX;
 }
 
 /* What is on the disk is what was told, or what was tried last. */
 static int is_kept(void)
 {
     fault_at(NO_FAULT, 0);
-    if (filedisk_open(&disk, blocks, &keeper) != FILEDISK_GOOD || keeper_activate(&keeper, 0).refusal != KEEPER_DONE)
+    if (filedisk_open(&disk, blocks, &keeper) != FILEDISK_GOOD || (keeper.limits[1] != limit_told && keeper.limits[1] != limit_tried))
         return 0;
-    if (filedisk_bring(&disk, &keeper, 0, 0) != KEEPER_DONE || (keeper.limits[1] != limit_told && keeper.limits[1] != limit_tried))
+    if (keeper.numbers[1] != import_told && keeper.numbers[1] != import_tried)
         return 0;
-    const uint32_t *words = keeper_words(&keeper, 0, 0), first = words[0];
-    for (size_t word = 0; word < sizes.words; word++)
-        if (words[word] != first)
-            return 0;
-    return first == page_told || first == page_tried;
+    if (keeper.numbers[1] != 0 && value_of(1) != SETTLED)
+        return 0;
+    const uint32_t value = value_of(0);
+    return value == page_told || value == page_tried;
 }
 
 /* Every one of so many calls fails once. */
@@ -167,7 +186,7 @@ int main(int count, char **words)
     CHECK(filedisk_file(&disk, &blocks, words[1], FILEDISK_NEW) == FILEDISK_GOOD);
     settle();
     fault_at(NO_FAULT, 0);
-    CHECK(work() == KEEPER_DONE && limit_told == SETTLED + ROUNDS && page_told == SETTLED + ROUNDS && is_kept());
+    CHECK(work() == KEEPER_DONE && limit_told == SETTLED + ROUNDS && page_told == SETTLED + ROUNDS && import_told == IMPORTED && is_kept());
     settle();
     fault_at(NO_FAULT, 0);
     CHECK(work() == KEEPER_DONE);

@@ -226,13 +226,18 @@ static int fails(void *self, uint64_t at, const void *from, size_t bytes)
 static void test_dies(FileBlocks blocks, FileDisk *disk, Keeper *keeper)
 {
     FileBlocks dying = blocks;
-    for (int event = 0; event < 4; event++) {
+    uint8_t sheet[KEEPER_SHEET_BYTES(4, 16)];
+    CHECK(filedisk_open(disk, blocks, keeper) == FILEDISK_GOOD);
+    const size_t bytes = keeper_easy_export(keeper, 1, sheet, sizeof sheet).result;
+    CHECK(bytes >= 17);
+    for (int event = 0; event < 5; event++) {
         CHECK(filedisk_open(disk, blocks, keeper) == FILEDISK_GOOD);
         dying.write = fails;
         disk->blocks = dying;
         const KeeperAnswer answer = event == 0 ? filedisk_limit(disk, keeper, 0, 1)
                                   : event == 1 ? filedisk_move(disk, keeper, 1, 2, 1)
                                   : event == 2 ? filedisk_create(disk, keeper, 0, 0, 70)
+                                  : event == 3 ? filedisk_import(disk, keeper, 0, 0, 71, sheet, bytes)
                                                : filedisk_delete(disk, keeper, 1);
         CHECK(answer.refusal == FILEDISK_DIED && answer.result == 0 && disk->dead && strstr(disk->line, "device failed"));
         CHECK(filedisk_limit(disk, keeper, 2, 4).refusal == FILEDISK_DIED); /* dead until it is opened anew */

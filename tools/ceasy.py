@@ -121,7 +121,7 @@ LISTS = {
 def call(name):
     """A call over the struct: what it takes before the tables stays, but for the sizes."""
     own = ctext.FIRST[name][1:]
-    handed = ["sizes"] + [re.sub(r"^.*[ *]", "", word) for word in own]
+    handed = ["sizes"] + [", ".join(re.sub(r"^.*[ *]", "", part) for part in word.split(", ")) for word in own]
     own, handed = LISTS.get(name, (own, handed))
     taken = "".join(f", {word}" for word in own) + BEHIND.get(name, ("", []))[0]
     lends = handed + [lend(table, name) for table in lent.in_call(name)] + BEHIND.get(name, ("", []))[1]

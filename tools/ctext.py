@@ -10,15 +10,15 @@ C_TYPES = {"u8": "uint8_t", "u16": "uint16_t", "u32": "uint32_t", "Frame": "Keep
 SLICES = {"u8": "bytes", "u16": "halves", "u32": "words", "Frame": "frames"}
 RUST_TYPES = {
     "KeeperSizes": "Sizes", "KeeperRequest": "Request", "size_t": "usize", "const uint16_t *": "*const u16", "const uint32_t *": "*const u32",
-    "uint32_t *": "*mut u32",
+    "uint32_t *": "*mut u32", "uint32_t": "u32", "const uint8_t *": "*const u8", "uint8_t *": "*mut u8",
 }
 
 # each call's name, its answer, what it takes before the tables, and what the header says of it
 NAMES = {
     "format": "keeper_format", "restart": "keeper_restart", "apply": "keeper_apply", "apply_all": "keeper_apply_all",
-    "look": "keeper_page_look", "mend": "keeper_mend",
+    "look": "keeper_page_look", "mend": "keeper_mend", "export": "keeper_export", "import": "keeper_import",
 }
-ANSWERS = {"format": "Answer", "restart": "Answer", "apply": "Answer", "apply_all": "Answer", "look": "Part", "mend": "Answer"}
+ANSWERS = {call: "Part" if call == "look" else "Answer" for call in CALLS}
 FIRST = {
     "format": ["KeeperSizes sizes", "const uint16_t *wanted, size_t wanted_count"],
     "restart": ["KeeperSizes sizes"],
@@ -26,11 +26,13 @@ FIRST = {
     "apply_all": ["KeeperSizes sizes", "const uint32_t *requests, size_t requests_count", "uint32_t *answers, size_t answers_count"],
     "look": ["KeeperSizes sizes", "size_t slot", "size_t page"],
     "mend": ["KeeperSizes sizes"],
+    "export": ["KeeperSizes sizes", "size_t slot", "uint8_t *sheet, size_t sheet_count"],
+    "import": ["KeeperSizes sizes", "size_t slot", "size_t account", "uint32_t number", "const uint8_t *sheet, size_t sheet_count"],
 }
 # what a call takes behind the tables, and its count
 LAST = {"mend": [("uint32_t *changes, size_t changes_count", "4 * S * (N + 2), or more")]}
 # how many numbers a list beside the tables has
-COUNTS = {"wanted": "Q", "requests": "5 a request", "answers": "2 an answer"}
+COUNTS = {"wanted": "Q", "requests": "5 a request", "answers": "2 an answer", "sheet": "bytes"}
 COMMENTS = {
     "format": [
         "Zeroes the disk part, once for a new disk, and stores the wanted parents, one an account: a lower account each. Account 0's",
@@ -56,6 +58,17 @@ COMMENTS = {
         "part, of which records, limits and parents are only read, and a list for the changes, four numbers a place",
         "(KEEPER_LEND_CHANGES). A parent that is not lower stays, and restart answers 2 still.",
         "Answers 0, 1 or 24. The result is how many changes are listed; the list's later places are untouched.",
+    ],
+    "export": [
+        "Writes a design's sheet into a buffer: its number, and each page that is not all zeros. The design is not active, so all of",
+        "it is on the disk. KEEPER_SHEET_BYTES(N, W) bytes are always enough. Lent: everything, only read; the pool goes by value.",
+        "Answers 0, 1, 2, 3, 4, 9 or 31. The result is the sheet's length; the bytes after it, and all on a refusal, are untouched.",
+    ],
+    "import": [
+        "Makes a design of a sheet, in an empty slot, for an account, with a number that the caller gives; it is not active. Any",
+        "bytes are a sheet to ask about. Lent: everything; records, numbers, accounts, maps, states, owners, free_map, used and pool",
+        "are changed. Answers 0, 1, 2, 3, 5, 6, 29, 30, 18 or 19. The result is the number that stands in the sheet. It makes several",
+        "stores on the disk part; docs/USING.md says in which order they come to the device.",
     ],
 }
 

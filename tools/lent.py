@@ -9,9 +9,9 @@ ROOT = pathlib.Path(__file__).resolve().parent.parent
 LIST = ROOT / "tools" / "tables.txt"
 # the calls that the list has a column for; a list of requests is lent what one request is; mend takes the disk part, these tables to be
 # changed and the others only read
-COLUMNS = ("format", "restart", "apply", "look")
+COLUMNS = ("format", "restart", "apply", "look", "import", "export")
 MENDED = ("numbers", "accounts", "maps")
-CALLS = ("format", "restart", "apply", "apply_all", "look", "mend")
+CALLS = ("format", "restart", "apply", "apply_all", "look", "mend", "export", "import")
 PARTS = ("disk", "memory")
 WIDTHS = {"u8": 1, "u16": 2, "u32": 4, "Frame": 8, "Pool": 8}
 LENDING = {"mut", "ref", "val", "-"}
@@ -45,7 +45,7 @@ class Table(NamedTuple):
 def lending(cells):
     """How each call lends the table of a line."""
     mend = "-" if cells[1] != "disk" else "mut" if cells[0] in MENDED else "ref"
-    lent = dict(zip(COLUMNS, cells[5:9]))
+    lent = dict(zip(COLUMNS, cells[5:-1]))
     return {**lent, "apply_all": lent["apply"], "mend": mend}
 
 
@@ -58,8 +58,8 @@ def read(text):
             continue
         if len(cells) == 5:
             sizes.append(Size(cells[0], cells[1], *map(int, cells[2:])))
-        elif len(cells) == 10 and cells[1] in PARTS and cells[2] in WIDTHS and set(cells[5:9]) <= LENDING:
-            tables.append(Table(*cells[:5], lending(cells), cells[9]))
+        elif len(cells) == 6 + len(COLUMNS) and cells[1] in PARTS and cells[2] in WIDTHS and set(cells[5:-1]) <= LENDING:
+            tables.append(Table(*cells[:5], lending(cells), cells[-1]))
         else:
             raise Bad(f"tools/tables.txt: no size and no table: {line}")
     return sizes, tables

@@ -37,7 +37,7 @@ STATE_ARROWS = [
     ("FREE", "NULLED", "FAULT|of a page with no record", 0, 0, -24, "middle"),
     ("NULLED", "LIVE", "PAGE_DONE, a good write", 16, 0, -13, "middle"),
     ("LIVE", "NULLED", "CLAIM|of a page changed to zeros", 16, 0, 23, "middle"),
-    ("NULLED", "RELEASED", "TRUNCATE", 0, 8, 0, "start"),
+    ("NULLED", "RELEASED", "TRUNCATE", 0, 8, 42, "start"),
     ("LIVE", "RELEASED", "TRUNCATE", 0, 16, 12, "start"),
     ("NULLED", "LEAVING", "UPDATE|of a page in no frame", 0, 12, 14, "start"),
     ("LIVE", "FILED", "DEACTIVATE", 22, 8, 0, "start"),
@@ -45,6 +45,7 @@ STATE_ARROWS = [
     ("RELEASED", "LEAVING", "UPDATE", 16, 0, 13, "middle"),
     ("LEAVING", "RELEASED", "MAP_DONE, failed", 16, 0, -13, "middle"),
     ("LEAVING", "FREE", "MAP_DONE,|good", 0, -8, 0, "end"),
+    ("FREE", "FILED", "IMPORT", 0, 6, -12, "start"),
 ]
 STATE_NOTES = ["A restart sets all anew: the records that the maps on the disk list are filed, all others free."]
 
@@ -99,6 +100,10 @@ PAGE_NOTES = [
 CUT_NOTE = "truncate leads from here to no address: the record is released, the frame freed"
 # Kinds that move no page from box to box, or move it by a fault or a claim.
 PAGE_OTHERS = {"CREATE", "DELETE", "LIMIT", "MOVE", "READ", "JOIN", "TURN"}
+
+
+# Calls of their own, no kinds of request, that move a record.
+CALLS = {"IMPORT"}
 
 
 class Bad(Exception):
@@ -171,7 +176,7 @@ def record_states(states_source, lines_source, header):
     boxes = [box(x, y, name.lower(), under, fill) for name, (x, y, under, fill) in STATE_BOXES.items()]
     return (
         head("The states of a record and the lines between them", 1000, 430)
-        + drawn(STATE_ARROWS, STATE_BOXES, kinds(header))
+        + drawn(STATE_ARROWS, STATE_BOXES, kinds(header) | CALLS)
         + "".join(boxes)
         + lines(500, 403, STATE_NOTES)
         + tail()

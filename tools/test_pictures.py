@@ -34,7 +34,7 @@ class Made(unittest.TestCase):
 
     def test_an_arrow_for_each_line(self):
         drawn, pages, _ = pictures.made().values()
-        self.assertEqual(arrows(drawn), 11)
+        self.assertEqual(arrows(drawn), 12)
         self.assertEqual(arrows(pages), len(pictures.PAGE_ARROWS))
 
     def test_an_arrow_for_each_account_that_passes_its_charges_up(self):
@@ -76,8 +76,8 @@ class Refused(unittest.TestCase):
         self.assertIn(words, str(caught.exception))
 
     def test_a_line_more(self):
-        table = changed(TABLE, "[false, false, true,", "[false, true, true,")
-        self.refused("('FREE', 'FILED')", pictures.record_states, STATES, table, HEADER)
+        table = changed(TABLE, "[false, true, true, false,", "[false, true, true, true,")
+        self.refused("('FREE', 'LIVE')", pictures.record_states, STATES, table, HEADER)
 
     def test_a_line_less(self):
         table = changed(TABLE, "[true,", "[false,")

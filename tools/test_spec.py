@@ -125,6 +125,12 @@ class Whole(unittest.TestCase):
         self.all_said("Payer", {name for name in defined(source("", "Payer")) if name.startswith("pay")})
         self.all_said("Accounts", {"shifted"})
 
+    def test_sheets(self):
+        self.all_said("Sheet", {"field", "bytes", "head", "pageField", "shownField", "printed", "laid", "form", "pageFits", "parsed", "textIn"}, "sheets")
+        self.all_said("Import", {"taking", "taken", "storeRecord", "entry", "storeSlot", "imported", "import"})
+        self.all_said("Export", {"pageText", "exported", "export"})
+        self.all_said("Stores", {"Call", "stores", "made", "first"})
+
     def test_edges(self):
         names = set(re.findall(r"^ *(e\d+(?:-\w+)?) :", source("edges", "Edges"), re.M))
         self.all_said("Edges", names, "edges")

@@ -24,9 +24,10 @@ REFERENCE = (lent.ROOT / "tests" / "reference" / "src" / "tables.rs").read_text(
 CODE_CALLS = {
     "keeper_format": "format", "keeper_restart": "restart", "keeper_apply": "apply", "keeper_apply_all": "apply_all",
     "page_look": "look", "keeper_page_look": "look", "keeper_mend": "mend",
+    "keeper_export": "export", "keeper_import": "import",
 }
 # what a call takes beside the tables
-BESIDE = {"sizes", "wanted", "request", "requests", "answers", "slot", "page", "refusal", "changes"}
+BESIDE = {"sizes", "wanted", "request", "requests", "answers", "slot", "page", "refusal", "changes", "account", "number", "sheet"}
 
 
 def parameters(name):
@@ -98,7 +99,7 @@ class Code(unittest.TestCase):
 
 class List(unittest.TestCase):
     def test_bad_lines(self):
-        good = "a | disk | u16 | Q | a | mut | ref | mut | ref | what it is"
+        good = "a | disk | u16 | Q | a | mut | ref | mut | ref | mut | ref | what it is"
         self.assertEqual(len(lent.read(good)[1]), 1)
         for bad in (good.replace("disk", "tape"), good.replace("u16", "u64"), good.replace("ref", "own", 1), "a | b"):
             with self.subTest(bad), self.assertRaises(Bad):
@@ -116,9 +117,9 @@ class NewTable(unittest.TestCase):
     """One more line of the list is all that the files made from it need."""
 
     ROWS = """
-        sisters | disk | u16 | Q | sisters | mut | ref | mut | ref | the account's sister
-        serial | disk | u32 | 1 | serial | mut | mut | mut | ref | the number of the disk
-        recent | memory | u16 | 32 | recent | - | mut | mut | ref | the pages that were used last
+        sisters | disk | u16 | Q | sisters | mut | ref | mut | ref | ref | ref | the account's sister
+        serial | disk | u32 | 1 | serial | mut | mut | mut | ref | mut | ref | the number of the disk
+        recent | memory | u16 | 32 | recent | - | mut | mut | ref | ref | ref | the pages that were used last
     """
 
     def setUp(self):

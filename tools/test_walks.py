@@ -37,8 +37,9 @@ class Walks(unittest.TestCase):
             with with_one_more(), self.subTest(name):
                 after, text, place = walk(), " ".join(walks.made(name).split()), before.lifetime_count
                 self.assertEqual(after.count, before.count + 1)
-                self.assertEqual(after.locals, before.locals + (1 if "look" in name else 3))
-                self.assertIn(f"{'shr' if 'look' in name else 'mut'} {place} κ{place} u16", text)
+                is_read = "look" in name or "export" in name
+                self.assertEqual(after.locals, before.locals + (1 if is_read else 3))
+                self.assertIn(f"{'shr' if is_read else 'mut'} {place} κ{place} u16", text)
 
     def test_whole_texts(self):
         """With a table more or not, every mark is filled in and every bracket closed."""

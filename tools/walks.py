@@ -22,8 +22,8 @@ PROOFS = ROOT / "crates" / "keeper" / "proofs"
 LONGEST, WIDTH = 400, 200
 # the tables that begin a group: so the paths to the last lists stay short
 GROUPS = {"records": "d", "frame_words": "m", "addresses": "h", "active": "s"}
-# what a list of requests lends before the frames: name, element, whether it is changed
-BEFORE = {"apply_all": [("requests", "u32", False), ("answers", "u32", True)]}
+# what a call lends before the frames: name, element, whether it is changed
+BEFORE = {"apply_all": [("requests", "u32", False), ("answers", "u32", True)], "import": [("sheet", "u8", False)], "export": [("sheet", "u8", True)]}
 
 
 def tables(call):
@@ -172,12 +172,16 @@ class Change(Walk):
             base = (base[0], base[1] + end - start)
         return {"AFTER": "".join(lets) + "      allOf zs pool " + " ".join(words)}
 
+    def given(self, shift):
+        """The arguments of the work: the call's own values, the number of frames, the frames, the pool, and the tables, reborrowed where they are changed."""
+        locals_ = [i + 1 for i in range(self.call_values)] + [self.lent + k for k in range(3)]
+        locals_ += [self.borrow + 3 + 2 * self.muts.index(j) if mut else self.table[j] for j, (_, _, mut) in enumerate(self.all)]
+        return [self.place(local) + shift for local in locals_]
+
     def steps(self):
         """The places of the walk."""
         at, muts = self.place, self.muts
         out, first = at(self.lent + 3) + 8, len(self.before)
-        given = [at(i + 1) + 7 for i in range(self.call_values)] + [at(self.lent + k) + 7 for k in range(3)]
-        given += [at(self.borrow + 3 + 2 * muts.index(j)) + 7 if mut else at(self.table[j]) + 7 for j, (_, _, mut) in enumerate(self.all)]
         end = 8 if self.pool_steps == 1 else 9
         back = range(self.locals - 1, -1, -1)
         marks = {
@@ -198,7 +202,7 @@ class Change(Walk):
                 reborrowed(at(self.table[j]) + 6, at(self.borrow + 2 + 2 * k) + 6, at(self.borrow + 3 + 2 * k) + 6, self.room(j)) for k, j in enumerate(muts)
             ),
             "WORK": f"move ! ({2 * self.locals + 7} ∷ {2 * self.locals + 6} ∷ []) $ use2 W (raw (Core",
-            "LOOKS": loads(given, "w"),
+            "LOOKS": loads(self.given(7), "w"),
             "OUT": f"(init ! {out} refl (typed-out 𝓤 H A W out w is-o)) $ rewrite ! {out} (λ (u : Val). ‵ (fat fullShare TO′.mir l{self.lent + 3} 0 u))",
             "REB2": reborrowed(at(self.frames) + 8, at(self.unit + 1) + 8, at(self.unit + 2) + 8, self.room(None)),
             "SAVE1": loaded([at(self.unit + 2) + 7]) + self.field(0, 0, out - 1),
@@ -248,6 +252,54 @@ class Change(Walk):
         return {**self.shared(), **self.lasts(), **self.steps(), "OWN": str(self.work_values), "COUNT": str(self.count), "LAST": f"_{self.locals - 1}"}
 
 
+class Import(Change):
+    """keeper_import: the pool is lent to be changed, and stored when the work is done; the frames are only read, and given up to `load`."""
+
+    FRONT = 4  # before the locals, once the pool is copied: pool, its token, true, the frames' token
+    DONE = FRONT + 2  # and once the work is done: the slices' tokens and their last lists too
+    POOL, ANSWER = (0, 0), (1, 8)  # the fields of what the work hands back, by number and offset
+
+    def __init__(self):
+        super().__init__("import", 4, 1)
+        self.borrow = self.lent + 2  # no borrow of the frames
+        self.unit = self.borrow + 2 + 2 * len(self.muts)
+        self.locals = self.unit + 2
+
+    def steps(self):
+        at, first = self.place, len(self.before)
+        out = at(self.lent + 3) + self.DONE
+        back = range(self.locals - 1, -1, -1)
+        numbers = ["are .1 .0 .1", "are .1 .1 .0 .1", "are .1 .1 .1 .0 .1"]
+        return {
+            "PASSZ": passed(at(1), "(typed-sizes 𝓤 H A W z (are .0))"),
+            "PASSN": " ".join(passed(at(2 + k), f"(tt, record {{ fits = {known} }})") for k, known in enumerate(numbers)),
+            "PASSP": " ".join(passed(at(self.table[j]), fits(self.room(j))) for j in range(first)),
+            "PASSF": passed(at(self.frames), fits(self.room(None))) + " " + passed(at(self.pool), "(tt, tt)"),
+            "PASST": " ".join(passed(at(self.table[j]), fits(self.room(j))) for j in range(first, self.count)) + " pass0 ! $",
+            "PLACES": f"-- [_{self.locals - 1} at 0; …; _i at 2 · ({self.locals - 1} − i); …; what frames owns; …]",
+            "LENT": f"(look-in ! {at(self.frames)} (sub ! 1 refl (whole !))))) (from ! (stop !)) (init ! {at(self.lent)} refl (tt, record {{ fits = {self.room(None)} .0 }})) $",
+            "LOAD": f"move ! ({2 * self.locals + 1} ∷ {2 * self.locals} ∷ []) $ use2 W (raw (Load",
+            "LOADS": loads([at(self.frames) + 1], "v"),
+            "VALUES": f"land ! (from ! (stop !)) (init ! {at(self.lent + 1) + 1} refl (typed64",
+            "COPY1": f"move ! ({2 * self.locals + 1} ∷ {2 * self.locals + 2} ∷ []) $ fsplit3 ! $",
+            "COPY2": f"(hop ! (look ! {at(self.pool) + self.FRONT + 2} refl) (stop !))) (look-raw ! 0 refl))) (from ! (stop !)) (init ! {at(self.lent + 2) + self.FRONT + 2} refl (typed-pool",
+            "REBS": "\n        ".join(
+                reborrowed(at(self.table[j]) + self.FRONT, at(self.borrow + 2 + 2 * k) + self.FRONT, at(self.borrow + 3 + 2 * k) + self.FRONT, self.room(j)) for k, j in enumerate(self.muts)
+            ),
+            "WORK": f"move ! ({2 * self.locals + self.FRONT + 1} ∷ {2 * self.locals + self.FRONT} ∷ []) $ use2 W (raw (Core",
+            "LOOKS": loads(self.given(self.FRONT + 1), "w"),
+            "OUT": f"(init ! {out} refl (typed-out 𝓤 H A W out w is-o)) $ rewrite ! {out} (λ (u : Val). ‵ (fat fullShare TO′.mir l{self.lent + 3} 0 u))",
+            "POOL1": f"assigns ! (addr ! (from ! (hop ! (look ! {at(self.pool) + self.DONE} refl) (stop !)))) (from ! (stop !)) (init ! {at(self.unit + 1) + self.DONE} refl (tt, tt)) $",
+            "POOL2": loaded([at(self.unit + 1) + self.DONE - 1]) + self.field(*self.POOL, out - 1),
+            "POOL3": f"(init ! {at(self.unit) + self.DONE} refl (nothing-lawful 𝓤 H A W .typed r₃",
+            "ANS": f"(look-in ! {out} (sub ! {self.ANSWER[0]} {{d = {self.ANSWER[1]}}} refl (whole !))))) (from ! (stop !)) (init ! {at(0) + self.DONE} refl (typed-answer",
+            "RETURNS": f"returns ! (look ! {at(0) + self.DONE} refl) $",
+            "FORGET": " ".join(f"forget ! {2 * i + self.DONE} refl $" for i in back),
+            "FREE": " ".join(f"move ! ({2 * i + self.DONE} ∷ {2 * i + self.DONE + 1} ∷ []) $ free1 ! $" for i in back),
+            "CLOSE": "(fields out w is-o))" + ")" * (self.locals + 14),
+        }
+
+
 class Look(Walk):
     """The page looks: everything is only read. page_look has a refusal lent beside the tables, and hands back a part of the words."""
 
@@ -290,16 +342,55 @@ class Look(Walk):
         }
 
 
+class Export(Walk):
+    """keeper_export: everything is only read but the buffer, which is lent to be changed, before the frames."""
+
+    def __init__(self):
+        super().__init__(BEFORE["export"], tables("export"), 1)
+        self.buffer, self.frames, self.pool = 3, 4, 5
+        self.table = [6 + j for j in range(len(self.own))]
+        self.lent = 6 + len(self.own)
+        self.locals = self.lent + 4
+
+    def marks(self):
+        at, count, shift = self.place, len(self.own), 4
+        given = [1, 2, self.lent, self.lent + 1, self.pool, self.lent + 3] + self.table
+        start = [passed(at(1), "(typed-sizes 𝓤 H A W z (are .0))"), passed(at(2), "(tt, record { fits = are .1 .0 .1 })"), passed(at(3), fits(room(2)))]
+        start += [passed(at(4), fits(room(3))), passed(at(5), "(typed-pool 𝓤 H A W p (pool-val p) (are .1 .1 .1 .1 .0))")]
+        units = ["Unit {0}"] * 5 + ["List ℕ"] + ["Unit {0}"] * count
+        return {
+            **self.shared(),
+            "COUNT": str(self.count),
+            "PASS": " ".join(start + [passed(at(self.table[j]), fits(room(5 + j))) for j in range(count)]),
+            "LENT": f"(look-in ! {at(self.frames)} (sub ! 1 refl (whole !))))) (from ! (stop !)) (init ! {at(self.lent)} refl (tt, record {{ fits = {room(3)} .0 }})) $",
+            "LOAD": f"move ! ({2 * self.locals + 1} ∷ {2 * self.locals} ∷ []) $ use2 W (raw (Load",
+            "LOADS": f"(to-load 𝓤 H A at-mem run κ1 q1 xf) (and-then ! (load ! (from ! (stop !)) (look ! {at(self.frames) + 1} refl))",
+            "VALUES": f"land ! (from ! (stop !)) (init ! {at(self.lent + 1) + 1} refl (typed64",
+            "REB": reborrowed(at(self.buffer) + 1, at(self.lent + 2) + 1, at(self.lent + 3) + 1, room(2)),
+            "WORK": f"move ! ({2 * self.locals + 2} ∷ {2 * self.locals + 1} ∷ []) $ use2 W (raw (Core",
+            "LOOKS": loads([at(local) + 2 for local in given], "w"),
+            "LANDS": f"land ! (from ! (stop !)) (init ! {at(0) + shift} refl (LL.lawful",
+            "RETURNS": f"returns ! (look ! {at(0) + shift} refl) $",
+            "FREE": " ".join(f"forget ! {at(i) + shift} refl $ move ! ({at(i) + shift} ∷ {at(i) + shift + 1} ∷ []) $ free1 ! $" for i in range(self.locals)),
+            "CLOSE": "by ! (exits r′ w y e₁" + ")" * (self.locals + 10),
+            "EXIT": "nothing ! $ fjoin ! $ " * count,
+            "ENDA": nested(["tt"] * count),
+            "WS": " × (".join(units) + " × (Unit {0})" + ")" * (len(units) - 1),
+        }
+
+
 # the file of the code that each call stands in
-FILES = {"keeper_apply": "apply", "keeper_restart": "restart", "keeper_apply_all": "apply_all", "page_look": "looks", "keeper_page_look": "looks"}
-# the files of what the three longer walks end in
-ENDS = {"keeper_apply_ends": "ApplyEnds", "keeper_restart_ends": "RestartEnds", "keeper_apply_all_ends": "ListEnds"}
+FILES = {"keeper_apply": "apply", "keeper_restart": "restart", "keeper_apply_all": "apply_all", "page_look": "looks", "keeper_page_look": "looks", "keeper_import": "import", "keeper_export": "export"}
+# the files of what the four longer walks end in
+ENDS = {"keeper_apply_ends": "ApplyEnds", "keeper_restart_ends": "RestartEnds", "keeper_apply_all_ends": "ListEnds", "keeper_import_ends": "ImportEnds"}
 WALKS = {
     "keeper_apply": lambda: Change("apply", 2, 2),
     "keeper_restart": lambda: Change("restart", 1, 1),
     "keeper_apply_all": lambda: Change("apply_all", 1, 1),
     "page_look": lambda: Look(True),
     "keeper_page_look": lambda: Look(False),
+    "keeper_import": Import,
+    "keeper_export": Export,
 }
 
 

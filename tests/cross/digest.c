@@ -5,11 +5,15 @@
 #include "lists.h"
 
 enum { KINDS = 32, REFUSALS = 32, LIST = 20, OFTEN = 400 };
+/* counted as kinds, behind those of the requests */
+enum { EXPORTED = KINDS - 2, IMPORTED = KINDS - 1 };
 
 static Keeper keeper;
 static uint64_t digest = 0xCBF29CE484222325u;
 static unsigned long calls, done[KINDS], refused[REFUSALS];
 static KeeperChange changes[KEEPER_MOST_SLOTS * (KEEPER_MOST_PAGES + 2)];
+static uint8_t sheet[KEEPER_SHEET_BYTES(KEEPER_MOST_PAGES, KEEPER_MOST_WORDS)];
+static size_t sheet_bytes; /* of the last one that was exported */
 
 static void add(uint32_t value)
 {
@@ -95,6 +99,29 @@ static void look(void)
     add_answer(0, (KeeperAnswer){part.refusal, (uint32_t)part.count});
 }
 
+/* A sheet of a design, now and then into a short buffer. */
+static void export_one(void)
+{
+    const size_t room = below(4) != 0 ? sizeof sheet : below(40);
+    const KeeperAnswer answer = keeper_easy_export(&keeper, near(keeper.sizes.slots), sheet, room);
+    add_answer(EXPORTED, answer);
+    sheet_bytes = answer.refusal == KEEPER_DONE ? answer.result : sheet_bytes;
+    for (size_t at = 0; at < answer.result; at++)
+        add(sheet[at]);
+}
+
+/* The last sheet, also of a keeper of other sizes, now and then cut short or with a wrong bit, into some slot. */
+static void import_one(void)
+{
+    const size_t count = below(8) != 0 ? sheet_bytes : below((uint32_t)sheet_bytes + 1), hurt = below(60);
+    const uint8_t was = sheet[hurt];
+    const uint32_t slot = near(keeper.sizes.slots), account = near(keeper.sizes.accounts), number = below(30);
+    if (below(6) == 0)
+        sheet[hurt] ^= (uint8_t)(1 << below(8));
+    add_answer(IMPORTED, keeper_easy_import(&keeper, slot, account, number, sheet, count));
+    sheet[hurt] = was;
+}
+
 /* The power fails: memory is lost. */
 static void cut(void)
 {
@@ -149,8 +176,12 @@ static void step(void)
         cut();
     else if (what == 1)
         mend();
-    else if (what < 16)
+    else if (what < 8)
         damaged();
+    else if (what < 12)
+        export_one();
+    else if (what < 16)
+        import_one();
     else if (what < 32)
         look();
     else if (what < 48)
@@ -178,8 +209,8 @@ static void run(KeeperSizes sizes, unsigned long most, void *block, size_t bytes
 static unsigned missing(void)
 {
     unsigned count = 0;
-    for (unsigned number = 1; number <= KEEPER_LINE_FULL; number++) {
-        const int is_kind = number <= KEEPER_TURN && number != 16, is_refusal = number != 23;
+    for (unsigned number = 1; number < REFUSALS; number++) {
+        const int is_kind = (number <= KEEPER_TURN && number != 16) || number >= EXPORTED, is_refusal = number != 23 && number != 28;
         if ((is_kind && done[number] < 10) || (is_refusal && refused[number] == 0))
             printf("%u: carried out %lu times, refused %lu times\n", number, done[number], refused[number]), count++;
     }

@@ -128,7 +128,7 @@ def stack_table():
     text = (ROOT / "docs" / "USING.md").read_text()
     table = text[text.index("| stack |") :].split("\n\n")[0]
     head, _, *rows = [[cell.strip(" `") for cell in line.strip("|").split("|")] for line in table.splitlines()]
-    return {(row[0], target): int(cell.replace(",", "")) for row in rows for target, cell in zip(head[1:], row[1:])}
+    return {(row[0], target): int(cell.replace(",", "")) for row in rows for target, cell in zip(head[1:], row[1:]) if cell}
 
 
 def stack(board):

@@ -7,14 +7,17 @@
 #include "lists.h"
 
 enum { STACK = 1 << 16, PATTERN = 0xC3, LIST = 20, KINDS = 32 };
-enum { APPLY, APPLY_ALL, PAGE_LOOK, RESTART, MEND, FORMAT, CALLS };
-static const char *const names[CALLS] = {"keeper_apply", "keeper_apply_all", "keeper_page_look", "keeper_restart", "keeper_mend", "keeper_format"};
+enum { APPLY, APPLY_ALL, PAGE_LOOK, RESTART, MEND, FORMAT, EXPORT, IMPORT, CALLS };
+static const char *const names[CALLS] = {"keeper_apply", "keeper_apply_all", "keeper_page_look", "keeper_restart", "keeper_mend", "keeper_format",
+                                         "keeper_export", "keeper_import"};
 
 static Keeper keeper;
 static KeeperRequest requests[LIST];
 static KeeperAnswer answers[LIST];
 static KeeperChange changes[KEEPER_MOST_SLOTS * (KEEPER_MOST_PAGES + 2)];
-static unsigned long done[KINDS];
+static uint8_t sheet[KEEPER_SHEET_BYTES(KEEPER_MOST_PAGES, KEEPER_MOST_WORDS)];
+static size_t sheet_bytes;
+static unsigned long done[KINDS], carried[CALLS];
 
 static void apply(void)
 {
@@ -46,7 +49,17 @@ static void format(void)
     answers[0] = keeper_easy_format(&keeper, NULL);
 }
 
-static void (*const calls[CALLS])(void) = {apply, apply_all, page_look, restart, mend, format};
+static void export_one(void)
+{
+    answers[0] = keeper_easy_export(&keeper, 0, sheet, sizeof sheet);
+}
+
+static void import_one(void)
+{
+    answers[0] = keeper_easy_import(&keeper, keeper.sizes.slots - 1, keeper.sizes.accounts - 1, 78, sheet, sheet_bytes);
+}
+
+static void (*const calls[CALLS])(void) = {apply, apply_all, page_look, restart, mend, format, export_one, import_one};
 static void (*volatile call)(void);
 static unsigned char stack[STACK] __attribute__((aligned(16)));
 static volatile uintptr_t top;
@@ -95,6 +108,32 @@ static void farthest(void)
     keeper_activate(&keeper, 0);
 }
 
+/* The design in slot 0 with a word on each page, as many as there are records for, at rest. */
+static void woven(void)
+{
+    keeper_easy_format(&keeper, NULL);
+    for (size_t page = 0; page < keeper.sizes.pages && page < keeper.sizes.records / 2; page++) {
+        keeper.maps[page] = (uint16_t)(page + 1);
+        keeper.records[page * keeper.sizes.words] = 1;
+    }
+    keeper.numbers[0] = 77;
+    for (uint16_t account = 1; account < keeper.sizes.accounts; account++)
+        keeper.parents[account] = (uint16_t)(account - 1);
+    keeper.limits[0] = 0xFFFF;
+    keeper_easy_restart(&keeper);
+}
+
+/* A sheet, measured, and an import of it, for the account that is farthest from account 0. */
+static void carry(size_t most[CALLS])
+{
+    for (unsigned which = EXPORT; which <= IMPORT; which++) {
+        const size_t bytes_of = taken(calls[which]);
+        most[which] = bytes_of > most[which] ? bytes_of : most[which];
+        carried[which] += answers[0].refusal == KEEPER_DONE;
+        sheet_bytes = which == EXPORT ? answers[0].result : sheet_bytes;
+    }
+}
+
 /* The most of each call over so many rounds of these sizes. */
 static void run(KeeperSizes sizes, unsigned rounds, size_t most[CALLS], void *block, size_t bytes)
 {
@@ -112,6 +151,10 @@ static void run(KeeperSizes sizes, unsigned rounds, size_t most[CALLS], void *bl
         if (which >= RESTART)
             farthest();
     }
+    for (unsigned round = 0; round < 20; round++) {
+        woven();
+        carry(most);
+    }
 }
 
 static unsigned missing(void)
@@ -120,6 +163,9 @@ static unsigned missing(void)
     for (unsigned kind = 1; kind <= KEEPER_TURN; kind++)
         if (kind != 16 && done[kind] == 0)
             printf("kind %u was never carried out\n", kind), count++;
+    for (unsigned which = EXPORT; which <= IMPORT; which++)
+        if (carried[which] < 40)
+            printf("%s was carried out %lu times\n", names[which], carried[which]), count++;
     return count;
 }
 

@@ -2,51 +2,11 @@
  * show after a cut: each write and each map update that was open then has landed whole or not at all; all else is certain. */
 #include <stdio.h>
 #include <stdlib.h>
-#include "plug.h"
+#include "books.h"
 
 Totals totals;
 
-/* A version number stands for a page's words; 0 for zeros. */
-typedef struct {
-    uint32_t text;    /* what the page reads in memory */
-    uint32_t listed;  /* what its listed record holds; 0 for a page that is not listed */
-    uint32_t holds;   /* what the record of its address holds, once it was live */
-    int live, same;   /* its address is live; its address is the listed record */
-    int in;           /* in a frame */
-    int writing;      /* its write is open, with `text` */
-    int imaged, kept; /* the open update lists it; and its address is still that record */
-    uint32_t image;   /* what that record holds, if it is not */
-    uint32_t found;   /* what an open read */
-} Page;
-
-typedef struct {
-    uint32_t number, account;
-    int active, updating, storing;
-    uint32_t next_number, next_account; /* what an open store would leave */
-    uint32_t found_number, found_account;
-    Page pages[PLUG_MOST_PAGES];
-} Slot;
-
-typedef struct {
-    uint32_t value, next, found, parent;
-    int storing;
-} Limit;
-
-typedef struct {
-    uint32_t number, page;
-} Version;
-
-struct Books {
-    KeeperSizes sizes;
-    uint32_t formatted, versions, room, numbers;
-    Version *version;
-    Slot slots[PLUG_MOST_SLOTS];
-    Limit limits[PLUG_MOST_ACCOUNTS];
-    int moving; /* the store of a move is open: both limits land, or neither */
-    uint32_t giver, taker;
-};
-
-static void broken(const char *promise, uint32_t slot, uint32_t page, uint32_t found)
+void broken(const char *promise, uint32_t slot, uint32_t page, uint32_t found)
 {
     totals.broken++;
     if (!totals.quiet)
@@ -85,25 +45,30 @@ static uint32_t version_of(Books *books, const Note *note)
         return 0;
     if (version == 0 || version >= books->versions || equal != note->count)
         broken("a page is no version that was woven: torn, or mixed", slot, page, version);
-    else if (books->version[version].number != number)
+    else if (books->version[version].number != number && version != books->slots[slot].pages[page].carried)
         broken("a page shows another design's words", slot, page, version);
     else if (books->version[version].page != page)
         broken("a page shows another page's words", slot, page, version);
     return version;
 }
 
-static void woven(Books *books, uint32_t slot, uint32_t page, uint32_t version)
+/* A version is that page's of that design. */
+void enter(Books *books, uint32_t number, uint32_t page, uint32_t version)
 {
-    books->slots[slot].pages[page].text = version;
-    if (version == 0)
-        return;
     if (version >= books->room) {
         books->room = 2 * version + 64;
         books->version = realloc(books->version, books->room * sizeof *books->version);
     }
-    books->version[version].number = books->slots[slot].number;
+    books->version[version].number = number;
     books->version[version].page = page;
     books->versions = version + 1;
+}
+
+static void woven(Books *books, uint32_t slot, uint32_t page, uint32_t version)
+{
+    books->slots[slot].pages[page].text = version;
+    if (version != 0)
+        enter(books, books->slots[slot].number, page, version);
 }
 
 /* ── what an open found ── */
@@ -171,11 +136,13 @@ static void opened(Books *books)
         judge_slot(books, slot, at);
         slot->number = slot->found_number;
         slot->account = slot->found_account;
-        slot->active = slot->updating = slot->storing = 0;
+        totals.cut_imports += (unsigned long)slot->importing;
+        slot->active = slot->updating = slot->storing = slot->importing = 0;
         for (size_t page = 0; page < books->sizes.pages; page++) {
-            const uint32_t found = slot->pages[page].found;
+            const uint32_t found = slot->pages[page].found, carried = slot->pages[page].carried;
             memset(slot->pages + page, 0, sizeof slot->pages[page]);
             slot->pages[page].text = slot->pages[page].listed = found;
+            slot->pages[page].carried = carried;
         }
     }
     judge_limits(books);
@@ -254,6 +221,8 @@ static void stored_slot(Books *books, Slot *slot)
     slot->number = slot->next_number;
     slot->account = slot->next_account;
     slot->storing = 0;
+    totals.imports += (unsigned long)slot->importing;
+    fill(books, slot);
     if (slot->number >= books->numbers)
         books->numbers = slot->number + 1;
 }
@@ -318,6 +287,14 @@ void books_note(Books *books, const Note *note)
         break;
     case NOTE_WRITE: page->writing = 1; break;
     case NOTE_WRITE_END: written(page, (int)note->c); break;
+    case NOTE_SHEET: sheet_begins(books, note); break;
+    case NOTE_SHEET_PAGE: sheet_page(books, note); break;
+    case NOTE_SHEET_END: sheet_ends(books, slot, (int)note->b); break;
+    case NOTE_IMPORT_END:
+        if (note->b)
+            stored_slot(books, slot);
+        slot->importing = slot->storing = 0;
+        break;
     case NOTE_UPDATE: updates(books, slot); break;
     case NOTE_MAP_END: updated(books, slot, (int)note->b); break;
     case NOTE_TRUNCATE: truncated(books, slot, note->b); break;

@@ -209,8 +209,9 @@ static void killed_disk(int wrong, unsigned kills, const char *path)
 /* ── all of it ── */
 static void print_totals(const char *what, double since)
 {
-    printf("%s%s: %lu kills (%lu resets), %lu calls, %lu reads checked, %lu moves, %lu broken promises, %.0f s\n", isatty(1) ? "\r" : "", what, totals.kills,
-           totals.resets, totals.calls, totals.reads, totals.moves, totals.broken, seconds() - since);
+    printf("%s%s: %lu kills (%lu resets), %lu calls, %lu reads checked, %lu moves, %lu exports, %lu imports and %lu cut ones, %lu broken promises, %.0f s\n",
+           isatty(1) ? "\r" : "", what, totals.kills, totals.resets, totals.calls, totals.reads, totals.moves, totals.exports, totals.imports, totals.cut_imports,
+           totals.broken, seconds() - since);
 }
 
 /* A wrong driver: how many kills until it is caught, or 0. */
@@ -248,7 +249,8 @@ static void right_driver(int simulated, unsigned long kills, const char *path)
             killed_disk(WRONG_NONE, some, path);
     }
     print_totals(simulated ? "simulated device" : "killed process", since);
-    const int tried = totals.moves > 0 && (totals.resets > 0 || !simulated);
+    const int carried = totals.imports > 0 && totals.exports > 0 && totals.cut_imports > 0;
+    const int tried = totals.moves > 0 && carried && (totals.resets > 0 || !simulated);
     count_one(totals.broken == 0 && totals.reads > 0 && (tried || kills < 25));
 }
 
@@ -263,7 +265,8 @@ static void wrong_driver(int wrong, const char *name, int simulated, const char 
 int main(int count, char **words)
 {
     static const char *names[] = {"", "no journal", "a page is reported before it is stored", "a map is reported before it is stored",
-                                  "the store of a slot is left out", "nothing is synced", "a move is two stores", "open brings home what is not safe"};
+                                  "the store of a slot is left out", "nothing is synced", "a move is two stores", "an import's slot is stored before its records",
+                                  "an import's slot is two stores", "open brings home what is not safe"};
     const unsigned long kills = count >= 3 ? strtoul(words[1], NULL, 10) : 0;
     if (kills == 0) {
         puts("plug KILLS DISK-FILE [SEED]");

@@ -32,6 +32,10 @@ enum {
     NOTE_MAP_END,     /* slot, good */
     NOTE_TRUNCATE,    /* slot, k */
     NOTE_READ,        /* slot, page, and the words that it reads */
+    NOTE_SHEET,       /* slot, number, where from: a sheet, of the design at rest in slot c - 1, or for 0 a made one; for this number in this slot */
+    NOTE_SHEET_PAGE,  /* slot, page, and the words that the sheet has of it */
+    NOTE_SHEET_END,   /* whether it is imported now; the store of the slot is told as that of a create, once it begins */
+    NOTE_IMPORT_END,  /* slot, whether it was carried out */
     NOTE_REFUSED      /* a call was refused that must not be: its refusal, and where */
 };
 
@@ -76,7 +80,7 @@ uint32_t books_next_version(const Books *books);
 uint32_t books_next_number(const Books *books);
 
 typedef struct {
-    unsigned long kills, resets, calls, reads, moves, broken;
+    unsigned long kills, resets, calls, reads, moves, imports, cut_imports, exports, broken;
     int quiet; /* print no broken promise */
 } Totals;
 extern Totals totals;

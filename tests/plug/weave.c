@@ -1,6 +1,6 @@
 /* Not proved: the weaver of the plug test. It opens the disk, tells what it finds, and then does what the tables allow, at random, until the
  * device is dead. It tells of each store before it begins and after it was reported. Wrong drivers are in it, to be caught. */
-#include "plug.h"
+#include "weaver.h"
 
 unsigned long plug_calls;
 
@@ -20,15 +20,7 @@ uint32_t plug_word(uint32_t version, size_t word)
     return word == 0 ? version : (version * 2654435761u + (uint32_t)word * 40503u) | 1u;
 }
 
-/* What the weaver knows of its frames and updates, to see what a step has changed. */
-typedef struct {
-    Weaver *own;
-    FileDisk disk;
-    KeeperFrame frames[KEEPER_MOST_FRAMES];
-    uint8_t updating[PLUG_MOST_SLOTS];
-} Run;
-
-static void tell_words(Run *run, uint32_t type, uint32_t a, uint32_t b, uint32_t c, const uint32_t *words)
+void tell_words(Run *run, uint32_t type, uint32_t a, uint32_t b, uint32_t c, const uint32_t *words)
 {
     Note note;
     note.type = type, note.a = a, note.b = b, note.c = c;
@@ -40,17 +32,17 @@ static void tell_words(Run *run, uint32_t type, uint32_t a, uint32_t b, uint32_t
     run->own->tell(run->own->to, &note);
 }
 
-static void tell(Run *run, uint32_t type, uint32_t a, uint32_t b, uint32_t c)
+void tell(Run *run, uint32_t type, uint32_t a, uint32_t b, uint32_t c)
 {
     tell_words(run, type, a, b, c, NULL);
 }
 
-static uint32_t chance(Run *run, uint32_t below)
+uint32_t chance(Run *run, uint32_t below)
 {
     return plug_random(&run->own->random, below);
 }
 
-static void remember(Run *run)
+void remember(Run *run)
 {
     const Keeper *keeper = run->own->keeper;
     memcpy(run->frames, keeper->frames, keeper->sizes.frames * sizeof *run->frames);
@@ -219,7 +211,7 @@ static void truncate_at(Run *run, uint32_t slot, uint32_t from)
 }
 
 /* An event that stores is carried out, or the disk is dead, and its answer says so. */
-static void must_be_done(Run *run, KeeperAnswer answer, uint32_t a, uint32_t b)
+void must_be_done(Run *run, KeeperAnswer answer, uint32_t a, uint32_t b)
 {
     if (answer.refusal != (run->disk.dead ? FILEDISK_DIED : KEEPER_DONE))
         tell(run, NOTE_REFUSED, a, b, answer.refusal);
@@ -322,11 +314,17 @@ static void one_act(Run *run)
     Keeper *keeper = run->own->keeper;
     const uint32_t slot = chance(run, (uint32_t)keeper->sizes.slots), page = chance(run, (uint32_t)keeper->sizes.pages);
     if (keeper->numbers[slot] == 0) {
-        create(run, slot);
+        if (chance(run, 4) == 0)
+            create(run, slot);
+        else
+            import_design(run, slot);
         return;
     }
     if (!keeper->active[slot]) {
-        set_active(run, slot, 1);
+        if (chance(run, 3) == 0)
+            export_design(run, slot);
+        else
+            set_active(run, slot, 1);
         return;
     }
     switch (chance(run, 24)) {
@@ -337,7 +335,7 @@ static void one_act(Run *run)
         else
             move(run);
         break;
-    case 2: put_to_rest(run, slot, chance(run, 3) == 0); break;
+    case 2: put_to_rest(run, slot, chance(run, 3) != 0); break;
     case 3: keeper_wire(keeper, slot, page); remember(run); break;
     case 4: keeper_unwire(keeper, slot, page); remember(run); break;
     case 5: save(run, slot); break;
@@ -403,6 +401,7 @@ void weaver_run(Weaver *weaver)
     Run run;
     memset(&run, 0, sizeof run);
     run.own = weaver;
+    weaver->blocks = watched(&run, weaver->blocks);
     if (!opens(&run))
         return;
     tell_disk(&run);

@@ -12,11 +12,13 @@ enum {
     WRONG_NO_SLOT = 4,    /* the store of a slot is left out */
     WRONG_NO_SYNC = 5,
     WRONG_TWO_STORES = 6, /* a move */
-    WRONG_HOME_FIRST = 7, /* open brings the journal's store to its places before it is safe in the journal */
-    WRONG_SYNC_ALONE = 8, /* .. or syncs the journal, and does not write it again */
-    WRONG_TORN_STAYS = 9, /* open leaves a journal that is not whole as it is */
-    WRONG_HEADER_STAYS = 10, /* open does not write the header again */
-    WRONG_COUNT = 11
+    WRONG_SLOT_FIRST = 7,  /* an import's slot is stored before its records */
+    WRONG_SLOT_IN_TWO = 8, /* .. or its number and account before its map */
+    WRONG_HOME_FIRST = 9, /* open brings the journal's store to its places before it is safe in the journal */
+    WRONG_SYNC_ALONE = 10, /* .. or syncs the journal, and does not write it again */
+    WRONG_TORN_STAYS = 11, /* open leaves a journal that is not whole as it is */
+    WRONG_HEADER_STAYS = 12, /* open does not write the header again */
+    WRONG_COUNT = 13
 };
 
 /* A device that passes over what a driver leaves out that has no journal, no sync, or an open that is wrong. */

@@ -3,10 +3,10 @@
 use std::path::Path;
 use std::process::Command;
 
-const FILES: [&str; 6] = ["keeper", "accounts", "mend", "rules", "questions", "events"];
+const FILES: [&str; 7] = ["keeper", "accounts", "mend", "rules", "questions", "events", "sheets"];
 
 /// The proved keeper's calls have these names too: here they become c_port_*.
-const CALLS: [&str; 6] = ["format", "restart", "apply", "apply_all", "mend", "page_look"];
+const CALLS: [&str; 8] = ["format", "restart", "apply", "apply_all", "mend", "page_look", "export", "import"];
 
 fn run(command: &mut Command) {
     let status = command.status().unwrap_or_else(|error| panic!("{command:?}: {error}"));

@@ -20,12 +20,19 @@ use Rattle.model.specs.Laws.Fit.{Fit, disk-fit, memory-fit}
 use Rattle.model.specs.Restart.{formatted, restarted}
 use Rattle.model.specs.Ledger as L
 use Rattle.model.specs.Ledger.{Ledger, unwritten, note, lose, finishWrite, finishUpdate, finishWrites, finishUpdates}
-use Rattle.model.specs.Acts.{Act, event, looking, restarting, cutting, cuttingIn, World, fed, landed, noted, part, act, allowed, legal, run, start}
+use Rattle.model.specs.Acts.{Act, event, looking, importing, exporting, restarting, cutting, cuttingIn, World, fed, landed, noted, partly, wholly, fedPart, part, act, allowed, legal, run, start}
 use Rattle.model.specs.Demand3.{Demand3}
 use Rattle.model.specs.FromPack.{FromPack, ListedLive}
+use Rattle.sheets.specs.Sheet.{numberIn}
+use Rattle.model.specs.Import.{sheetOf, imported, importAnswer, import}
+use Rattle.model.specs.Stores as S
 use Rattle.model.specs.Stores.{Call}
 use Rattle.invariant.proofs.Kept.{carried-kept, restarted-good}
-use Rattle.invariant.proofs.Stores.{Inside, inside, part-same}
+use Rattle.invariant.proofs.Imports.{midway, import-kept}
+use Rattle.invariant.proofs.Imported.{import-before}
+use Rattle.invariant.proofs.Stores.{Inside, inside, part-same, part-import}
+use Rattle.crash.proofs.Partly.{mid-tied}
+use Rattle.crash.proofs.ImportTied.{import-tied}
 use Rattle.invariant.proofs.RestartedRecords.{zero-at}
 use Rattle.crash.proofs.Writes.{no-write, no-update}
 use Rattle.crash.proofs.Link.{OnDisk, Tied}
@@ -112,19 +119,44 @@ module _ (z : Sizes) where
           ap (finishUpdates (z .slots) updates) (none-written (z .frames) writes (w .ledger) (c .writing)) ∙ none-updated (z .slots) updates (w .ledger) (c .updating) in
           subst (λ (l : Ledger). Good z (after (w .state .disk) l)) (sym same) (lost z (w .state) (w .ledger) junk lengths (k .fit) (k .rules) (k .disk))
 
-  -- in the midst of a call
-  part-keeps : (w : World) (c : Call) (n : ℕ) (junk : Memory) → Inside z w c n junk → Good z w → Good z (part z w c n)
-  part-keeps w c n junk i k = subst (Good z) (sym (part-same z w c n junk i)) k
+  tied-of : (w : World) → T (w .up) → Good z w → Tied z (w .state) (w .ledger)
+  tied-of w u k = record { disk = k .disk; memory = k .memory u }
 
-  act-keeps : (w : World) (a : Act) → T (allowed z w a) → Good z w → Good z (act z w a)
+  -- in the midst of a call
+  pub part-keeps : (w : World) (c : Call) (n : ℕ) (junk : Memory) → Inside z w c n junk → Good z w → Good z (part z w c n)
+  unfolding part fedPart
+  part-keeps w (S.event e) n junk i k = subst (Good z) (sym (part-same z w e n junk i)) k
+  part-keeps w (S.importing s q m b) n junk i k =
+      let p = part-import z w s q m b n junk i in
+      let x = import-before z (w .state) s q m b (p .0) in
+      let y = midway z (w .state) s q m (sheetOf b) x n (p .1) in
+      let l : Ledger = partly z (w .state) s (sheetOf b) n (w .ledger) in
+      subst (λ (st : State). Good z (record { up = w .up; state = st; ledger = l })) (sym (p .2))
+      (up-good z (w .up) _ l (i .up) (y .fit) (y .ruled) (mid-tied z (w .state) s q m (sheetOf b) (w .ledger) x (tied-of w (i .up) k) n (p .1)))
+
+  import-keeps : (w : World) (s q n : ℕ) (b : List ℕ) → T (w .up) → Good z w → Good z (act z w (importing s q n b))
+  unfolding act import
+  import-keeps w s q n b u k = go (importAnswer z (w .state) s q n b) refl
+    where
+      go : (m : ℕ) → importAnswer z (w .state) s q n b ≡ m → (let o = outcome m (numberIn b) (w .state) (imported z (w .state) s q n (sheetOf b)) in
+          Good z (record { up = w .up; state = o .left; ledger = if (eqb (o .answer .refusal) 0) (wholly z (w .state) s (sheetOf b) (w .ledger)) (w .ledger) }))
+      go zero a =
+          let c = import-before z (w .state) s q n b a in
+          let x = import-kept z (w .state) s q n (sheetOf b) c in
+          up-good z (w .up) (imported z (w .state) s q n (sheetOf b)) _ u (x .0) (x .1) (import-tied z (w .state) (w .ledger) s q n (sheetOf b) c (tied-of w u k))
+      go (suc m) a = rw (ne-eqb (suc m) 0 (λ x. omega (arith, x))) k
+
+  pub act-keeps : (w : World) (a : Act) → T (allowed z w a) → Good z w → Good z (act z w a)
   unfolding allowed act
   act-keeps w (event e) t k = event-keeps w e t k
   act-keeps w (looking s p) t k = k
+  act-keeps w (importing s q n b) t k = import-keeps w s q n b t k
+  act-keeps w (exporting s buffer) t k = k
   act-keeps w restarting t k = restart-keeps w k
   act-keeps w (cutting writes updates junk) t k = cut-keeps w writes updates junk (sound (memoryLengths z junk) t) k
   act-keeps w (cuttingIn c n writes updates junk) t k = let i = inside z w c n writes updates junk t in cut-keeps (part z w c n) writes updates junk (i .lengths) (part-keeps w c n junk i k)
 
-  run-keeps : (acts : List Act) (w : World) → T (legal z w acts) → Good z w → Good z (run z w acts)
+  pub run-keeps : (acts : List Act) (w : World) → T (legal z w acts) → Good z w → Good z (run z w acts)
   unfolding run legal
   run-keeps [] w t k = k
   run-keeps (a ∷ acts) w t k = run-keeps acts (act z w a) (and-right (allowed z w a) (legal z (act z w a) acts) t) (act-keeps w a (and-left (allowed z w a) (legal z (act z w a) acts) t) k)

@@ -35,7 +35,7 @@ use Rattle.crash.proofs.Writes.{put-other, put-same}
 use Rattle.crash.proofs.Link.{Away, Tied}
 use Rattle.crash.proofs.Steps.{Before, tied-at}
 use Rattle.crash.proofs.OneFrame.{one-frame, other-frame, away-but, Elsewhere}
-use Rattle.crash.proofs.Parts.{at-part}
+use Rattle.invariant.proofs.Parts.{at-part}
 
 module _ (z : Sizes) (s p : ℕ) (st : State) (l : Ledger) (b : Before z st l (Event.Page (Fault s p))) where
   abbrev i₀ : ℕ

@@ -27,9 +27,9 @@ use Rattle.model.specs.Laws.Index.{split-set, slot-below}
 use Rattle.invariant.proofs.Stands.{seat-at, moving-place}
 use Rattle.crash.proofs.Writes.{In, Numbered, bounded, last-here, last-there, split-put, put-other, put-same}
 use Rattle.crash.proofs.Link.{Owned, OfPage, Latest, Newest, Holding, Opened, InFrame, Away, KeptAs, OnDisk, InMemory, Tied}
-use Rattle.crash.proofs.Steps.{same-page}
+use Rattle.invariant.proofs.Parts.{same-page}
 use Rattle.crash.proofs.OneFrame.{in-frame-same, alike-same}
-use Rattle.crash.proofs.Parts.{at-part}
+use Rattle.invariant.proofs.Parts.{at-part}
 
 -- a record that a page holds is named by no other page, in no way
 module _ (z : Sizes) (v : Files) (rules : OfRecords z v) (i₀ r : ℕ) (h₀ : i₀ < allPages z) (held : v .address i₀ ≡ suc r) where

@@ -8,9 +8,12 @@ use Rattle.tables.specs.Base.{if}
 use Rattle.model.specs.declared.sizes.Sizes.{Sizes}
 use Rattle.model.specs.State.{Disk, State}
 use Rattle.model.specs.Step.{Outcome, step, restart}
-use Rattle.model.specs.Ledger.{Ledger, Fed, nothing, restarted, created, deleted, activated, deactivated, faulted, wrote, claimed, truncated, began, pageEnd, mapEnd, cut}
-use Rattle.model.specs.Ledger.{note, lose, voided, finishWrite, finishUpdate, strikeWrite, strikeUpdate, finishWrites, finishUpdates}
-use Rattle.model.specs.Acts.{Act, event, looking, restarting, cutting, cuttingIn, World, fed, noted, part, act, run}
+use Rattle.model.specs.Import.{Sheet, sheetOf, taken, has, said, import}
+use Rattle.model.specs.Stores as S
+use Rattle.model.specs.Stores.{Call}
+use Rattle.model.specs.Ledger.{Ledger, Fed, nothing, restarted, created, deleted, activated, deactivated, faulted, wrote, claimed, truncated, began, pageEnd, mapEnd, importBegun, importedPage, importedSlot, cut}
+use Rattle.model.specs.Ledger.{spent, carriedIn, placed, note, lose, voided, finishWrite, finishUpdate, strikeWrite, strikeUpdate, finishWrites, finishUpdates}
+use Rattle.model.specs.Acts.{Act, event, looking, importing, exporting, restarting, cutting, cuttingIn, World, fed, noted, partly, wholly, fedPart, part, act, run}
 
 -- either of two ledgers
 either : (b : Bool) (x y : Ledger) (p : Disk) → x .pack ≡ p → y .pack ≡ p → (if b x y) .pack ≡ p
@@ -37,7 +40,7 @@ updates-pack (suc s) lands l = let e = updates-pack s lands l in either (lands s
 
 module _ (z : Sizes) where
   note-pack : (l : Ledger) (f : Fed) → note z l f .pack ≡ l .pack
-  unfolding note lose strikeWrite strikeUpdate
+  unfolding note lose strikeWrite strikeUpdate spent carriedIn placed
   note-pack l nothing = refl
   note-pack l (restarted d) = refl
   note-pack l (created s) = refl
@@ -52,19 +55,38 @@ module _ (z : Sizes) where
   note-pack l (began s) = refl
   note-pack l (pageEnd f good) = either (eqb good 1) _ _ (l .pack) (write-pack f l) refl
   note-pack l (mapEnd s good) = either (eqb good 1) _ _ (l .pack) (update-pack s l) refl
+  note-pack l importBegun = refl
+  note-pack l (importedPage p r words) = refl
+  note-pack l (importedSlot s has said) = refl
   note-pack l (cut writes updates) = updates-pack (z .slots) updates (finishWrites (z .frames) writes l) ∙ writes-pack (z .frames) writes l
 
   noted-pack : (o : Outcome State) (f : Fed) (l : Ledger) → noted z o f l .pack ≡ l .pack
   unfolding noted
   noted-pack o f l = either (eqb (o .answer .refusal) 0) _ l (l .pack) (note-pack l f) refl
 
+  partly-pack : (st : State) (s : ℕ) (h : Sheet) (k : ℕ) (l : Ledger) → partly z st s h k l .pack ≡ l .pack
+  unfolding partly
+  partly-pack st s h zero l = note-pack l importBegun
+  partly-pack st s h (suc k) l = note-pack (partly z st s h k l) (importedPage (h .page k) (taken z st s k) (h .word k)) ∙ partly-pack st s h k l
+
+  wholly-pack : (st : State) (s : ℕ) (h : Sheet) (l : Ledger) → wholly z st s h l .pack ≡ l .pack
+  unfolding wholly
+  wholly-pack st s h l = note-pack (partly z st s h (h .count) l) (importedSlot s (has h) (said h)) ∙ partly-pack st s h (h .count) l
+
+  part-pack : (st : State) (c : Call) (k : ℕ) (l : Ledger) → fedPart z st c k l .pack ≡ l .pack
+  unfolding fedPart
+  part-pack st (S.event e) k l = refl
+  part-pack st (S.importing s q n b) k l = partly-pack st s (sheetOf b) k l
+
   act-pack : (w : World) (a : Act) → act z w a .ledger .pack ≡ w .ledger .pack
   unfolding act part
   act-pack w (event e) = noted-pack (step z (w .state) e) (fed z (w .state) e) (w .ledger)
   act-pack w (looking s p) = refl
+  act-pack w (importing s q n b) = either (eqb (import z (w .state) s q n b .answer .refusal) 0) _ (w .ledger) (w .ledger .pack) (wholly-pack (w .state) s (sheetOf b) (w .ledger)) refl
+  act-pack w (exporting s buffer) = refl
   act-pack w restarting = noted-pack (restart z (w .state)) (restarted (w .state .disk)) (w .ledger)
   act-pack w (cutting writes updates junk) = note-pack (w .ledger) (cut writes updates)
-  act-pack w (cuttingIn c k writes updates junk) = note-pack (w .ledger) (cut writes updates)
+  act-pack w (cuttingIn c k writes updates junk) = note-pack (fedPart z (w .state) c k (w .ledger)) (cut writes updates) ∙ part-pack (w .state) c k (w .ledger)
 
   pub same-pack : (acts : List Act) (w : World) → run z w acts .ledger .pack ≡ w .ledger .pack
   unfolding run

@@ -24,7 +24,7 @@ use Rattle.invariant.proofs.Stands.{seat-at, moving-place}
 use Rattle.crash.proofs.Writes.{put-other, put-same}
 use Rattle.crash.proofs.Link.{Tied}
 use Rattle.crash.proofs.OneFrame.{one-frame, other-frame, away-but}
-use Rattle.crash.proofs.Parts.{at-part}
+use Rattle.invariant.proofs.Parts.{at-part}
 
 module _ (z : Sizes) (st : State) (l : Ledger) (fit : Fit z st) (rules : Ruled z st) (k : Tied z st l) (f : ℕ) (hf : f < z .frames) where
   abbrev fs : ℕ → Frame

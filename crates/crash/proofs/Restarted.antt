@@ -19,7 +19,7 @@ use Rattle.model.specs.Laws.Index.{slot-below}
 use Rattle.invariant.proofs.RestartedRecords.{zero-at}
 use Rattle.crash.proofs.Writes.{In, again, last-into, greatest, last-again, in-again, length-again, numbered-again, counted-was, counts-on}
 use Rattle.crash.proofs.Link.{Owned, OfPage, Latest, Newest, OnDisk, Tied}
-use Rattle.crash.proofs.Steps.{same-page}
+use Rattle.invariant.proofs.Parts.{same-page}
 use Rattle.crash.proofs.Start.{one-value, names-none}
 
 module _ (z : Sizes) (st : State) (l : Ledger) (pos : 0 < z .pages) (rules : R.OnDisk z (files st)) (d : OnDisk z st l) where

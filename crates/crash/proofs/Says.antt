@@ -32,7 +32,7 @@ use Rattle.crash.proofs.Link.{Own, Newest}
 use Rattle.crash.proofs.Steps.{Good}
 
 -- an outcome with refusal 0 is the work's
-not-refused : {A : Type 0} (n result : ℕ) (old new : A) → (let o = outcome n result old new in o .answer .refusal ≡ 0 → (n ≡ 0) × ((o .answer .result ≡ result) × (o .left ≡ new)))
+pub not-refused : {A : Type 0} (n result : ℕ) (old new : A) → (let o = outcome n result old new in o .answer .refusal ≡ 0 → (n ≡ 0) × ((o .answer .result ≡ result) × (o .left ≡ new)))
 not-refused zero result old new e = (refl, (refl, refl))
 not-refused (suc n) result old new e = absurd (omega (arith, e))
 

@@ -1,7 +1,6 @@
 -- What an event's lemma is given and what it shows, and what a list of acts keeps.
 use mathlib.Core.Path.{_≡_, ap, sym, _∙_, subst₂}
-use Prim.Native.Nat.{ℕ, _+_, _*_, _/_, _%_}
-use native.Mathlib.Nat.{div-add-mod'}
+use Prim.Native.Nat.{ℕ}
 use lib.Dec.{T}
 use Rattle.tables.specs.Questions.{Asked, all-yes}
 use Rattle.model.specs.declared.sizes.Sizes.{Sizes}
@@ -44,8 +43,3 @@ pub record Good (z : Sizes) (w : World) : Type 0 where
   pub ruled : T (w .up) → Ruled z (w .state)
   pub memory : T (w .up) → InMemory z (w .state) (w .ledger)
   pub closed : ¬ (T (w .up)) → Closed z (w .ledger)
-
--- ── pages and slots ──
--- two pages of one slot with one number within it
-pub same-page : (n i j : ℕ) → i / n ≡ j / n → i % n ≡ j % n → i ≡ j
-same-page n i j p q = sym (div-add-mod' i n) ∙ ap (λ (x : ℕ). x * n + i % n) p ∙ ap (λ (x : ℕ). j / n * n + x) q ∙ div-add-mod' j n

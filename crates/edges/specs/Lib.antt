@@ -11,6 +11,10 @@ pub mod RuleList
 pub mod Refusals
 pub mod Runs
 pub mod StoreEdges
+pub mod Sheets
+pub mod FormEdges
+pub mod SheetEdges
+pub mod SheetRuns
 pub mod Worlds
 pub mod Packs
 pub mod MoreWorlds

@@ -30,6 +30,10 @@ use Rattle.model.specs.Writeback
 use Rattle.model.specs.Line
 use Rattle.model.specs.Restart
 use Rattle.model.specs.Step
+use Rattle.sheets.specs.Sheet
+use Rattle.model.specs.Pool
+use Rattle.model.specs.Import
+use Rattle.model.specs.Export
 use Rattle.model.specs.Stores
 use Rattle.model.specs.Ledger
 use Rattle.model.specs.Acts
@@ -138,6 +142,8 @@ cut fs ss = Acts.cutting (among fs) (among ss) (junk small)
 abbrev pub cutIn : Act → ℕ → List ℕ → List ℕ → Act
 cutIn (Acts.event e) k fs ss = Acts.cuttingIn (Stores.event e) k (among fs) (among ss) (junk small)
 cutIn (Acts.looking s p) k fs ss = cut fs ss
+cutIn (Acts.importing s q n b) k fs ss = Acts.cuttingIn (Stores.importing s q n b) k (among fs) (among ss) (junk small)
+cutIn (Acts.exporting s buffer) k fs ss = cut fs ss
 cutIn Acts.restarting k fs ss = cut fs ss
 cutIn (Acts.cutting writes updates m) k fs ss = cut fs ss
 cutIn (Acts.cuttingIn c n writes updates m) k fs ss = cut fs ss
@@ -154,9 +160,14 @@ unfolding all any count find those tab bits members packed times without tail he
     Writeback.storeFrame Writeback.writeGood Writeback.writeFailed Writeback.pageDone Writeback.storeImage Writeback.updateOver Writeback.mapDone Restart.formatted Restart.isListed
     Restart.listedAt Restart.restarted Step.allFit Step.answer Step.carried Step.result Step.step Step.format Step.restart Step.look Ledger.noWrite Ledger.noUpdate Ledger.put
     Ledger.over Ledger.finishWrite Ledger.finishUpdate Ledger.strikeWrite Ledger.strikeUpdate Ledger.finishWrites Ledger.finishUpdates Ledger.lose Ledger.found Ledger.recount
-    Ledger.note Ledger.packDesign Ledger.unwritten Stores.first Stores.stores Stores.answered Stores.made Acts.fed Acts.landWrites Acts.landUpdates Acts.landed Acts.noted Acts.part Acts.act Acts.allowed Acts.legal Acts.run Acts.start junk among
+    Ledger.note Ledger.packDesign Ledger.unwritten Stores.first Stores.stores Stores.answered Stores.made Import.taking Import.taken Import.fieldOf Import.has Import.said Import.storeRecord Import.entry Import.storeSlot Import.made Import.imported
+    Import.importAnswer Import.import Export.exported Export.export Pool.taken Ledger.spent Ledger.carriedIn Ledger.placed Acts.partly Acts.wholly Acts.fedPart Sheet.bytes Sheet.runs Sheet.head Sheet.pageField Sheet.shownField
+    Sheet.printed Sheet.laid Sheet.number Sheet.wordsIn Sheet.pagesIn Sheet.numberIn Sheet.countIn Sheet.placeOf Sheet.pageIn Sheet.wordIn Sheet.pageFits Sheet.form
+    Acts.fed Acts.landWrites Acts.landUpdates Acts.landed Acts.noted Acts.part Acts.act Acts.allowed Acts.legal Acts.run Acts.start junk among
 said z w (Acts.event e) = let a = Step.step z (w .state) e .answer in a .refusal ∷ a .result ∷ []
 said z w (Acts.looking s p) = let a = Step.look z (w .state) s p .answer in a .refusal ∷ a .result ∷ []
+said z w (Acts.importing s q n b) = let a = Import.import z (w .state) s q n b .answer in a .refusal ∷ a .result ∷ []
+said z w (Acts.exporting s buffer) = let a = Export.export z (w .state) s buffer .answer in a .refusal ∷ a .result ∷ []
 said z w Acts.restarting = let a = Step.restart z (w .state) .answer in a .refusal ∷ a .result ∷ []
 said z w (Acts.cutting writes updates m) = []
 said z w (Acts.cuttingIn c k writes updates m) = []

@@ -15,6 +15,8 @@ use Rattle.edges.specs.Runs.{holds}
 abbrev count : State → Act → ℕ
 count st (Acts.event e) = length (Stores.made small st (Stores.event e))
 count st (Acts.looking s p) = 0
+count st (Acts.importing s q n b) = length (Stores.made small st (Stores.importing s q n b))
+count st (Acts.exporting s buffer) = 0
 count st Acts.restarting = 0
 count st (Acts.cutting writes updates m) = 0
 count st (Acts.cuttingIn c k writes updates m) = 0

@@ -9,19 +9,24 @@ use Rattle.model.specs.declared.request.Request.{Request}
 use Rattle.model.specs.State.{State}
 use Rattle.model.specs.Setters.{onDisk, onHeld, setNumbers, setUsed, setStates, setOwners}
 use Rattle.model.specs.Requests.{decoded}
+use Rattle.model.specs.Acts
 use Rattle.model.specs.Acts.{Act, World}
+use Rattle.model.specs.Carried.{spares, allSpare}
 use Rattle.model.specs.Terms.{passes, tidy, blameless, answered, allAnswered, noLimits, asksLimit, sum, other, allOther, asksDone, actsTo}
-use Rattle.edges.specs.Lists.{limit, move, create, delete, activate, deactivate, fault, read, write, wire, unwire, claim, truncate, update, pageDone, mapDone, join, turn, look, restart, small, cut, said, begin, leaves}
+use Rattle.edges.specs.Lists.{limit, move, create, delete, activate, deactivate, fault, read, write, wire, unwire, claim, truncate, update, pageDone, mapDone, join, turn, look, restart, small, cut, cutIn, said, begin, leaves}
+use Rattle.edges.specs.Sheets.{bare, import}
 use Rattle.edges.specs.Edges.{opened}
 use Rattle.edges.specs.Worlds.{onState}
 
 -- an act of every kind but limit
 abbrev others : List Act
-others = move 0 1 1 ∷ create 0 0 7 ∷ delete 0 ∷ activate 0 ∷ deactivate 0 ∷ fault 0 0 ∷ read 0 0 0 ∷ write 0 0 0 9 ∷ wire 0 0 ∷ unwire 0 0 ∷ claim ∷ truncate 0 0 ∷ update 0 ∷ pageDone 0 1 ∷ mapDone 0 1 ∷ join 0 0 ∷ turn ∷ look 0 0 ∷ restart ∷ cut [] [] ∷ []
+others =
+    (move 0 1 1 ∷ create 0 0 7 ∷ delete 0 ∷ activate 0 ∷ deactivate 0 ∷ fault 0 0 ∷ read 0 0 0 ∷ write 0 0 0 9 ∷ wire 0 0 ∷ unwire 0 0 ∷ claim ∷ truncate 0 0 ∷ update 0 ∷ pageDone 0 1 ∷ mapDone 0 1 ∷ join 0 0 ∷ turn ∷ look 0 0 ∷ restart ∷ cut [] [] ∷ [])
+    ++ import 0 7 bare ∷ Acts.exporting 0 [] ∷ cutIn (create 0 0 7) 0 [] [] ∷ cutIn (import 0 7 bare) 0 [] [] ∷ []
 
 -- an act of every kind but a restart, a cut and frame 0's done
 abbrev beside : List Act
-beside = limit 0 1 ∷ move 0 1 1 ∷ create 0 0 7 ∷ delete 0 ∷ activate 0 ∷ deactivate 0 ∷ fault 0 0 ∷ read 0 0 0 ∷ write 0 0 0 9 ∷ wire 0 0 ∷ unwire 0 0 ∷ claim ∷ truncate 0 0 ∷ update 0 ∷ pageDone 1 1 ∷ mapDone 0 1 ∷ join 0 0 ∷ turn ∷ look 0 0 ∷ []
+beside = limit 0 1 ∷ move 0 1 1 ∷ create 0 0 7 ∷ delete 0 ∷ activate 0 ∷ deactivate 0 ∷ fault 0 0 ∷ read 0 0 0 ∷ write 0 0 0 9 ∷ wire 0 0 ∷ unwire 0 0 ∷ claim ∷ truncate 0 0 ∷ update 0 ∷ pageDone 1 1 ∷ mapDone 0 1 ∷ join 0 0 ∷ turn ∷ look 0 0 ∷ import 0 7 bare ∷ Acts.exporting 0 [] ∷ []
 
 -- a request of a kind with these values
 abbrev ask : ℕ → ℕ → ℕ → Request
@@ -48,6 +53,15 @@ restartable = test (answered small (onState (onDisk (setNumbers (7 ∷ 7 ∷ [])
 unfoldable unblamed : List Act → Bool
 unfolding said begin
 unblamed acts = test (allAnswered small (begin small) acts)
+
+-- page 1 of slot 0 is spared, by an act and by all of a list
+unfoldable sparing : Act → Bool
+unfolding said
+sparing a = test (spares small 1 a)
+
+unfoldable sparingAll : List Act → Bool
+unfolding said
+sparingAll acts = test (allSpare small 1 acts)
 
 -- tables with a wrong used count, and with a record that is free and of slot 1
 abbrev miscounted : State
@@ -93,11 +107,23 @@ pub record TermsEdges : Type 0 where
   answered-look : unblamed (look 0 0 ∷ []) ≡ false
   answered-later : unblamed (restart ∷ cut [] [] ∷ turn ∷ []) ≡ false
   answered-restart : restartable ≡ false
+  answered-import : unblamed (import 0 7 bare ∷ []) ≡ false
+  answered-export : unblamed (Acts.exporting 0 [] ∷ []) ≡ false
+  -- a page is spared by all but its write, its truncate, a create, a delete and an import in its slot, and a cut inside that import
+  spares-most : T (sparingAll (restart ∷ limit 0 1 ∷ move 0 1 1 ∷ create 1 0 7 ∷ delete 1 ∷ activate 0 ∷ deactivate 0 ∷ fault 0 1 ∷ read 0 1 0 ∷ write 0 0 0 9 ∷ write 1 1 0 9 ∷ wire 0 1 ∷ unwire 0 1 ∷ claim ∷ truncate 0 2 ∷ truncate 1 0
+      ∷ update 0 ∷ pageDone 0 0 ∷ mapDone 0 1 ∷ join 0 1 ∷ turn ∷ look 0 1 ∷ import 1 7 bare ∷ Acts.exporting 0 [] ∷ cut (0 ∷ []) (0 ∷ []) ∷ cutIn (import 1 7 bare) 0 [] [] ∷ cutIn (delete 0) 0 [] [] ∷ []))
+  spares-no-write : sparing (write 0 1 0 9) ≡ false
+  spares-no-truncate : sparing (truncate 0 1) ≡ false
+  spares-no-create : sparing (create 0 0 7) ≡ false
+  spares-no-delete : sparing (delete 0) ≡ false
+  spares-no-import : sparing (import 0 7 bare) ≡ false
+  spares-no-part : sparing (cutIn (import 0 7 bare) 0 [] []) ≡ false
+  spares-not-one : sparingAll (restart ∷ write 0 1 0 9 ∷ restart ∷ []) ≡ false
   -- a list of requests: a limit, a kind that is no event, a claim
   acts : actsTo (15 ∷ 0 ∷ 2 ∷ 0 ∷ 0 ∷ 99 ∷ 0 ∷ 0 ∷ 0 ∷ 0 ∷ 8 ∷ 0 ∷ 0 ∷ 0 ∷ 0 ∷ []) 3 ≡ limit 0 2 ∷ claim ∷ []
 
 pub termsEdges : TermsEdges
-unfolding sum good tidied unblamed blamed restartable actsTo decoded leaves
+unfolding sum good tidied unblamed blamed restartable sparing sparingAll actsTo decoded leaves
 termsEdges = record {
   limit-none = refl;
   limit-one = refl;
@@ -125,5 +151,15 @@ termsEdges = record {
   answered-look = refl;
   answered-later = refl;
   answered-restart = refl;
+  answered-import = refl;
+  answered-export = refl;
+  spares-most = tt;
+  spares-no-write = refl;
+  spares-no-truncate = refl;
+  spares-no-create = refl;
+  spares-no-delete = refl;
+  spares-no-import = refl;
+  spares-no-part = refl;
+  spares-not-one = refl;
   acts = refl;
 }

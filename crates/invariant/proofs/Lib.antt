@@ -33,6 +33,12 @@ pub mod Cases
 pub mod LineKept
 pub mod FramesKept
 pub mod Kept
+pub mod Parts
+pub mod FreeStore
+pub mod Filed
+pub mod Imports
+pub mod ImportUsed
+pub mod Imported
 pub mod Stores
 pub mod AfterKept
 pub mod Never

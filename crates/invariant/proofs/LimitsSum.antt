@@ -2,12 +2,12 @@
 use mathlib.Core.Path.{_≡_, refl, ap, sym, _∙_}
 use mathlib.Core.Bool.{Bool, true, false, not, _&&_}
 use mathlib.Core.Logic.{inl, inr}
-use mathlib.Core.List.{List, [], _∷_}
+use mathlib.Core.List.{List, [], _∷_, _++_}
 use Prim.Native.Nat.{ℕ, zero, suc, _<_}
 use native.Mathlib.Omega.{arith}
 use lib.Dec.{T, eqb}
 use lib.ListN.{length}
-use Rattle.tables.specs.Base.{if}
+use Rattle.tables.specs.Base.{if, tab}
 use Rattle.tables.specs.Laws.{if-elim, and-left, and-right}
 use Rattle.tables.specs.Rule.{same}
 use Rattle.tables.specs.Store.{store}
@@ -36,9 +36,11 @@ use Rattle.model.specs.Writeback
 use Rattle.model.specs.Line
 use Rattle.model.specs.Restart as R
 use Rattle.model.specs.Step.{outcome, allFit, asked, answer, carried, result, step, restart}
-use Rattle.model.specs.Acts.{Act, event, looking, restarting, cutting, cuttingIn, World, part, cutOff, act, run, landWrites, landUpdates, landed}
+use Rattle.model.specs.Acts.{Act, event, looking, importing, exporting, restarting, cutting, cuttingIn, World, part, cutOff, act, run, landWrites, landUpdates, landed}
+use Rattle.sheets.specs.Sheet.{countIn}
+use Rattle.model.specs.Import.{sheetOf, storeRecord, storeSlot, importAnswer}
 use Rattle.model.specs.Stores as S
-use Rattle.model.specs.Stores.{Call, stores, byAnswer, made}
+use Rattle.model.specs.Stores.{Call, stores, byAnswer, made, first}
 use Rattle.model.specs.declared.request.Decoded.{Decoded}
 use Rattle.model.specs.declared.request.Decoded.the-variants.{Known, Unknown}
 use Rattle.model.specs.Requests.{decoded, decodedNumber}
@@ -47,7 +49,7 @@ use Rattle.model.specs.ApplyAll.{requestAt, requestCount, turned, after, applyA
 use Rattle.invariant.proofs.Cases.{fault-by, claim-by, page-done-by}
 use Rattle.invariant.proofs.LineKept.{by-turn}
 use Rattle.invariant.proofs.Kept.{asked-all}
-use Rattle.invariant.proofs.Stores.{AfterEach, after-first}
+use Rattle.invariant.proofs.Stores.{AfterEach, after-first, each-after, import-whole}
 
 -- ── one event ──
 abbrev Sum : State → State → Type 0
@@ -160,6 +162,15 @@ stores-sum z st (Event.Writeback (MapDone s good)) i f r a = go (eqb good 1)
     go false = tt
 stores-sum z st (Event.Waiting e) i f r a = tt
 
+-- so do those of an import
+import-stores : (z : Sizes) (st : State) (s q n : ℕ) (b : List ℕ) (k : ℕ) → SumIs st (first k (made z st (S.importing s q n b)) (st .disk))
+unfolding made S.answered stores storeRecord storeSlot
+import-stores z st s q n b k = after-first (SumIs st) k _ (st .disk) refl (go (importAnswer z st s q n b))
+  where
+    go : (m : ℕ) → AfterEach (SumIs st) (byAnswer m (tab (countIn b) (storeRecord z st s q n (sheetOf b)) 0 ++ storeSlot z st s q n (sheetOf b) ∷ [])) (st .disk)
+    go zero = each-after (SumIs st) (storeRecord z st s q n (sheetOf b)) (storeSlot z st s q n (sheetOf b)) (λ j x h. h) (λ x h. h) (countIn b) 0 (st .disk) refl
+    go (suc m) = tt
+
 -- so does every part of its stores
 part-sum : (z : Sizes) (w : World) (c : Call) (k : ℕ) → T (noLimitCall c) → sum (part z w c k .state .disk .limits) ≡ sum (w .state .disk .limits)
 unfolding part made S.answered
@@ -168,11 +179,14 @@ part-sum z w (S.event e) k t = after-first (SumIs (w .state)) k _ (w .state .dis
     go : (n : ℕ) → answer z (w .state) e ≡ n → AfterEach (SumIs (w .state)) (byAnswer n (stores z (w .state) (S.event e))) (w .state .disk)
     go zero h = let a = asked-all z (w .state) e h in stores-sum z (w .state) e t (fit z (w .state) (a .0)) (ruled z (w .state) (a .1 .0)) (a .1 .1)
     go (suc n) h = tt
+part-sum z w (S.importing s q n b) k t = import-stores z (w .state) s q n b k
 
 act-sum : (z : Sizes) (w : World) (a : Act) → T (noLimit a) → sum (act z w a .state .disk .limits) ≡ sum (w .state .disk .limits)
 unfolding act restart R.restarted counted landed
 act-sum z w (event e) t = limits-sum z (w .state) e t
 act-sum z w (looking s p) t = refl
+act-sum z w (importing s q n b) t = ap (λ (d : Disk). sum (d .limits)) (import-whole z (w .state) s q n b) ∙ import-stores z (w .state) s q n b _
+act-sum z w (exporting s buffer) t = refl
 act-sum z w restarting t = go (firstNo (ask 1 (allFit z (w .state)) (ask 2 (diskRules z (w .state)) none)))
   where
     go : (n : ℕ) → sum (outcome n 0 (w .state) (R.restarted z (w .state .disk)) .left .disk .limits) ≡ sum (w .state .disk .limits)

@@ -4,30 +4,36 @@ use mathlib.Core.Bool.{Bool, true, false}
 use mathlib.Core.List.{List, [], _∷_}
 use Prim.Native.Nat.{ℕ, zero, suc, _<_}
 use native.Mathlib.Omega.{arith}
-use lib.Dec.{T, ltb, ltb→lt, lt→ltb}
+use lib.Dec.{T, ltb, ltb→lt}
+use lib.ListN.{length}
 use Rattle.tables.specs.Base.{at, if}
 use Rattle.tables.specs.Laws.{and-left, and-right}
 use Rattle.tables.specs.Questions.{Questions, ask, none, above, firstNo}
 use Rattle.tables.specs.Rule.{Holds, test, sound}
+use Rattle.sheets.specs.Sheet.{numberIn}
 use Rattle.model.specs.declared.sizes.Sizes.{Sizes}
 use Rattle.model.specs.declared.event.Event.{Event}
 use Rattle.model.specs.Sizes.{sizesFit}
 use Rattle.model.specs.State.{Disk, Memory, State, files}
 use Rattle.model.specs.Rules.{lower, diskRules, allRules}
 use Rattle.model.specs.Laws.Ruled.{ruled, disk-ruled, rules-disk}
-use Rattle.model.specs.Questions.{questions, lookQuestions}
+use Rattle.model.specs.Questions.{questions, lookQuestions, importQuestions, exportQuestions}
 use Rattle.model.specs.Step.{outcome, diskLengths, memoryLengths, allFit, asked, answer, carried, result, step, restart, look, own-above}
 use Rattle.model.specs.Restart as R
 use Rattle.model.specs.Laws.Fit.{fit-disk, fit}
 use Rattle.model.specs.Laws.Own.{first-yes}
-use Rattle.model.specs.Acts.{Act, event, looking, restarting, cutting, cuttingIn, World, part, cutOff, act, allowed, legal, run, start}
+use Rattle.model.specs.Acts.{Act, event, looking, importing, exporting, restarting, cutting, cuttingIn, World, part, cutOff, act, allowed, legal, run, start}
 use Rattle.model.specs.Acts as A
+use Rattle.model.specs.Import.{importAnswer, import}
+use Rattle.model.specs.Export.{exported, export}
+use Rattle.model.specs.Stores as S
 use Rattle.model.specs.Stores.{Call}
 use Rattle.model.specs.Terms.{Good, blameless, answered, allAnswered}
 use Rattle.invariant.proofs.Records.{disk-alone}
 use Rattle.invariant.proofs.RecordsCut.{formatted-fit, landed-fit}
 use Rattle.invariant.proofs.Kept.{kept, restarted, formatted, landed}
-use Rattle.invariant.proofs.Stores.{Inside, inside, part-same}
+use Rattle.invariant.proofs.Imported.{import-good, import-midway}
+use Rattle.invariant.proofs.Stores.{Inside, inside, part-same, part-import}
 
 -- what every world of a list keeps: lengths and disk rules always, once restarted all rules
 pub record Safe (z : Sizes) (w : World) : Type 0 where
@@ -74,6 +80,16 @@ pub look-blameless : (z : Sizes) (st : State) (s p : ℕ) → Good z st → Hold
 unfolding look
 look-blameless z st s p g = said (firstNo (asked z st (lookQuestions z st s p))) 0 [] _ (not-blamed z st (lookQuestions z st s p) tt g)
 
+pub import-blameless : (z : Sizes) (st : State) (s q n : ℕ) (b : List ℕ) → Good z st → Holds (blameless (import z st s q n b .answer .refusal))
+unfolding import importAnswer
+import-blameless z st s q n b g = said (firstNo (asked z st (importQuestions z st s q n b))) (numberIn b) st _ (not-blamed z st (importQuestions z st s q n b) tt g)
+
+pub export-blameless : (z : Sizes) (st : State) (s : ℕ) (buffer : List ℕ) → Good z st → Holds (blameless (export z st s buffer .answer .refusal))
+unfolding export
+export-blameless z st s buffer g =
+    let q = exportQuestions z st s (length (exported z st s)) (length buffer) in
+    said (firstNo (asked z st q)) (length (exported z st s)) buffer _ (not-blamed z st q tt g)
+
 -- a cut leaves a safe world
 cut-safe : (z : Sizes) (w : World) (writes updates : ℕ → Bool) (junk : Memory) → Holds (memoryLengths z junk) → Safe z w → Safe z (cutOff z w writes updates junk)
 cut-safe z w writes updates junk lengths s = go (w .up) refl
@@ -90,13 +106,18 @@ cut-safe z w writes updates junk lengths s = go (w .up) refl
 
 -- in the midst of a call the world is safe
 part-safe : (z : Sizes) (w : World) (c : Call) (k : ℕ) (junk : Memory) → Inside z w c k junk → Safe z w → Safe z (part z w c k)
-part-safe z w c k junk i s = subst (Safe z) (sym (part-same z w c k junk i)) s
+part-safe z w (S.event e) k junk i s = subst (Safe z) (sym (part-same z w e k junk i)) s
+part-safe z w (S.importing s q n b) k junk i x =
+    let p = part-import z w s q n b k junk i in
+    good-safe z (part z w (S.importing s q n b) k) (subst (Good z) (sym (p .2)) (import-midway z (w .state) s q n b (p .0) k (p .1)))
 
 -- each act is answered so, and leaves a safe world
 pub one : (z : Sizes) (w : World) (a : Act) → T (allowed z w a) → Safe z w → Holds (answered z w a) × Safe z (act z w a)
 unfolding allowed act
 one z w (event e) t s = (event-blameless z (w .state) e (s .up t), good-safe z _ (kept z (w .state) e (s .up t)))
 one z w (looking p q) t s = (look-blameless z (w .state) p q (s .up t), s)
+one z w (importing s q n b) t x = (import-blameless z (w .state) s q n b (x .up t), good-safe z _ (import-good z (w .state) s q n b (x .up t)))
+one z w (exporting s buffer) t x = (export-blameless z (w .state) s buffer (x .up t), x)
 one z w restarting t s = let r = restarted z (w .state) (safe-fit z w s) (s .rules) in (r .0, good-safe z _ (r .1))
 one z w (cutting writes updates junk) t s = (refl, cut-safe z w writes updates junk (sound (memoryLengths z junk) t) s)
 one z w (cuttingIn c k writes updates junk) t s = let i = inside z w c k writes updates junk t in (refl, cut-safe z (part z w c k) writes updates junk (i .lengths) (part-safe z w c k junk i s))

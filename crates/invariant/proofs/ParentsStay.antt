@@ -1,10 +1,10 @@
 -- "stored on disk at format": no event, and no list of acts, changes a parent.
-use mathlib.Core.Path.{_≡_, refl, _∙_}
+use mathlib.Core.Path.{_≡_, refl, ap, _∙_}
 use mathlib.Core.Bool.{Bool, true, false, _&&_}
-use mathlib.Core.List.{List, [], _∷_}
+use mathlib.Core.List.{List, [], _∷_, _++_}
 use Prim.Native.Nat.{ℕ, zero, suc}
 use lib.Dec.{eqb}
-use Rattle.tables.specs.Base.{if}
+use Rattle.tables.specs.Base.{if, tab}
 use Rattle.tables.specs.Laws.{if-elim}
 use Rattle.tables.specs.Store.{store}
 use Rattle.tables.specs.Questions.{Asked, ask, none, firstNo}
@@ -31,11 +31,13 @@ use Rattle.model.specs.Line
 use Rattle.model.specs.Restart as R
 use Rattle.model.specs.Step.{outcome, allFit, answer, carried, result, step, restart}
 use Rattle.model.specs.Stores as S
-use Rattle.model.specs.Stores.{Call, stores, byAnswer, made}
-use Rattle.model.specs.Acts.{Act, event, looking, restarting, cutting, World, act, run, start, landWrites, landUpdates, landed, cuttingIn, part, cutOff}
+use Rattle.model.specs.Stores.{Call, stores, byAnswer, made, first}
+use Rattle.sheets.specs.Sheet.{countIn}
+use Rattle.model.specs.Import.{sheetOf, storeRecord, storeSlot, importAnswer}
+use Rattle.model.specs.Acts.{Act, event, looking, importing, exporting, restarting, cutting, World, act, run, start, landWrites, landUpdates, landed, cuttingIn, part, cutOff}
 use Rattle.invariant.proofs.Cases.{fault-by, claim-by, page-done-by}
 use Rattle.invariant.proofs.LineKept.{by-turn}
-use Rattle.invariant.proofs.Stores.{AfterEach, after-first}
+use Rattle.invariant.proofs.Stores.{AfterEach, after-first, each-after, import-whole}
 use Rattle.invariant.proofs.Kept.{asked-all}
 
 -- ── one event ──
@@ -138,6 +140,14 @@ stores-stay z st (Event.Writeback (MapDone s good)) = go (eqb good 1)
     go false = tt
 stores-stay z st (Event.Waiting e) = tt
 
+import-stays : (z : Sizes) (st : State) (s q n : ℕ) (b : List ℕ) (k : ℕ) → Stays st (first k (made z st (S.importing s q n b)) (st .disk))
+unfolding made S.answered stores storeRecord storeSlot
+import-stays z st s q n b k = after-first (Stays st) k _ (st .disk) refl (go (importAnswer z st s q n b))
+  where
+    go : (m : ℕ) → AfterEach (Stays st) (byAnswer m (tab (countIn b) (storeRecord z st s q n (sheetOf b)) 0 ++ storeSlot z st s q n (sheetOf b) ∷ [])) (st .disk)
+    go zero = each-after (Stays st) (storeRecord z st s q n (sheetOf b)) (storeSlot z st s q n (sheetOf b)) (λ j x h. h) (λ x h. h) (countIn b) 0 (st .disk) refl
+    go (suc m) = tt
+
 part-stays : (z : Sizes) (w : World) (c : Call) (k : ℕ) → part z w c k .state .disk .parents ≡ w .state .disk .parents
 unfolding part made S.answered
 part-stays z w (S.event e) k = after-first (Stays (w .state)) k _ (w .state .disk) refl (go (answer z (w .state) e))
@@ -145,11 +155,14 @@ part-stays z w (S.event e) k = after-first (Stays (w .state)) k _ (w .state .dis
     go : (n : ℕ) → AfterEach (Stays (w .state)) (byAnswer n (stores z (w .state) (S.event e))) (w .state .disk)
     go zero = stores-stay z (w .state) e
     go (suc n) = tt
+part-stays z w (S.importing s q n b) k = import-stays z (w .state) s q n b k
 
 act-stays : (z : Sizes) (w : World) (a : Act) → act z w a .state .disk .parents ≡ w .state .disk .parents
 unfolding act restart R.restarted counted landed
 act-stays z w (event e) = parents-stay z (w .state) e
 act-stays z w (looking s p) = refl
+act-stays z w (importing s q n b) = ap (λ (d : Disk). d .parents) (import-whole z (w .state) s q n b) ∙ import-stays z (w .state) s q n b _
+act-stays z w (exporting s buffer) = refl
 act-stays z w restarting = go (firstNo (ask 1 (allFit z (w .state)) (ask 2 (diskRules z (w .state)) none)))
   where
     go : (n : ℕ) → outcome n 0 (w .state) (R.restarted z (w .state .disk)) .left .disk .parents ≡ w .state .disk .parents

@@ -11,7 +11,7 @@ use Rattle.tables.specs.Base.{at, if}
 use Rattle.tables.specs.Rule.{Rule, Holds, test, decided, told, untold, complete}
 use Rattle.tables.specs.Store.{Split}
 use Rattle.model.specs.declared.sizes.Sizes.{Sizes}
-use Rattle.model.specs.Lines.{FREE, LIVE, RELEASED, line, lines, led, allowed}
+use Rattle.model.specs.Lines.{FREE, LIVE, RELEASED, line, eleven, ledBy, byEvent}
 use Rattle.model.specs.State.{State, Files, files, allPages, slotOf, live}
 use Rattle.model.specs.Setters.{onDisk, setLimits, counted}
 use Rattle.model.specs.Laws.Ruled.{OnDisk, OfRecords}
@@ -57,12 +57,12 @@ limits-kept z st limits k = (
 -- ── the lines ──
 -- each record's state stays, or moves along one of the eleven lines
 abbrev pub Moves : Sizes → (ℕ → ℕ) → (ℕ → ℕ) → Type 0
-Moves z state state′ = (r : ℕ) → r < z .records → (state′ r ≡ state r) ⊎ T (allowed (state r) (state′ r))
+Moves z state state′ = (r : ℕ) → r < z .records → (state′ r ≡ state r) ⊎ T (byEvent (state r) (state′ r))
 
--- line k of the list, counted from 0, leads from a to b
-pub along-line : (k : ℕ) → k < length lines → {a b : ℕ} → a ≡ (getD lines k (line 0 0)) .from → b ≡ (getD lines k (line 0 0)) .to → T (allowed a b)
-unfolding allowed
-along-line k h {a} {b} e f = complete (led a b) (k, h, (e, f))
+-- line k of the eleven, counted from 0, leads from a to b
+pub along-line : (k : ℕ) → k < length eleven → {a b : ℕ} → a ≡ (getD eleven k (line 0 0)) .from → b ≡ (getD eleven k (line 0 0)) .to → T (byEvent a b)
+unfolding byEvent
+along-line k h {a} {b} e f = complete (ledBy eleven a b) (k, h, (e, f))
 
 -- ── what no rule asks, and every list keeps once restarted ──
 -- a free record is of slot 0, and a released one of an active slot

@@ -10,7 +10,7 @@ use Rattle.tables.specs.Store.{Split, at-store}
 use Rattle.model.specs.declared.sizes.Sizes.{Sizes}
 use Rattle.model.specs.declared.event.Event.the-variants as Event
 use Rattle.model.specs.declared.event.Writeback.the-variants.{Truncate, Update}
-use Rattle.model.specs.Lines.{FREE, FILED, NULLED, LIVE, RELEASED, LEAVING, allowed}
+use Rattle.model.specs.Lines.{FREE, FILED, NULLED, LIVE, RELEASED, LEAVING, byEvent}
 use Rattle.model.specs.State.{State, Files, files, allPages, slotOf}
 use Rattle.model.specs.Setters.{counted}
 use Rattle.model.specs.Parts.{ofSlot, fromPage}
@@ -28,7 +28,7 @@ pub record Dropped (z : Sizes) (s x : ℕ) (D B : ℕ → Type 0) (v : Files) (a
   pub kind : (x ≡ RELEASED) ⊎ ((x ≡ LEAVING) × B s)
   pub only : (t : ℕ) → B t → t ≡ s
   pub own : (r : ℕ) → D r → v .owner r ≡ s
-  pub line : (r : ℕ) → D r → T (allowed (v .state r) x)
+  pub line : (r : ℕ) → D r → T (byEvent (v .state r) x)
   pub address : (i : ℕ) → i < allPages z → (r : ℕ) → v .address i ≡ suc r → Split (D r) (address′ i) 0 (suc r)
   pub none : (i : ℕ) → i < allPages z → v .address i ≡ 0 → address′ i ≡ 0
   pub state : (r : ℕ) → r < z .records → Split (D r) (state′ r) x (v .state r)
@@ -124,7 +124,7 @@ module _ (z : Sizes) (pos : 0 < z .pages) (s x : ℕ) (D B : ℕ → Type 0) (v 
   )
 
   pub dropped-moves : Moves z (v .state) state′
-  dropped-moves r h = elim (c .state r h) [ inl t ↦ inr (subst (λ (y : ℕ). T (allowed (v .state r) y)) (sym (t .1)) (c .line r (t .0))) | inr t ↦ inl (t .1) ]
+  dropped-moves r h = elim (c .state r h) [ inl t ↦ inr (subst (λ (y : ℕ). T (byEvent (v .state r) y)) (sym (t .1)) (c .line r (t .0))) | inr t ↦ inl (t .1) ]
 
   -- what is released is of the slot, which is active
   pub dropped-tidy : Tidy z (v .state) (v .owner) (v .active) → Tidy z state′ (v .owner) (v .active)

@@ -1,16 +1,17 @@
 -- The disk after a call that is carried out is what its own stores leave, in order; and what holds in the midst of a call, before its last store.
 use mathlib.Core.Path.{_≡_, refl, ap, sym, _∙_, subst}
 use mathlib.Core.Bool.{Bool, true, false, _&&_}
-use mathlib.Core.List.{List, [], _∷_}
-use Prim.Native.Nat.{ℕ, zero, suc, _<_, _≤_}
+use mathlib.Core.List.{List, [], _∷_, _++_}
+use Prim.Native.Nat.{ℕ, zero, suc, _+_, _<_, _≤_}
 use native.Mathlib.Omega.{arith}
 use lib.Dec.{T, eqb, ltb, ltb→lt}
-use lib.ListN.{length}
-use Rattle.tables.specs.Base.{if}
-use Rattle.tables.specs.Laws.{and-left, and-right}
+use lib.ListN.{length, length-append}
+use Rattle.tables.specs.Base.{if, tab}
+use Rattle.tables.specs.Laws.{and-left, and-right, length-tab}
 use Rattle.tables.specs.Questions.{Asked}
 use Rattle.tables.specs.Rule.{Holds, test, sound}
 use Rattle.tables.specs.Store.{store}
+use Rattle.sheets.specs.Sheet.{numberIn, countIn}
 use Rattle.model.specs.declared.sizes.Sizes.{Sizes}
 use Rattle.model.specs.declared.event.Design.the-variants.{Create, Delete, Activate, Deactivate}
 use Rattle.model.specs.declared.event.Account.the-variants.{Limit, Move}
@@ -31,9 +32,11 @@ use Rattle.model.specs.Pages
 use Rattle.model.specs.Writeback
 use Rattle.model.specs.Line
 use Rattle.model.specs.Step.{outcome, memoryLengths, answer, carried, result, step}
+use Rattle.model.specs.Import
+use Rattle.model.specs.Import.{Sheet, sheetOf, storeRecord, storeSlot, imported, importAnswer, import}
 use Rattle.model.specs.Stores as S
 use Rattle.model.specs.Stores.{Call, stores, byAnswer, made, first, allOf}
-use Rattle.model.specs.Acts.{World, cuttingIn, part, allowed}
+use Rattle.model.specs.Acts.{World, cuttingIn, fedPart, part, allowed}
 use Rattle.invariant.proofs.Cases.{fault-by, claim-by}
 use Rattle.invariant.proofs.LineKept.{by-turn}
 use Rattle.invariant.proofs.Kept.{asked-all}
@@ -106,6 +109,58 @@ stores-whole z st e = go (answer z st e) refl
     go zero h = let a = asked-all z st e h in carried-stores z st e (fit z st (a .0)) (ruled z st (a .1 .0)) (a .1 .1)
     go (suc n) h = unfold first in refl
 
+-- ── the stores of an import ──
+first-split : (k : ℕ) (f : ℕ → Disk → Disk) (n i : ℕ) (rest : List (Disk → Disk)) (d : Disk) → k < n → first (suc k) (tab n f i ++ rest) d ≡ f (i + k) (first k (tab n f i ++ rest) d)
+unfolding first tab
+first-split k f zero i rest d h = absurd (omega (arith, h))
+first-split zero f (suc n) i rest d h = ap (λ (j : ℕ). f j d) (omega arith)
+first-split (suc k) f (suc n) i rest d h = first-split k f n (suc i) rest (f i d) (omega (arith, h)) ∙ ap (λ (j : ℕ). f j (first k (tab n f (suc i) ++ rest) (f i d))) (omega arith)
+
+first-last : (fs : List (Disk → Disk)) (g : Disk → Disk) (d : Disk) → first (suc (length fs)) (fs ++ g ∷ []) d ≡ g (first (length fs) (fs ++ g ∷ []) d)
+unfolding first
+first-last [] g d = refl
+first-last (f ∷ fs) g d = first-last fs g (f d)
+
+module _ (z : Sizes) (st : State) (s q n : ℕ) (b : List ℕ) where
+  abbrev h : Sheet
+  h = sheetOf b
+
+  abbrev all : List (Disk → Disk)
+  all = stores z st (S.importing s q n b)
+
+  -- the first k are those of the first k records
+  pub first-made : (k : ℕ) → k ≤ countIn b → first k all (st .disk) ≡ Import.made z st s q n h k (st .disk)
+  unfolding stores Import.made
+  first-made zero i = unfold first in refl
+  first-made (suc k) i =
+      first-split k (storeRecord z st s q n h) (countIn b) 0 (storeSlot z st s q n h ∷ []) (st .disk) i
+      ∙ ap (λ (j : ℕ). storeRecord z st s q n h j (first k all (st .disk))) (omega arith)
+      ∙ ap (storeRecord z st s q n h k) (first-made k (omega (arith, i)))
+
+  pub stores-long : length all ≡ suc (countIn b)
+  unfolding stores
+  stores-long = length-append (tab (countIn b) (storeRecord z st s q n h) 0) (storeSlot z st s q n h ∷ []) ∙ omega (arith, length-tab (countIn b) (storeRecord z st s q n h) 0)
+
+  last-one : first (suc (countIn b)) all (st .disk) ≡ storeSlot z st s q n h (first (countIn b) all (st .disk))
+  unfolding stores
+  last-one =
+      let fs : List (Disk → Disk) = tab (countIn b) (storeRecord z st s q n h) 0 in
+      let g : Disk → Disk = storeSlot z st s q n h in
+      subst (λ (k : ℕ). first (suc k) (fs ++ g ∷ []) (st .disk) ≡ g (first k (fs ++ g ∷ []) (st .disk))) (length-tab (countIn b) (storeRecord z st s q n h) 0) (first-last fs g (st .disk))
+
+  whole : imported z st s q n h .disk ≡ allOf all (st .disk)
+  unfolding imported counted
+  whole = sym (ap (λ (k : ℕ). first k all (st .disk)) stores-long ∙ last-one ∙ ap (storeSlot z st s q n h) (first-made (countIn b) (omega arith)))
+
+  -- For every state and every import, carried out or refused.
+  pub import-whole : import z st s q n b .left .disk ≡ allOf (made z st (S.importing s q n b)) (st .disk)
+  unfolding import made S.answered
+  import-whole = go (importAnswer z st s q n b)
+    where
+      go : (m : ℕ) → outcome m (numberIn b) st (imported z st s q n h) .left .disk ≡ allOf (byAnswer m all) (st .disk)
+      go zero = whole
+      go (suc m) = unfold first in refl
+
 -- ── in the midst of a call ──
 -- something holds of the disk after each of some stores
 abbrev pub AfterEach : (Disk → Type 0) → List (Disk → Disk) → Disk → Type 0
@@ -118,6 +173,12 @@ unfolding first
 after-first P zero fs d h a = h
 after-first P (suc k) [] d h a = h
 after-first P (suc k) (f ∷ fs) d h a = after-first P k fs (f d) (a .0) (a .1)
+
+-- and after each of an import's, where each keeps it
+pub each-after : (P : Disk → Type 0) (f : ℕ → Disk → Disk) (g : Disk → Disk) → ((j : ℕ) (x : Disk) → P x → P (f j x)) → ((x : Disk) → P x → P (g x)) → (n i : ℕ) (d : Disk) → P d → AfterEach P (tab n f i ++ g ∷ []) d
+unfolding tab
+each-after P f g k l zero i d h = (l d h, tt)
+each-after P f g k l (suc n) i d h = (k i d h, each-after P f g k l n (suc i) (f i d) (k i d h))
 
 -- no event has more than one store
 one-store : (z : Sizes) (st : State) (e : Event) → length (stores z st (S.event e)) ≤ 1
@@ -160,12 +221,26 @@ inside z w c k writes updates junk t =
     record { up = and-left (w .up) (b && m) t; before = ltb→lt k (length (made z (w .state) c)) (and-left b m u); lengths = sound (memoryLengths z junk) (and-right b m u) }
 
 -- before an event's last store nothing is stored: the world is as before the call
-pub part-same : (z : Sizes) (w : World) (c : Call) (k : ℕ) (junk : Memory) → Inside z w c k junk → part z w c k ≡ w
-unfolding part made
-part-same z w (S.event e) k junk i =
+pub part-same : (z : Sizes) (w : World) (e : Event) (k : ℕ) (junk : Memory) → Inside z w (S.event e) k junk → part z w (S.event e) k ≡ w
+unfolding part made fedPart
+part-same z w e k junk i =
     let none : k ≡ 0 = omega (arith, i .before, short (S.answered z (w .state) (S.event e)) (stores z (w .state) (S.event e)) (one-store z (w .state) e)) in
     rw none (unfold first in refl)
   where
     short : (n : ℕ) (fs : List (Disk → Disk)) → length fs ≤ 1 → length (byAnswer n fs) ≤ 1
     short zero fs h = h
     short (suc n) fs h = omega arith
+
+-- in the midst of an import it was not refused, and its first k records are stored
+pub part-import : (z : Sizes) (w : World) (s q n : ℕ) (b : List ℕ) (k : ℕ) (junk : Memory) → Inside z w (S.importing s q n b) k junk
+    → (importAnswer z (w .state) s q n b ≡ 0) × (k ≤ countIn b) × (part z w (S.importing s q n b) k .state ≡ onDisk (Import.made z (w .state) s q n (sheetOf b) k) (w .state))
+unfolding part made S.answered
+part-import z w s q n b k junk i = go (importAnswer z (w .state) s q n b) refl (i .before)
+  where
+    st : State
+    st = w .state
+
+    go : (m : ℕ) → importAnswer z st s q n b ≡ m → k < length (byAnswer m (stores z st (S.importing s q n b)))
+        → (importAnswer z st s q n b ≡ 0) × (k ≤ countIn b) × (onDisk (first k (byAnswer m (stores z st (S.importing s q n b)))) st ≡ onDisk (Import.made z st s q n (sheetOf b) k) st)
+    go zero e l = let less : k ≤ countIn b = omega (arith, l, stores-long z st s q n b) in (e, less, ap (λ (d : Disk). record { disk = d; memory = st .memory }) (first-made z st s q n b k less))
+    go (suc m) e l = absurd (omega (arith, l))

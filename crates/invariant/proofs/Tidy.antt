@@ -32,7 +32,7 @@ use Rattle.model.specs.Writeback
 use Rattle.model.specs.Line
 use Rattle.model.specs.Restart as R
 use Rattle.model.specs.Step.{outcome, diskLengths, memoryLengths, answer, carried, result, step, restart}
-use Rattle.model.specs.Acts.{Act, event, looking, restarting, cutting, cuttingIn, World, act, allowed, legal, run, start}
+use Rattle.model.specs.Acts.{Act, event, looking, importing, exporting, restarting, cutting, cuttingIn, World, act, allowed, legal, run, start}
 use Rattle.model.specs.Terms.{tidy}
 use Rattle.invariant.proofs.LineKept.{by-turn}
 use Rattle.invariant.proofs.Records.{Tidied}
@@ -42,6 +42,7 @@ use Rattle.invariant.proofs.RecordsDropped.{dropped-tidy, truncate-drop
 use Rattle.invariant.proofs.RecordsStored.{mapDone-done}
 use Rattle.invariant.proofs.RestartedRecords.{sorted}
 use Rattle.invariant.proofs.Kept.{asked-all, restart-answer}
+use Rattle.invariant.proofs.Imported.{import-tidy}
 use Rattle.invariant.proofs.Never.{Safe, safe-fit, one, start-safe, format-safe}
 
 -- every event that is carried out keeps it
@@ -92,6 +93,8 @@ module _ (z : Sizes) where
   unfolding act
   act-tidy w (event e) s t u = event-tidy (w .state) e (t u)
   act-tidy w (looking p q) s t u = t u
+  act-tidy w (importing s q n b) x t u = import-tidy z (w .state) s q n b (t u)
+  act-tidy w (exporting s buffer) x t u = t u
   act-tidy w restarting s t u = restart-tidy w s
   act-tidy w (cutting writes updates junk) s t u = absurd u
   act-tidy w (cuttingIn c k writes updates junk) s t u = absurd u

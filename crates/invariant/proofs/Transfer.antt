@@ -40,6 +40,8 @@ use Rattle.model.specs.Writeback.{looking, beginsWrite, recordIn, cutFrame}
 use Rattle.model.specs.Requests.{decoded, decodedNumber}
 use Rattle.model.specs.Step.{outcome, asked, answer, carried, result, step}
 use Rattle.model.specs.Calls.{apply, stepOf, unknown}
+use Rattle.sheets.specs.Sheet.{numberIn}
+use Rattle.model.specs.Import.{sheetOf, imported, importAnswer, import}
 use Rattle.model.specs.Acts as A
 use Rattle.model.specs.Acts.{Act, World, act, run}
 use Rattle.model.specs.Terms.{Good, InTransfer, Untouched, isDone, asksDone, other, allOther}
@@ -51,6 +53,7 @@ use Rattle.invariant.proofs.FrameParts.{part-other, word-other}
 use Rattle.invariant.proofs.Stands.{frame-of, moving-place, seat-at}
 use Rattle.invariant.proofs.Freed.{set-there, set-elsewhere}
 use Rattle.invariant.proofs.Kept.{asked-all, kept}
+use Rattle.invariant.proofs.Imported.{import-good}
 
 -- frame f is as it was, and so are its words
 by-frame : (z : Sizes) (st st′ : State) (f : ℕ) → frames st′ .frame f ≡ frames st .frame f → ((w : ℕ) → w < z .words → wordAt z (st′ .memory .core .words) f w ≡ wordAt z (st .memory .core .words) f w) → Untouched z st st′ f
@@ -227,11 +230,22 @@ transfer-words-apply z st q g f t o = go (decoded q) o
     go (Known e) h = transfer-words z st e g f t h
     go Unknown h = refused (firstNo (asked z st (ask (decodedNumber Unknown) (same 0 1) none)))
 
+-- an import touches no frame
+import-untouched : (z : Sizes) (st : State) (s q n : ℕ) (b : List ℕ) (f : ℕ) → Untouched z st (import z st s q n b .left) f
+unfolding import imported counted
+import-untouched z st s q n b f = go (importAnswer z st s q n b)
+  where
+    go : (m : ℕ) → Untouched z st (outcome m (numberIn b) st (imported z st s q n (sheetOf b)) .left) f
+    go zero = same-core z st _ f refl
+    go (suc m) = same-core z st _ f refl
+
 -- ── lists of acts ──
 one-act : (z : Sizes) (w : World) (a : Act) → Good z (w .state) → (f : ℕ) → InTransfer z (w .state) f → T (other f a) → Untouched z (w .state) (act z w a .state) f × Good z (act z w a .state)
 unfolding act
 one-act z w (A.event e) g f t o = (transfer-words z (w .state) e g f t o, kept z (w .state) e g)
 one-act z w (A.looking s p) g f t o = (same-core z (w .state) (w .state) f refl, g)
+one-act z w (A.importing s q n b) g f t o = (import-untouched z (w .state) s q n b f, import-good z (w .state) s q n b g)
+one-act z w (A.exporting s buffer) g f t o = (same-core z (w .state) (w .state) f refl, g)
 one-act z w A.restarting g f t o = absurd o
 one-act z w (A.cutting writes updates junk) g f t o = absurd o
 one-act z w (A.cuttingIn c k writes updates junk) g f t o = absurd o

@@ -1,5 +1,6 @@
 -- Why a call may copy at most 64 frames of a slice of any length: a slice of 64 or less is copied whole; one of more is refused by question 1, in the array and in the slice.
 --     whole     what a call leaves, from what its work leaves on the array of 64
+--     kept      the same, where the work leaves the frames alone
 --     alike     what a look answers
 use mathlib.Core.Path.{_≡_, sym, ap, _∙_}
 use mathlib.Core.List.{List, _++_, append-nil}
@@ -101,6 +102,12 @@ module _ (z : Sizes) (ys : List Frame) (before : State) where
   alike G x refuses = elim (decLe n 64) [
     | yes h ↦ ap (λ (f : List Frame). G (withFrames f before)) (loaded-frames ys h)
     | no h ↦ let more : 64 < n = omega (arith, h) in refuses copy (unfit-copy more) ∙ sym (refuses (withFrames ys before) (unfit-lent more))
+  ]
+
+  pub kept : (G : State → Outcome State) → Refuses z G → (after : State) (r : Answer) → told r (withFrames (framesOf (loaded ys) n) after) ≡ G copy → told r (withFrames ys after) ≡ G (withFrames ys before)
+  kept G refuses after r e = elim (decLe n 64) [
+    | yes h ↦ ap (λ (f : List Frame). told r (withFrames f after)) (sym (loaded-frames ys h)) ∙ e ∙ ap (λ (f : List Frame). G (withFrames f before)) (loaded-frames ys h)
+    | no h ↦ let more : 64 < n = omega (arith, h) in ap (λ (o : Outcome State). told (o .answer) (withFrames ys (o .left))) (e ∙ refuses copy (unfit-copy more)) ∙ sym (refuses (withFrames ys before) (unfit-lent more))
   ]
 
   module _ {c : Answer} (G : State → Outcome State) (refuses : (st : State) → ¬ Holds (allFit z st) → G st ≡ told c st) (after : State) (r : Answer) (fs : List Frame) (l : length fs ≡ 64) (e : record { answer = r; left = withFrames (framesOf fs n) after } ≡ G copy) where

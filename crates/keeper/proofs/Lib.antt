@@ -12,8 +12,10 @@ pub mod AnyList
 pub mod Callees
 pub mod Handed
 pub mod HandedAnew
+pub mod HandedIn
 pub mod ByValue
 pub mod Pooling
 pub mod ApplyEnds
 pub mod ListEnds
 pub mod RestartEnds
+pub mod ImportEnds

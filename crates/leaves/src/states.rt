@@ -1,4 +1,4 @@
-// The states of the records: every store of one goes along one of the eleven lines, or leaves it as it was.
+// The states of the records: every store of one goes along one of the lines, or leaves it as it was.
 ghost use mathlib.Core.Path.{_≡_};
 ghost use mathlib.Core.Bool.{true};
 ghost use Prim.Native.Nat.{_≤_};

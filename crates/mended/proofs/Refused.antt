@@ -19,7 +19,7 @@ use Rattle.model.specs.Step.{outcome, allFit, restart}
 use Rattle.model.specs.Parts.{wordAt}
 use Rattle.model.specs.Ledger as L
 use Rattle.model.specs.Ledger.{Ledger, packDesign, noWrite, noUpdate, finishWrite, finishUpdate, finishWrites, finishUpdates, lose, unwritten}
-use Rattle.model.specs.Acts.{Act, event, looking, restarting, cutting, cuttingIn, World, act, allowed, legal, run, noted, start}
+use Rattle.model.specs.Acts.{Act, event, looking, importing, exporting, restarting, cutting, cuttingIn, World, act, allowed, legal, run, noted, start}
 use Rattle.model.specs.Demand3.{After, lastInto, lastUpdate, liveListed}
 use Rattle.model.specs.FromPack.{fromPack, writtenWords, packWords, writtenReads, packReads, birthMaps}
 use Rattle.invariant.proofs.Stores.{inside}
@@ -63,6 +63,8 @@ module _ (z : Sizes) (pack : Disk) (high : ¬ (Holds (lower (z .accounts) (at (p
   unfolding allowed act restart noted lose L.note
   act-still w (event e) t k = absurd (k .down t)
   act-still w (looking s p) t k = k
+  act-still w (importing s q n b) t k = absurd (k .down t)
+  act-still w (exporting s buffer) t k = absurd (k .down t)
   act-still w restarting t k = go (firstNo (ask 1 (allFit z (w .state)) (ask 2 (diskRules z (w .state)) none))) refl
     where
       go : (n : ℕ) → firstNo (ask 1 (allFit z (w .state)) (ask 2 (diskRules z (w .state)) none)) ≡ n

@@ -6,6 +6,7 @@ use lib.Dec.{eqb, ltb}
 use lib.ListN.{length}
 use Rattle.tables.specs.Base.{if}
 use Rattle.tables.specs.Rule.{test}
+use Rattle.sheets.specs.Sheet.{countIn}
 use Rattle.model.specs.declared.sizes.Sizes.{Sizes}
 use Rattle.model.specs.declared.event.Design.the-variants.{Create, Delete, Activate, Deactivate}
 use Rattle.model.specs.declared.event.Page.the-variants.{Fault, Read, Write, Wire, Unwire}
@@ -20,13 +21,18 @@ use Rattle.model.specs.Writeback.{beginsWrite, recordIn, storeFrame, sto
 use Rattle.model.specs.Questions.{Turning, nobody, serves, goesBack, faults, claims, sendsAway, nextPage, turning}
 use Rattle.model.specs.Setters.{onDisk}
 use Rattle.model.specs.Step.{Outcome, memoryLengths, step, restart}
+use Rattle.model.specs.Stores as S
 use Rattle.model.specs.Stores.{Call, made, first}
+use Rattle.model.specs.Import.{Sheet, sheetOf, taken, has, said, import}
 use Rattle.model.specs.Ledger as L
 
 pub data Act : Type 0 where
   event : Event → Act
   -- a page look: slot, page
   looking : ℕ → ℕ → Act
+  -- an import: slot, account, number, sheet; an export: slot, buffer
+  importing : ℕ → ℕ → ℕ → List ℕ → Act
+  exporting : ℕ → List ℕ → Act
   restarting : Act
   -- which open writes land, by frame; which open updates, by slot; what the memory holds after
   cutting : (ℕ → Bool) → (ℕ → Bool) → Memory → Act
@@ -69,6 +75,20 @@ fed z st (Event.Writeback (MapDone s good)) = L.mapEnd s good
 fed z st (Event.Waiting (Join s p)) = L.nothing
 fed z st (Event.Waiting Turn) = fedTurn z st (turning z st)
 
+-- what the first k stores of an import feed, while the last is not made
+unfoldable pub partly : Sizes → State → ℕ → Sheet → ℕ → L.Ledger → L.Ledger
+partly z st s h zero l = L.note z l L.importBegun
+partly z st s h (suc k) l = L.note z (partly z st s h k l) (L.importedPage (h .page k) (taken z st s k) (h .word k))
+
+-- and all of them
+unfoldable pub wholly : Sizes → State → ℕ → Sheet → L.Ledger → L.Ledger
+wholly z st s h l = L.note z (partly z st s h (h .count) l) (L.importedSlot s (has h) (said h))
+
+-- what a call's stores feed before its last one: an event's nothing
+unfoldable pub fedPart : Sizes → State → Call → ℕ → L.Ledger → L.Ledger
+fedPart z st (S.event e) k l = l
+fedPart z st (S.importing s q n b) k l = partly z st s (sheetOf b) k l
+
 -- ── a cut ──
 -- Each open write's record and open update's map is then old or new, whole, in any mix; the rest of the disk stays.
 unfoldable pub landWrites : Sizes → State → (ℕ → Bool) → ℕ → Disk → Disk
@@ -104,12 +124,16 @@ module _ (z : Sizes) where
 
   -- the world once the first k of a call's stores are made
   unfoldable pub part : World → Call → ℕ → World
-  part w c k = record { up = w .up; state = onDisk (first k (made z (w .state) c)) (w .state); ledger = w .ledger }
+  part w c k = record { up = w .up; state = onDisk (first k (made z (w .state) c)) (w .state); ledger = fedPart z (w .state) c k (w .ledger) }
 
   unfoldable pub act : World → Act → World
   act w (event e) = let o = step z (w .state) e in record { up = w .up; state = o .left; ledger = noted o (fed z (w .state) e) (w .ledger) }
   -- a page look leaves all as it was, and is no event: the ledger is fed nothing
   act w (looking s p) = w
+  act w (importing s q n b) = let o = import z (w .state) s q n b in
+      record { up = w .up; state = o .left; ledger = if (eqb (o .answer .refusal) 0) (wholly z (w .state) s (sheetOf b) (w .ledger)) (w .ledger) }
+  -- so does an export
+  act w (exporting s buffer) = w
   act w restarting = let o = restart z (w .state) in record { up = if (eqb (o .answer .refusal) 0) true (w .up); state = o .left; ledger = noted o (L.restarted (w .state .disk)) (w .ledger) }
   act w (cutting writes updates junk) = cutOff w writes updates junk
   -- a cut falls before or after a store
@@ -119,6 +143,8 @@ module _ (z : Sizes) where
   unfoldable pub allowed : World → Act → Bool
   allowed w (event e) = w .up
   allowed w (looking s p) = w .up
+  allowed w (importing s q n b) = w .up
+  allowed w (exporting s buffer) = w .up
   allowed w restarting = true
   allowed w (cutting writes updates junk) = test (memoryLengths z junk)
   -- before its last store; after that one it is a cut after the call

@@ -15,3 +15,5 @@ pub mod OwnLaws
 pub mod Implied
 pub mod Unasked
 pub mod ListedActs
+pub mod Takes
+pub mod Fields

@@ -29,6 +29,11 @@ pub data Fed : Type 0 where
   began : ℕ → Fed
   pageEnd : ℕ → ℕ → Fed
   mapEnd : ℕ → ℕ → Fed
+  -- an import: a birth is spent, of a design that stands in no slot yet; a page of it stored (page, record, words);
+  -- and the slot: which pages the sheet has, and the words that it gives each
+  importBegun : Fed
+  importedPage : ℕ → ℕ → (ℕ → ℕ) → Fed
+  importedSlot : ℕ → (ℕ → Bool) → (ℕ → ℕ → ℕ) → Fed
   -- the frames whose writes landed, and the slots whose updates landed
   cut : (ℕ → Bool) → (ℕ → Bool) → Fed
 
@@ -166,6 +171,24 @@ finishUpdates (suc s) lands l = let rest = finishUpdates s lands l in if (lands 
 unfoldable pub lose : Ledger → Ledger
 lose l = setLive (λ i. false) (setUpdate (λ s. false) (l .pending .update) (setWrite (λ f. false) (l .pending .write) l))
 
+-- an import is a creation; those writes, each finished with its store, count as the design's own, made after its creation
+unfoldable pub spent : Ledger → Ledger
+spent l = setDesign (suc (l .births)) (l .design) l
+
+abbrev pub pageWrite : ℕ → ℕ → ℕ → (ℕ → ℕ) → Write
+pageWrite d p r words = record { design = d; page = p; record′ = r; words = words; serial = 0; counts = true }
+
+unfoldable pub carriedIn : ℕ → ℕ → (ℕ → ℕ) → Ledger → Ledger
+carriedIn p r words l = setFinished (ended (pageWrite (l .births) p r words) (suc (length (l .finished))) ∷ l .finished) l
+
+-- its last store: the newest design takes the slot; its pages are listed as by a finished update
+abbrev pub listing : (ℕ → Bool) → Ledger → Update
+listing has l = record { design = l .births; live = has; after = length (l .finished) }
+
+unfoldable pub placed : Sizes → ℕ → (ℕ → Bool) → (ℕ → ℕ → ℕ) → Ledger → Ledger
+placed z s has said l = setStored (listing has l ∷ l .stored)
+    (setText (λ i. if (test (ofSlot z s i)) (said (i % z .pages)) (l .pages .text i)) (over (l .pages .kept) (ofSlot z s) false) (setDesign (l .births) (put (l .design) s (l .births)) l))
+
 module _ (z : Sizes) where
   -- the page's words on a disk: those of its record, or zeros on an unlisted page
   unfoldable pub found : Disk → ℕ → ℕ → ℕ
@@ -210,6 +233,9 @@ module _ (z : Sizes) where
   note l (began s) = setUpdate (put (l .pending .updating) s true) (put (l .pending .update) s (begun l s)) l
   note l (pageEnd f good) = if (eqb good 1) (finishWrite f l) (strikeWrite f l)
   note l (mapEnd s good) = if (eqb good 1) (finishUpdate s l) (strikeUpdate s l)
+  note l importBegun = spent l
+  note l (importedPage p r words) = carriedIn p r words l
+  note l (importedSlot s has said) = placed z s has said l
   note l (cut writes updates) = lose (finishUpdates (z .slots) updates (finishWrites (z .frames) writes l))
 
 -- each filled slot of the pack that a list starts from has a design: its birth is its place among them, from 1

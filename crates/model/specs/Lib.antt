@@ -21,10 +21,13 @@ pub mod Turns
 pub mod Calls
 pub mod ApplyAll
 pub mod Part
+pub mod Import
 pub mod Ledger
+pub mod Export
 pub mod Stores
 pub mod Acts
 pub mod Demand3
 pub mod FromPack
+pub mod Carried
 pub mod Terms
 pub mod Laws

@@ -1,10 +1,12 @@
 -- The questions that come after 1 and 2: each stands once here, under the papers' sentence and with its number. Number 23 is not used (Unasked).
 use Prim.Native.Nat.{ℕ, suc, _+_, _%_}
+use mathlib.Core.List.{List}
 use lib.Dec.{eqb}
 use Rattle.tables.specs.Base.{at, if}
 use Rattle.tables.specs.Queue.{size, first}
 use Rattle.tables.specs.Questions.{Questions, none, ask, firstNo}
 use Rattle.tables.specs.Rule.{Rule, same, below, non, _and_, _or_, _then_, each, test}
+use Rattle.sheets.specs.Sheet.{wordsIn, pagesIn, countIn, form}
 use Rattle.model.specs.declared.sizes.Sizes.{Sizes}
 use Rattle.model.specs.declared.event.Design.{Design}
 use Rattle.model.specs.declared.event.Design.the-variants.{Create, Delete, Activate, Deactivate}
@@ -19,6 +21,7 @@ use Rattle.model.specs.declared.event.Waiting.the-variants.{Join, Turn}
 use Rattle.model.specs.declared.event.Event.{Event}
 use Rattle.model.specs.declared.event.Event.the-variants as Event
 use Rattle.model.specs.Lines.{NULLED, RELEASED}
+use Rattle.model.specs.Payer as Payer
 use Rattle.model.specs.State.{State, Files, Frames, files, frames, NONE, READING, LINE, pageOf, slotOf, framed, live, charged, payer}
 use Rattle.model.specs.Rules.{isActive}
 use Rattle.model.specs.Accounts.{move}
@@ -249,6 +252,37 @@ module _ (z : Sizes) (st : State) where
   questions (Event.Page e) = pageQuestions e
   questions (Event.Writeback e) = writebackQuestions e
   questions (Event.Waiting e) = waitingQuestions e
+
+  -- ── design sheets ──
+  -- (02) 29 for a sheet not of this form, 30 for another W or N. 31, last, if an export buffer is too short.
+  abbrev q29 : List ℕ → Questions → Questions
+  q29 sheet = ask 29 (form sheet)
+
+  abbrev q30 : List ℕ → Questions → Questions
+  q30 sheet = ask 30 (same (wordsIn sheet) (z .words) and same (pagesIn sheet) (z .pages))
+
+  abbrev q31 : ℕ → ℕ → Questions → Questions
+  q31 long room = ask 31 (non (below room long))
+
+  -- who pays for an account, and so many pages more for it
+  abbrev pub paysFor : ℕ → ℕ
+  paysFor q = Payer.payer (v .parent) (v .limit) q
+
+  abbrev affords : ℕ → ℕ → Rule
+  affords q n = below (at (st .memory .used) (paysFor q) + n) (suc (at (st .disk .limits) (paysFor q)))
+
+  -- .. then, if the sheet has pages, 18 and 19 for all together; 29 and 30 before 18.
+  abbrev pub sheetQuestions : ℕ → List ℕ → Questions
+  sheetQuestions q sheet = q29 sheet (q30 sheet
+      (ask 18 (below 0 (countIn sheet) then affords q (countIn sheet)) (ask 19 (below 0 (countIn sheet) then non (below (st .memory .held .pool .free) (countIn sheet))) none)))
+
+  -- It asks 5 and 6 first.
+  abbrev pub importQuestions : ℕ → ℕ → ℕ → List ℕ → Questions
+  importQuestions s q n sheet = q3 (below s (z .slots) and below q (z .accounts) and below 0 n) (q5 s (q6 n (sheetQuestions q sheet)))
+
+  -- Export asks 4 and 9.
+  abbrev pub exportQuestions : ℕ → ℕ → ℕ → Questions
+  exportQuestions s long room = q3 (slotRange s) (q4 s (q9 s (q31 long room none)))
 
   -- a page look asks as a read does
   abbrev pub lookQuestions : ℕ → ℕ → Questions

@@ -1,9 +1,10 @@
 -- The stores that a call makes to the disk itself, in order, so that a cut can fall between them.
-use mathlib.Core.List.{List, [], _∷_}
+use mathlib.Core.List.{List, [], _∷_, _++_}
 use Prim.Native.Nat.{ℕ, zero, suc}
 use lib.Dec.{eqb}
 use lib.ListN.{length, set}
-use Rattle.tables.specs.Base.{if}
+use Rattle.tables.specs.Base.{if, tab}
+use Rattle.sheets.specs.Sheet.{countIn}
 use Rattle.model.specs.declared.sizes.Sizes.{Sizes}
 use Rattle.model.specs.declared.event.Design.{Design}
 use Rattle.model.specs.declared.event.Design.the-variants.{Create, Delete, Activate, Deactivate}
@@ -17,6 +18,7 @@ use Rattle.model.specs.State.{Disk, State, frames, READING}
 use Rattle.model.specs.Setters.{setNumbers, setAccounts, setLimits}
 use Rattle.model.specs.Accounts.{shifted}
 use Rattle.model.specs.Writeback.{storeFrame, storeImage}
+use Rattle.model.specs.Import.{sheetOf, storeRecord, storeSlot, importAnswer}
 use Rattle.model.specs.Step.{answer}
 
 -- the disk after the first k of some stores
@@ -37,15 +39,17 @@ byAnswer (suc n) fs = []
 -- the calls that can store
 pub data Call : Type 0 where
   event : Event → Call
+  -- slot, account, number, sheet
+  importing : ℕ → ℕ → ℕ → List ℕ → Call
 
 module _ (z : Sizes) (st : State) where
   -- number and account of a slot are one store
-  abbrev storeSlot : ℕ → ℕ → ℕ → Disk → Disk
-  storeSlot s q n d = setNumbers (set (d .numbers) s n) (setAccounts (set (d .accounts) s q) d)
+  abbrev fillSlot : ℕ → ℕ → ℕ → Disk → Disk
+  fillSlot s q n d = setNumbers (set (d .numbers) s n) (setAccounts (set (d .accounts) s q) d)
 
   abbrev designStores : Design → List (Disk → Disk)
-  designStores (Create s q n) = storeSlot s q n ∷ []
-  designStores (Delete s) = storeSlot s 0 0 ∷ []
+  designStores (Create s q n) = fillSlot s q n ∷ []
+  designStores (Delete s) = fillSlot s 0 0 ∷ []
   designStores (Activate s) = []
   designStores (Deactivate s) = []
 
@@ -72,9 +76,11 @@ module _ (z : Sizes) (st : State) where
   -- the stores of a call that is carried out, in order: it runs these and stores nothing otherwise
   unfoldable pub stores : Call → List (Disk → Disk)
   stores (event e) = eventStores e
+  stores (importing s q n b) = tab (countIn b) (storeRecord z st s q n (sheetOf b)) 0 ++ storeSlot z st s q n (sheetOf b) ∷ []
 
   unfoldable pub answered : Call → ℕ
   answered (event e) = answer z st e
+  answered (importing s q n b) = importAnswer z st s q n b
 
   unfoldable pub made : Call → List (Disk → Disk)
   made c = byAnswer (answered c) (stores c)

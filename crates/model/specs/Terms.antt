@@ -2,8 +2,9 @@
 use mathlib.Core.Path.{_≡_}
 use mathlib.Core.Bool.{Bool, true, false, not, _&&_}
 use mathlib.Core.List.{List, [], _∷_, _++_}
+use mathlib.Core.Logic.{_⊎_}
 use Prim.Native.Nat.{ℕ, zero, suc, _+_, _-_, _%_, _<_, _≤_}
-use lib.Dec.{eqb}
+use lib.Dec.{T, eqb}
 use Rattle.tables.specs.Rule.{Rule, Holds, same, below, non, _and_, _then_, each, some}
 use Rattle.model.specs.declared.sizes.Sizes.{Sizes}
 use Rattle.model.specs.declared.event.Account.the-variants.{Limit, Move}
@@ -12,16 +13,18 @@ use Rattle.model.specs.declared.event.Event.{Event}
 use Rattle.model.specs.declared.event.Event.the-variants as Event
 use Rattle.model.specs.declared.request.Decoded.{Decoded}
 use Rattle.model.specs.declared.request.Decoded.the-variants.{Known, Unknown}
-use Rattle.model.specs.Lines.{FREE, NULLED, RELEASED}
+use Rattle.model.specs.Lines.{FREE, NULLED, RELEASED, byEvent, byImport}
 use Rattle.model.specs.State.{State, files, frames, NONE, READING, slotOf, pageOf, framed}
 use Rattle.model.specs.Rules.{allRules}
 use Rattle.model.specs.Parts.{wordAt, byHand, neighbour}
 use Rattle.model.specs.Step.{allFit, step, restart, look}
 use Rattle.model.specs.Requests.{decoded}
 use Rattle.model.specs.ApplyAll.{requestAt}
+use Rattle.model.specs.Import.{import}
+use Rattle.model.specs.Export.{export}
 use Rattle.model.specs.Stores as S
 use Rattle.model.specs.Stores.{Call}
-use Rattle.model.specs.Acts.{Act, World, event, looking, restarting, cutting, cuttingIn, act}
+use Rattle.model.specs.Acts.{Act, World, event, looking, importing, exporting, restarting, cutting, cuttingIn, act}
 
 -- ── tables that pass ──
 -- questions 1 and 2 say yes
@@ -44,10 +47,12 @@ tidy z st = each (z .records) λ r. (same (files st .state r) FREE then same (fi
 abbrev pub blameless : ℕ → Rule
 blameless n = non (same n 1) and non (same n 2)
 
--- one act in a world: an event and a page look are not answered 1 or 2, a restart is carried out
+-- one act in a world: an event, a page look, an import and an export are not answered 1 or 2, a restart is carried out
 abbrev pub answered : Sizes → World → Act → Rule
 answered z w (event e) = blameless (step z (w .state) e .answer .refusal)
 answered z w (looking s p) = blameless (look z (w .state) s p .answer .refusal)
+answered z w (importing s q n b) = blameless (import z (w .state) s q n b .answer .refusal)
+answered z w (exporting s buffer) = blameless (export z (w .state) s buffer .answer .refusal)
 answered z w restarting = same (restart z (w .state) .answer .refusal) 0
 answered z w (cutting writes updates junk) = same 0 0
 answered z w (cuttingIn c k writes updates junk) = same 0 0
@@ -56,6 +61,26 @@ answered z w (cuttingIn c k writes updates junk) = same 0 0
 abbrev pub allAnswered : Sizes → World → List Act → Rule
 allAnswered z w [] = same 0 0
 allAnswered z w (a ∷ acts) = answered z w a and allAnswered z (act z w a) acts
+
+-- ── the lines ──
+-- each record's state stays, or moves along a line
+abbrev pub MovedBy : (ℕ → ℕ → Bool) → Sizes → State → State → Type 0
+MovedBy line z st st′ = (r : ℕ) → r < z .records → (files st′ .state r ≡ files st .state r) ⊎ T (line (files st .state r) (files st′ .state r))
+
+-- one act in a world: an event moves records along the eleven lines, an import along the twelfth alone, a page look and an export along none; a restart and a cut set or lose all states
+abbrev pub Moves : Sizes → World → Act → Type 0
+Moves z w (event e) = MovedBy byEvent z (w .state) (act z w (event e) .state)
+Moves z w (looking s p) = act z w (looking s p) .state ≡ w .state
+Moves z w (importing s q n b) = MovedBy byImport z (w .state) (act z w (importing s q n b) .state)
+Moves z w (exporting s buffer) = act z w (exporting s buffer) .state ≡ w .state
+Moves z w restarting = Unit {0}
+Moves z w (cutting writes updates junk) = Unit {0}
+Moves z w (cuttingIn c k writes updates junk) = Unit {0}
+
+-- and each act of a list
+abbrev pub AllMove : Sizes → World → List Act → Type 0
+AllMove z w [] = Unit {0}
+AllMove z w (a ∷ acts) = Moves z w a × AllMove z (act z w a) acts
 
 -- ── the limit event ──
 abbrev pub isLimit : Event → Bool
@@ -69,11 +94,14 @@ isLimit (Event.Waiting e) = false
 -- a call that is no limit event
 abbrev pub noLimitCall : Call → Bool
 noLimitCall (S.event e) = not (isLimit e)
+noLimitCall (S.importing s q n b) = true
 
 -- an act that is none: another event, a page look, a restart, a cut, also inside another call
 abbrev pub noLimit : Act → Bool
 noLimit (event e) = not (isLimit e)
 noLimit (looking s p) = true
+noLimit (importing s q n b) = true
+noLimit (exporting s buffer) = true
 noLimit restarting = true
 noLimit (cutting writes updates junk) = true
 noLimit (cuttingIn c k writes updates junk) = noLimitCall c
@@ -124,6 +152,8 @@ asksDone f Unknown = false
 abbrev pub other : ℕ → Act → Bool
 other f (event e) = not (isDone f e)
 other f (looking s p) = true
+other f (importing s q n b) = true
+other f (exporting s buffer) = true
 other f restarting = false
 other f (cutting writes updates junk) = false
 other f (cuttingIn c k writes updates junk) = false

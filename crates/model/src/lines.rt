@@ -19,7 +19,7 @@ const STATES: usize = 6;
 
 // A row for each state that a record leaves, a cell for each that it enters.
 const LINES: [[bool; STATES]; STATES] = [
-    [false, false, true, false, false, false],
+    [false, true, true, false, false, false],
     [false, false, false, true, false, false],
     [false, false, false, true, true, true],
     [false, true, true, false, true, false],

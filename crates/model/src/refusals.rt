@@ -75,3 +75,12 @@ pub const OVER_LIMIT: u32 = 26;
 
 // Join: fewer than 32 waiting?
 pub const LINE_FULL: u32 = 27;
+
+// Import: the sheet of the form?
+pub const SHEET_WRONG: u32 = 29;
+
+// Import: the sheet's W and N this board's?
+pub const SHEET_OTHER: u32 = 30;
+
+// Export: the buffer long enough?
+pub const SHEET_SHORT: u32 = 31;

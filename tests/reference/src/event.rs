@@ -50,7 +50,7 @@ impl Answer {
     }
 }
 
-/// `Look` is the page look; no request decodes to it.
+/// `Look` is the page look, `Export` and `Import` are calls of their own too; no request decodes to them.
 #[derive(Clone, Copy, Debug, PartialEq, Eq)]
 pub enum Event {
     Create { slot: usize, account: usize, number: u32 },
@@ -72,6 +72,8 @@ pub enum Event {
     Join { slot: usize, page: usize },
     Turn,
     Look { slot: usize, page: usize },
+    Export { slot: usize },
+    Import { slot: usize, account: usize, number: u32 },
 }
 
 impl Event {
@@ -119,7 +121,9 @@ impl Event {
             | Event::Update { slot }
             | Event::MapDone { slot, .. }
             | Event::Join { slot, .. }
-            | Event::Look { slot, .. } => Some(slot),
+            | Event::Look { slot, .. }
+            | Event::Export { slot }
+            | Event::Import { slot, .. } => Some(slot),
             Event::Claim | Event::PageDone { .. } | Event::Limit { .. } | Event::Move { .. } | Event::Turn => None,
         }
     }

@@ -1,4 +1,4 @@
-//! The public calls over the lent tables: format, restart, apply, a list of requests, page look.
+//! The public calls over the lent tables: format, restart, apply, a list of requests, page look. Export and import stand in carry.rs.
 
 use crate::event::{Answer, Event, Part, Request};
 use crate::tables::{Disk, Memory, Sizes, LIVE};
@@ -85,7 +85,7 @@ impl Keeper {
     }
 
     /// Questions 1 and 2.
-    fn common(&self) -> u32 {
+    pub fn common(&self) -> u32 {
         if !fit::disk_fits(&self.sizes, &self.disk) || !fit::memory_fits(&self.sizes, &self.memory) {
             1
         } else if !rules::kept(self) {

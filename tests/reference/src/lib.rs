@@ -3,6 +3,7 @@
 
 pub mod accounts; // who pays, and for what
 pub mod bench; // the lists that speed is measured over, and the measuring
+pub mod carry; // a design carried to another board: export, import
 pub mod drive; // random lists of events, and what must hold along them
 pub mod event; // requests as numbers, and their events
 pub mod events; // what each event does
@@ -15,4 +16,5 @@ pub mod questions; // questions 3 to 27
 pub mod queue; // the free queue, the removal list and the waiting line
 pub mod restart; // memory built anew from the disk part
 pub mod rules; // question 2
+pub mod sheet; // design sheets: what one says, printed and parsed
 pub mod tables; // sizes and tables

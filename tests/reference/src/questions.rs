@@ -1,4 +1,5 @@
-//! Questions 3 to 27, asked in number order; each says yes to the events that it does not concern.
+//! Questions 3 to 27, asked in number order; each says yes to the events that it does not concern. Of import it has 3, 5 and 6, of export
+//! 3, 4 and 9: carry.rs asks what they ask of a sheet.
 
 use crate::accounts;
 use crate::event::Event;
@@ -48,7 +49,9 @@ fn in_range(keeper: &Keeper, event: Event) -> bool {
     let slot_ok = event.slot().is_none_or(|slot| slot < sizes.slots);
     slot_ok
         && match event {
-            Event::Create { account, number, .. } => account < sizes.accounts && number > 0,
+            Event::Create { account, number, .. } | Event::Import { account, number, .. } => {
+                account < sizes.accounts && number > 0
+            }
             Event::Limit { account, pages } => account < sizes.accounts && pages <= 65_535,
             Event::Move { giver, taker, .. } => giver < sizes.accounts && taker < sizes.accounts,
             Event::Read { page, word, .. } | Event::Write { page, word, .. } => {
@@ -68,21 +71,21 @@ fn in_range(keeper: &Keeper, event: Event) -> bool {
 
 fn slot_filled(keeper: &Keeper, event: Event) -> bool {
     match event {
-        Event::Create { .. } | Event::Join { .. } => true,
+        Event::Create { .. } | Event::Join { .. } | Event::Import { .. } => true,
         _ => event.slot().is_none_or(|slot| keeper.disk.numbers[slot] != 0),
     }
 }
 
 fn slot_empty(keeper: &Keeper, event: Event) -> bool {
     match event {
-        Event::Create { slot, .. } => keeper.disk.numbers[slot] == 0,
+        Event::Create { slot, .. } | Event::Import { slot, .. } => keeper.disk.numbers[slot] == 0,
         _ => true,
     }
 }
 
 fn number_new(keeper: &Keeper, event: Event) -> bool {
     match event {
-        Event::Create { number, .. } => !keeper.disk.numbers.contains(&number),
+        Event::Create { number, .. } | Event::Import { number, .. } => !keeper.disk.numbers.contains(&number),
         _ => true,
     }
 }
@@ -97,13 +100,14 @@ fn map_zero(keeper: &Keeper, event: Event) -> bool {
 fn active(keeper: &Keeper, event: Event) -> bool {
     match event {
         Event::Create { .. } | Event::Delete { .. } | Event::Activate { .. } | Event::Join { .. } => true,
+        Event::Export { .. } | Event::Import { .. } => true,
         _ => event.slot().is_none_or(|slot| keeper.memory.active[slot] == 1),
     }
 }
 
 fn inactive(keeper: &Keeper, event: Event) -> bool {
     match event {
-        Event::Activate { slot } | Event::Delete { slot } => keeper.memory.active[slot] == 0,
+        Event::Activate { slot } | Event::Delete { slot } | Event::Export { slot } => keeper.memory.active[slot] == 0,
         _ => true,
     }
 }

@@ -8,6 +8,7 @@ fn lists_keep_the_promises() {
     println!("{counts}");
     assert_eq!(counts.kinds_missing(), Vec::<&str>::new(), "never carried out");
     assert_eq!(counts.refusals_missing(), Vec::<u32>::new(), "never given");
+    assert!(counts.inside * 50 > counts.cuts, "cuts inside an import: {} of {}", counts.inside, counts.cuts);
     assert!(!counts.taken.never_full(), "records taken on a nearly full disk: {:?}", counts.taken);
     assert!(!counts.taken.rare(), "records taken near another, out of order, of two equally near: {:?}", counts.taken);
     assert!(!counts.written.rare(), "reads and looks of pages being written, failed writes of pages read: {:?}", counts.written);

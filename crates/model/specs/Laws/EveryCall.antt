@@ -1,8 +1,10 @@
 -- The calls as one (step, apply, restart, format, look): what each asks, and demand 1's refusal, which leaves everything lent as it was.
 use mathlib.Core.Path.{_≡_, refl}
+use mathlib.Core.Bool.{Bool, true, false}
 use mathlib.Core.List.{List, []}
 use Prim.Native.Nat.{ℕ, zero, suc}
 use lib.Dec.{T}
+use lib.ListN.{length}
 use Rattle.tables.specs.Base.{at}
 use Rattle.tables.specs.Questions.{Questions, none, ask, above, rising, rising-above, firstNo}
 use Rattle.tables.specs.Rule.{Rule, same, _and_}
@@ -15,7 +17,9 @@ use Rattle.model.specs.Sizes.{sizesFit}
 use Rattle.model.specs.Requests.{decoded, decodedNumber}
 use Rattle.model.specs.State.{Disk, State}
 use Rattle.model.specs.Rules.{lower, diskRules, allRules}
-use Rattle.model.specs.Questions.{questions, lookQuestions}
+use Rattle.model.specs.Questions.{questions, lookQuestions, importQuestions, exportQuestions}
+use Rattle.model.specs.Import.{importAnswer, import}
+use Rattle.model.specs.Export.{exported, export}
 use Rattle.model.specs.Step.{Outcome, outcome, diskLengths, formatLengths, memoryLengths, allFit, answer, step, format, restart, look, in-order}
 use Rattle.model.specs.Calls.{apply, stepOf, unknown}
 
@@ -28,6 +32,9 @@ pub data Call : Type 0 where
   formatting : Sizes → List ℕ → Disk → Call
   -- a page look: slot, page
   looking : Sizes → State → ℕ → ℕ → Call
+  -- an import: slot, account, number, sheet; an export: slot, buffer
+  importing : Sizes → State → ℕ → ℕ → ℕ → List ℕ → Call
+  exporting : Sizes → State → ℕ → List ℕ → Call
 
 abbrev pub sizesIn : Call → Sizes
 sizesIn (stepping z st e) = z
@@ -35,14 +42,18 @@ sizesIn (applying z st r) = z
 sizesIn (restarting z st) = z
 sizesIn (formatting z w d) = z
 sizesIn (looking z st s p) = z
+sizesIn (importing z st s q n b) = z
+sizesIn (exporting z st s buffer) = z
 
--- what a call leaves: all that it is lent and may change; a look changes nothing, and hands back a part
+-- what a call leaves: all that it is lent and may change; a look changes nothing, and hands back a part, an export its buffer
 abbrev pub Left : Call → Type 0
 Left (stepping z st e) = State
 Left (applying z st r) = State
 Left (restarting z st) = State
 Left (formatting z w d) = Disk
 Left (looking z st s p) = List ℕ
+Left (importing z st s q n b) = State
+Left (exporting z st s buffer) = List ℕ
 
 abbrev pub outcomeOf : (c : Call) → Outcome (Left c)
 outcomeOf (stepping z st e) = step z st e
@@ -50,6 +61,8 @@ outcomeOf (applying z st r) = apply z st r
 outcomeOf (restarting z st) = restart z st
 outcomeOf (formatting z w d) = format z w d
 outcomeOf (looking z st s p) = look z st s p
+outcomeOf (importing z st s q n b) = import z st s q n b
+outcomeOf (exporting z st s buffer) = export z st s buffer
 
 -- what a refusal leaves: everything lent as it was; of a look, an empty part
 abbrev pub unchanged : (c : Call) → Left c
@@ -58,6 +71,8 @@ unchanged (applying z st r) = st
 unchanged (restarting z st) = st
 unchanged (formatting z w d) = d
 unchanged (looking z st s p) = []
+unchanged (importing z st s q n b) = st
+unchanged (exporting z st s buffer) = buffer
 
 -- ── what each call asks ──
 -- every slice of its exact length
@@ -67,6 +82,8 @@ lengths (applying z st r) = diskLengths z (st .disk) and memoryLengths z (st .me
 lengths (restarting z st) = diskLengths z (st .disk) and memoryLengths z (st .memory)
 lengths (formatting z w d) = formatLengths z w d
 lengths (looking z st s p) = diskLengths z (st .disk) and memoryLengths z (st .memory)
+lengths (importing z st s q n b) = diskLengths z (st .disk) and memoryLengths z (st .memory)
+lengths (exporting z st s buffer) = diskLengths z (st .disk) and memoryLengths z (st .memory)
 
 -- the questions of a request's event; a kind that is no event fails 3
 abbrev pub decodedQuestions : Sizes → State → Decoded → Questions
@@ -80,6 +97,8 @@ later (applying z st r) = ask 2 (allRules z st) (decodedQuestions z st (decoded 
 later (restarting z st) = ask 2 (diskRules z st) none
 later (formatting z w d) = ask 3 (lower (z .accounts) (at w)) none
 later (looking z st s p) = ask 2 (allRules z st) (lookQuestions z st s p)
+later (importing z st s q n b) = ask 2 (allRules z st) (importQuestions z st s q n b)
+later (exporting z st s buffer) = ask 2 (allRules z st) (exportQuestions z st s (length (exported z st s)) (length buffer))
 
 abbrev pub asks : Call → Questions
 asks c = ask 1 (sizesFit (sizesIn c) and lengths c) (later c)
@@ -89,16 +108,34 @@ decoded-order : (z : Sizes) (st : State) (d : Decoded) → T (rising 2 (decodedQ
 decoded-order z st (Known e) = in-order z st e
 decoded-order z st Unknown = tt
 
-pub later-order : (c : Call) → T (rising 1 (later c))
-later-order (stepping z st e) = in-order z st e
-later-order (applying z st r) = decoded-order z st (decoded r)
-later-order (restarting z st) = tt
-later-order (formatting z w d) = tt
-later-order (looking z st s p) = tt
+-- import's order is `import-order`
+abbrev pub rises : Call → Bool
+rises (importing z st s q n b) = false
+rises (stepping z st e) = true
+rises (applying z st r) = true
+rises (restarting z st) = true
+rises (formatting z w d) = true
+rises (looking z st s p) = true
+rises (exporting z st s buffer) = true
+
+pub later-order : (c : Call) → T (rises c) → T (rising 1 (later c))
+later-order (stepping z st e) t = in-order z st e
+later-order (applying z st r) t = decoded-order z st (decoded r)
+later-order (restarting z st) t = tt
+later-order (formatting z w d) t = tt
+later-order (looking z st s p) t = tt
+later-order (exporting z st s buffer) t = tt
+later-order (importing z st s q n b) t = absurd t
 
 -- so 1 is the first question's number alone
 pub later-above : (c : Call) → T (above 1 (later c))
-later-above c = rising-above 1 (later c) (later-order c)
+later-above (importing z st s q n b) = tt
+later-above (stepping z st e) = rising-above 1 (later (stepping z st e)) (later-order (stepping z st e) tt)
+later-above (applying z st r) = rising-above 1 (later (applying z st r)) (later-order (applying z st r) tt)
+later-above (restarting z st) = tt
+later-above (formatting z w d) = tt
+later-above (looking z st s p) = tt
+later-above (exporting z st s buffer) = tt
 
 -- ── the answer, and a refusal ──
 -- the refusal is the number of the first question that fails, or 0; where it is not 0, the result is 0 and nothing has changed
@@ -117,9 +154,11 @@ by-decoded z st (Known e) = by-outcome _ _ _ _ _ refl
 by-decoded z st Unknown = by-outcome _ _ _ _ _ refl
 
 pub refused-unchanged : (c : Call) → Answers (asks c) (unchanged c) (outcomeOf c)
-unfolding allFit step answer apply restart format look
+unfolding allFit step answer apply restart format look importAnswer import export
 refused-unchanged (stepping z st e) = by-outcome _ _ _ _ _ refl
 refused-unchanged (applying z st r) = by-decoded z st (decoded r)
 refused-unchanged (restarting z st) = by-outcome _ _ _ _ _ refl
 refused-unchanged (formatting z w d) = by-outcome _ _ _ _ _ refl
 refused-unchanged (looking z st s p) = by-outcome _ _ _ _ _ refl
+refused-unchanged (importing z st s q n b) = by-outcome _ _ _ _ _ refl
+refused-unchanged (exporting z st s buffer) = by-outcome _ _ _ _ _ refl

@@ -1,7 +1,7 @@
 //! One thing that a list does, and what came of it.
 
 use super::trees::Wanted;
-use super::Subject;
+use super::{sheets, Subject};
 use crate::event::{Answer, Part, Request};
 use crate::keeper::Keeper;
 
@@ -12,6 +12,10 @@ pub enum Call {
     Restart,
     Apply(Request),
     Look { slot: u32, page: u32 },
+    /// The buffer is so long.
+    Export { slot: usize, room: usize },
+    /// The seed says which sheet.
+    Import { slot: usize, account: usize, number: u32, sheet: u64 },
 }
 
 /// What is done to the lent tables before the call. Seeds say how, so that both subjects get the same.
@@ -20,6 +24,8 @@ pub enum Before {
     Nothing,
     /// Power fails: what is under way lands or not, memory is lost. It stays so.
     Cut(u64),
+    /// It fails inside an import, before its last store, if the tables allow one. It stays so.
+    CutInside(u64),
     /// Cells are changed. Undone after the call.
     Damage(u64),
     /// A table or a size is too long or short. Undone after the call.
@@ -32,19 +38,26 @@ pub struct Act {
     pub call: Call,
 }
 
-#[derive(Clone, Copy, Debug, PartialEq, Eq)]
+#[derive(Clone, Debug, PartialEq, Eq)]
 pub enum Outcome {
     Answer(Answer),
     Part(Part),
+    /// An export, and its whole buffer.
+    Sheet(Answer, Vec<u8>),
 }
 
 impl Outcome {
     pub fn refusal(&self) -> u32 {
         match self {
-            Outcome::Answer(answer) => answer.refusal,
+            Outcome::Answer(answer) | Outcome::Sheet(answer, _) => answer.refusal,
             Outcome::Part(part) => part.refusal,
         }
     }
+}
+
+/// A buffer for an export, as it is lent.
+pub fn buffer(room: usize) -> Vec<u8> {
+    (0..room).map(|at| 0xA5 ^ at as u8).collect()
 }
 
 impl Call {
@@ -59,6 +72,15 @@ impl Call {
             Call::Restart => Outcome::Answer((subject.restart)(keeper)),
             Call::Apply(request) => Outcome::Answer((subject.apply)(keeper, request)),
             Call::Look { slot, page } => Outcome::Part((subject.page_look)(keeper, slot, page)),
+            Call::Export { slot, room } => {
+                let mut buffer = buffer(room);
+                let answer = (subject.export)(keeper, slot, &mut buffer);
+                Outcome::Sheet(answer, buffer)
+            }
+            Call::Import { slot, account, number, sheet } => {
+                let sheet = sheets::sheet(sheet, &keeper.sizes, number);
+                Outcome::Answer((subject.import)(keeper, slot, account, number, &sheet))
+            }
         }
     }
 }

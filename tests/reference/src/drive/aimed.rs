@@ -3,14 +3,14 @@
 use super::random::Random;
 use crate::keeper::Keeper;
 use crate::rules::View;
-use crate::tables::{FREE, NO_TRANSFER, NULLED, READING, RELEASED, WRITING};
+use crate::tables::{FILED, FREE, NO_TRANSFER, NULLED, READING, RELEASED, WRITING};
 use crate::{accounts, queue};
 
 /// A rule, and a damage of sound tables that breaks it; none if the tables have not what it takes.
 type Aim = (&'static str, fn(&mut Keeper, &mut Random) -> Option<()>);
 
 /// Those that the tables seldom have what it takes for stand first, and are drawn more often.
-const AIMS: [Aim; 14] = [
+const AIMS: [Aim; 15] = [
     ("a frame being written is modified", written_unmodified),
     ("no record stands in two entries", entry_twice),
     ("no record stands twice in one image", imaged_twice),
@@ -23,8 +23,9 @@ const AIMS: [Aim; 14] = [
     ("no two pages hold one record", held_twice),
     ("no number stands in two slots", number_twice),
     ("a page in a frame has an address, a reading one a live one", unaddressed),
-    ("an account is below Q", account_past),
     ("the hand is below R", hand_past),
+    ("an empty slot has account 0 and a zero map", empty_listed),
+    ("an account is below Q", account_past),
 ];
 
 /// One of these damages, if it can be made; the rule that it breaks.
@@ -149,6 +150,18 @@ fn unpacked(keeper: &mut Keeper, random: &mut Random) -> Option<()> {
 fn active_empty(keeper: &mut Keeper, random: &mut Random) -> Option<()> {
     let slot = random.find(keeper.sizes.slots, |slot| keeper.disk.numbers[slot] == 0)?;
     keeper.memory.active[slot] = 1;
+    Some(())
+}
+
+/// An empty slot lists a free record, filed.
+fn empty_listed(keeper: &mut Keeper, random: &mut Random) -> Option<()> {
+    let slot = random.find(keeper.sizes.slots, |slot| keeper.disk.numbers[slot] == 0)?;
+    let record = random.find(keeper.sizes.records, |record| keeper.memory.states[record] == FREE)?;
+    set_state(keeper, record, FILED);
+    keeper.memory.owners[record] = slot as u8;
+    let page = keeper.flat(slot, random.below(keeper.sizes.pages));
+    keeper.disk.maps[page] = record as u16 + 1;
+    count_anew(keeper);
     Some(())
 }
 

@@ -5,7 +5,7 @@ use super::aims::{self, Aim};
 use super::counts::{tag, MOVE, REQUESTS};
 use super::random::Random;
 use super::shadow::marked;
-use super::trees;
+use super::{carried, trees};
 use crate::keeper::Keeper;
 use crate::tables::{Sizes, NO_TRANSFER, WRITING};
 
@@ -78,7 +78,8 @@ impl Chooser {
             19..=20 => (Before::Nothing, self.look(keeper)),
             21 if self.random.percent(60) => {
                 self.lost = true;
-                (Before::Cut(seed), self.in_range(keeper))
+                let before = if self.random.percent(60) { Before::CutInside(seed) } else { Before::Cut(seed) };
+                (before, self.in_range(keeper))
             }
             22 if self.random.percent(20) => (Before::Nothing, Call::Restart),
             _ => (Before::Nothing, self.sensible(keeper)),
@@ -97,7 +98,9 @@ impl Chooser {
     }
 
     fn any_call(&mut self, keeper: &Keeper) -> Call {
-        match self.random.below(10) {
+        match self.random.below(12) {
+            10 => self.import(keeper),
+            11 => carried::export(keeper, &mut self.random),
             0 => Call::Format { wanted: trees::wanted(keeper.sizes.accounts, &mut self.random) },
             1..=3 => Call::Restart,
             4 => self.look(keeper),
@@ -185,9 +188,11 @@ impl Chooser {
             return call;
         }
         for _ in 0..5 {
-            let found = match self.random.below(42) {
+            let found = match self.random.below(45) {
                 0..=5 => self.about_designs(keeper),
                 40..=41 => self.shift(keeper),
+                42..=43 => Some(self.import(keeper)),
+                44 => Some(carried::export(keeper, &mut self.random)),
                 6..=12 => self.fault(keeper),
                 13..=23 => self.touch(keeper),
                 24..=29 => self.claim(keeper),
@@ -263,6 +268,11 @@ impl Chooser {
                 Some(Call::request(0x03, [slot, 0, 0, 0]))
             }
         }
+    }
+
+    fn import(&mut self, keeper: &Keeper) -> Call {
+        self.numbers += 1;
+        carried::import(keeper, &mut self.random, self.numbers)
     }
 
     /// Between an account and its parent, either way: one page, all that the giver has, all that it does not use, or any number.

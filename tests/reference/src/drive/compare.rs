@@ -1,9 +1,10 @@
 //! What must hold of one call: the two subjects agree, and each keeps the paper's promises.
 
-use super::act::{Call, Outcome};
+use super::act::{buffer, Call, Outcome};
 use crate::event::Request;
 use crate::keeper::Keeper;
 use crate::rules;
+use crate::sheet::Sheet;
 use crate::tables::{FILED, FREE, LEAVING, LIVE, NO_TRANSFER, NULLED, RELEASED};
 
 /// One subject's side of a call.
@@ -54,7 +55,7 @@ fn first_difference(one: &Keeper, other: &Keeper) -> &'static str {
 
 /// What paper 01 promises of one call, whoever carries it out.
 pub fn promises(call: &Call, before: &Keeper, side: &Side) -> Result<(), String> {
-    match (call, side.outcome) {
+    match (call, &side.outcome) {
         (_, Outcome::Answer(answer)) if answer.refusal != 0 => {
             check(answer.result == 0, "a refusal has a result")?;
             check(side.after == before, "a refused call changed a table")
@@ -64,6 +65,14 @@ pub fn promises(call: &Call, before: &Keeper, side: &Side) -> Result<(), String>
             check(side.after == before, "a page look changed a table")?;
             check(part.refusal == 0 || (part.start, part.count) == (0, 0), "a refused look has a part")?;
             check(part.refusal != 0 || whole, "a look is not one frame's part")
+        }
+        (Call::Export { slot, .. }, Outcome::Sheet(answer, bytes)) => {
+            check(side.after == before, "an export changed a table")?;
+            check(exported(before, *slot, answer.refusal, answer.result as usize, bytes), "an export's buffer")
+        }
+        (Call::Import { slot, .. }, _) => {
+            check(rules::kept(side.after), "an import broke a rule")?;
+            check(imported(*slot, before, side.after), "an import changed something else")
         }
         (Call::Format { wanted }, _) => {
             check(side.after.memory == before.memory, "format changed memory")?;
@@ -93,7 +102,7 @@ fn check(holds: bool, otherwise: &str) -> Result<(), String> {
     }
 }
 
-/// The eleven lines.
+/// The eleven lines of events, and the twelfth, which imports alone go along.
 const LINES: [(u8, u8); 11] = [
     (FREE, NULLED),
     (NULLED, LIVE),
@@ -107,10 +116,42 @@ const LINES: [(u8, u8); 11] = [
     (LEAVING, RELEASED),
     (FILED, LIVE),
 ];
+const TWELFTH: (u8, u8) = (FREE, FILED);
 
 fn along_the_lines(before: &Keeper, after: &Keeper) -> bool {
     let moves = before.memory.states.iter().zip(&after.memory.states);
     moves.into_iter().all(|(&from, &to)| from == to || LINES.contains(&(from, to)))
+}
+
+/// A refused export leaves the buffer as it was; any other has the design's sheet in front, and leaves the bytes after it.
+fn exported(before: &Keeper, slot: usize, refusal: u32, length: usize, bytes: &[u8]) -> bool {
+    let untouched = buffer(bytes.len());
+    match refusal {
+        0 => Sheet::parse(&bytes[..length]) == Some(before.sheet_of(slot)) && bytes[length..] == untouched[length..],
+        _ => length == 0 && bytes == untouched,
+    }
+}
+
+/// An import gives its slot free records, filed, and writes into these alone; it changes only the tables that a carried design needs.
+fn imported(slot: usize, before: &Keeper, after: &Keeper) -> bool {
+    let mut wanted = before.clone();
+    let (disk, memory) = (&mut wanted.disk, &mut wanted.memory);
+    disk.numbers[slot] = after.disk.numbers[slot];
+    disk.accounts[slot] = after.disk.accounts[slot];
+    disk.maps[before.pages_of(slot)].copy_from_slice(&after.disk.maps[before.pages_of(slot)]);
+    for record in 0..before.sizes.records {
+        if (before.memory.states[record], after.memory.states[record]) == TWELFTH {
+            let words = before.words_of_record(record);
+            disk.records[words.clone()].copy_from_slice(&after.disk.records[words]);
+            memory.states[record] = FILED;
+            memory.owners[record] = slot as u8;
+            memory.free_map[record / 32] &= !(1 << (record % 32));
+            memory.pool.free -= 1;
+        }
+    }
+    memory.pool.hand = after.memory.pool.hand;
+    memory.used = after.memory.used.clone();
+    *after == wanted
 }
 
 /// Only the limit event alters the sum of the limits, only it and a move a limit, and no event a parent.
@@ -138,7 +179,7 @@ fn transfers_untouched(call: &Call, before: &Keeper, after: &Keeper) -> bool {
 /// and then nothing else changes; otherwise the line stays, or the first goes to the back and nothing else changes. No other event
 /// changes the line.
 fn line_moves(call: &Call, before: &Keeper, side: &Side) -> bool {
-    let (Call::Apply(request), Outcome::Answer(answer)) = (call, side.outcome) else {
+    let (Call::Apply(request), Outcome::Answer(answer)) = (call, &side.outcome) else {
         return false;
     };
     let mut wanted = before.clone();

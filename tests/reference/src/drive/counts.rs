@@ -50,8 +50,9 @@ pub fn tag(kind: usize) -> u32 {
     }
 }
 
-/// Move stands apart: the benchmark has the kinds above, and with one account it could make no move.
+/// Move stands apart: the benchmark has the kinds above, and with one account it could make no move. So do export and import.
 pub const MOVE: u32 = 17;
+const APART: [&str; 3] = ["move", "export", "import"];
 
 #[derive(Default)]
 pub struct Counts {
@@ -61,6 +62,8 @@ pub struct Counts {
     pub alone: BTreeMap<&'static str, u64>,
     pub calls: u64,
     pub cuts: u64,
+    /// Cuts inside an import, after one of its stores or more.
+    pub inside: u64,
     pub taken: Taken,
     pub written: Written,
     pub batches: Batches,
@@ -168,7 +171,9 @@ impl Counts {
             Call::Format { .. } => KINDS[REQUESTS],
             Call::Restart => KINDS[REQUESTS + 1],
             Call::Look { .. } => KINDS[REQUESTS + 2],
-            Call::Apply(Request { kind: MOVE, .. }) => "move",
+            Call::Apply(Request { kind: MOVE, .. }) => APART[0],
+            Call::Export { .. } => APART[1],
+            Call::Import { .. } => APART[2],
             Call::Apply(request) => {
                 KINDS[(0..REQUESTS).find(|&kind| tag(kind) == request.kind).expect("a kind of request")]
             }
@@ -196,7 +201,7 @@ impl Counts {
 
     /// Kinds never carried out.
     pub fn kinds_missing(&self) -> Vec<&'static str> {
-        let all = KINDS.into_iter().chain(["move"]);
+        let all = KINDS.into_iter().chain(APART);
         all.filter(|kind| !self.carried_out.contains_key(kind)).collect()
     }
 
@@ -211,15 +216,15 @@ impl Counts {
         all.filter(|&(_, count)| count < self.floor()).collect()
     }
 
-    /// Refusals of 1 to 22, and 25 to 27, never given.
+    /// Refusals of 1 to 22, 25 to 27, and 29 to 31, never given.
     pub fn refusals_missing(&self) -> Vec<u32> {
-        (1..=22).chain(25..=27).filter(|number| !self.refused.contains_key(number)).collect()
+        (1..=22).chain(25..=27).chain(29..=31).filter(|number| !self.refused.contains_key(number)).collect()
     }
 }
 
 impl fmt::Display for Counts {
     fn fmt(&self, out: &mut fmt::Formatter) -> fmt::Result {
-        writeln!(out, "{} calls, {} cuts", self.calls, self.cuts)?;
+        writeln!(out, "{} calls, {} cuts, {} of them inside an import", self.calls, self.cuts, self.inside)?;
         writeln!(out, "{:?}", self.taken)?;
         writeln!(out, "{:?}", self.written)?;
         writeln!(out, "{:?}", self.batches)?;

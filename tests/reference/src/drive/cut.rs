@@ -1,7 +1,9 @@
 //! A power cut: each open write's record and open update's map is old or new, memory holds anything.
 
 use super::random::Random;
+use super::sheets;
 use crate::keeper::Keeper;
+use crate::rules;
 use crate::tables::{Frame, Memory, Pool, WRITING};
 
 pub fn cut(keeper: &mut Keeper, seed: u64) {
@@ -13,6 +15,22 @@ pub fn cut(keeper: &mut Keeper, seed: u64) {
         1 => keeper.memory = Memory::zeros(&keeper.sizes),
         _ => scramble(&mut keeper.memory, &mut random),
     }
+}
+
+/// Some stores of an import into an empty slot, but not its last; how many. None if the tables allow no import.
+pub fn inside_import(keeper: &mut Keeper, seed: u64) -> usize {
+    let (mut random, sizes) = (Random::new(seed), keeper.sizes);
+    let empty = random.find(sizes.slots, |slot| keeper.disk.numbers[slot] == 0);
+    let Some(slot) = empty.filter(|_| rules::kept(keeper)) else { return 0 };
+    let number = 30_000 + random.below(1000) as u32;
+    let sheet = sheets::of_form(&mut random, sizes.words, sizes.pages, number);
+    if sheet.woven.len() > keeper.memory.pool.free as usize {
+        return 0;
+    }
+    let stores = keeper.clone().take_in(slot, 0, number, &sheet);
+    let made = random.below(stores.len());
+    stores[..made].iter().for_each(|store| store.make(&mut keeper.disk));
+    made
 }
 
 fn land_writes(keeper: &mut Keeper, random: &mut Random) {

@@ -156,11 +156,11 @@ fn step(
     counts: &mut Counts,
 ) -> Result<(), String> {
     let undo = matches!(act.before, Before::Damage(_) | Before::Misfit(_)).then(|| keepers.clone());
-    let [aimed, _] = keepers.each_mut().map(|keeper| prepare(keeper, act.before));
+    let [prepared, _] = keepers.each_mut().map(|keeper| prepare(keeper, act.before));
     let before = keepers[0].clone();
-    note(act.before, aimed, &before, counts)?;
+    note(act.before, prepared, &before, counts)?;
     let outcomes = [0, 1].map(|side| act.call.make(&subjects[side], &mut keepers[side]));
-    let sides = [0, 1].map(|side| Side { outcome: outcomes[side], after: &keepers[side] });
+    let sides = [0, 1].map(|side| Side { outcome: outcomes[side].clone(), after: &keepers[side] });
     counts.count_call(&act.call, &outcomes[0], &before, &keepers[0]);
     compare(&before, &sides[0], &sides[1])?;
     promises(&act.call, &before, &sides[0])?;
@@ -171,21 +171,37 @@ fn step(
     Ok(())
 }
 
-/// The rule that the damage is aimed at, if it is.
-pub fn prepare(keeper: &mut Keeper, before: Before) -> Option<&'static str> {
+/// What was done before a call: the rule that a damage is aimed at, if it is, and the stores of an import that a cut falls in.
+#[derive(Default)]
+pub struct Prepared {
+    aimed: Option<&'static str>,
+    stores: usize,
+}
+
+pub fn prepare(keeper: &mut Keeper, before: Before) -> Prepared {
+    let mut prepared = Prepared::default();
     match before {
         Before::Nothing => {}
         Before::Cut(seed) => cut::cut(keeper, seed),
-        Before::Damage(seed) => return damage::damage(keeper, seed),
+        Before::CutInside(seed) => {
+            prepared.stores = cut::inside_import(keeper, seed);
+            cut::cut(keeper, seed);
+        }
+        Before::Damage(seed) => prepared.aimed = damage::damage(keeper, seed),
         Before::Misfit(seed) => misfit::misfit(keeper, seed),
     }
-    None
+    prepared
 }
 
 /// Counts cuts, and the rules that alone refuse a damaged table; an aimed damage must have hit.
-fn note(act: Before, aimed: Option<&str>, keeper: &Keeper, counts: &mut Counts) -> Result<(), String> {
+fn note(act: Before, prepared: Prepared, keeper: &Keeper, counts: &mut Counts) -> Result<(), String> {
+    let aimed = prepared.aimed;
     match act {
         Before::Cut(_) => counts.cuts += 1,
+        Before::CutInside(_) => {
+            counts.cuts += 1;
+            counts.inside += (prepared.stores > 0) as u64;
+        }
         Before::Damage(_) => {
             let broken = rules::broken(keeper);
             if aimed.is_some_and(|rule| broken != [rule]) {

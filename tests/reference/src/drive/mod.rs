@@ -4,7 +4,9 @@ pub mod act; // one thing that a list does
 pub mod aimed; // damage that one rule alone refuses
 pub mod aims; // the next event on the way to a design at rest
 pub mod batch; // a stretch of a list in one call
+pub mod boards; // random boards
 pub mod bound; // the bound on waiting
+pub mod carried; // the next import or export of a list
 pub mod choose; // the next act of a list, by what the tables hold
 pub mod compare; // the two subjects agree, and each keeps the paper's promises
 pub mod counts; // how often each kind and refusal was seen
@@ -17,6 +19,7 @@ pub mod moves; // what was seen of limits, moves and payers
 pub mod packs; // packs to mend
 pub mod random; // random numbers from a seed
 pub mod shadow; // what each page must read as
+pub mod sheets; // random sheets
 pub mod trees; // trees of accounts
 pub mod turns; // how turns went
 
@@ -32,6 +35,10 @@ pub struct Subject {
     pub apply: fn(&mut Keeper, Request) -> Answer,
     pub apply_all: fn(&mut Keeper, &[u32], &mut [u32]) -> Answer,
     pub page_look: fn(&Keeper, u32, u32) -> Part,
+    /// Slot and buffer.
+    pub export: fn(&Keeper, usize, &mut [u8]) -> Answer,
+    /// Slot, account, number and sheet.
+    pub import: fn(&mut Keeper, usize, usize, u32, &[u8]) -> Answer,
 }
 
 pub const REFERENCE: Subject = Subject {
@@ -41,4 +48,6 @@ pub const REFERENCE: Subject = Subject {
     apply: Keeper::apply,
     apply_all: Keeper::apply_all,
     page_look: Keeper::page_look,
+    export: Keeper::export,
+    import: Keeper::import,
 };

@@ -30,7 +30,7 @@ impl Shadow {
 
     /// Follows one call that was made on sound tables.
     pub fn follow(&mut self, act: &Act, after: &Keeper, outcome: &Outcome) -> Result<(), String> {
-        if matches!(act.before, Before::Cut(_)) {
+        if matches!(act.before, Before::Cut(_) | Before::CutInside(_)) {
             self.pages.fill(None);
         }
         if outcome.refusal() != 0 {

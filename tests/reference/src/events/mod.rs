@@ -32,7 +32,7 @@ pub fn carry_out(keeper: &mut Keeper, event: Event) -> u32 {
         Event::MapDone { slot, good } => transfers::map_done(keeper, slot, good == 1),
         Event::Join { slot, page } => line::join(keeper, slot, page),
         Event::Turn => line::turn(keeper),
-        Event::Look { .. } => 0,
+        Event::Look { .. } | Event::Export { .. } | Event::Import { .. } => 0,
     }
 }
 

@@ -17,7 +17,8 @@ pub fn fault(keeper: &mut Keeper, slot: usize, page: usize) -> u32 {
         let words = keeper.words_of_frame(frame);
         keeper.memory.frame_words[words].fill(0);
         if keeper.record_of(page).is_none() {
-            take_record(keeper, slot, page);
+            let record = take_record(keeper, slot, neighbour(keeper, page), NULLED);
+            keeper.memory.addresses[page] = record as u16 + 1;
         }
         entry.initial = 1;
         queue::push_front(&mut keeper.memory.removal_list, frame);
@@ -38,27 +39,27 @@ pub fn free_records(keeper: &Keeper) -> impl Iterator<Item = usize> + '_ {
     (0..keeper.sizes.records).filter(|record| keeper.memory.free_map[record / 32] >> (record % 32) & 1 == 1)
 }
 
-/// The free record that a page takes: the nearest to its neighbour, of two equally near the lower; without a neighbour the first
-/// counting up from the hand.
-fn choose(keeper: &Keeper, page: usize) -> Option<usize> {
+/// The free record that is taken: the nearest to a neighbour, of two equally near the lower; without a neighbour the first counting up
+/// from the hand.
+fn choose(keeper: &Keeper, neighbour: Option<usize>) -> Option<usize> {
     let hand = keeper.memory.pool.hand as usize;
-    match neighbour(keeper, page) {
+    match neighbour {
         Some(near) => free_records(keeper).min_by_key(|&record| (record.abs_diff(near), record)),
         None => free_records(keeper).min_by_key(|&record| (record < hand, record)),
     }
 }
 
-/// Gives a page a free record, nulled.
-fn take_record(keeper: &mut Keeper, slot: usize, page: usize) {
+/// A free record becomes the slot's, in a state; the hand stands just past it.
+pub fn take_record(keeper: &mut Keeper, slot: usize, neighbour: Option<usize>, state: u8) -> usize {
     let count = keeper.sizes.records;
-    let record = choose(keeper, page).expect("question 19");
+    let record = choose(keeper, neighbour).expect("question 19");
     let memory = &mut keeper.memory;
     memory.free_map[record / 32] &= !(1 << (record % 32));
     memory.pool.free -= 1;
     memory.pool.hand = ((record + 1) % count) as u32;
-    memory.states[record] = NULLED;
+    memory.states[record] = state;
     memory.owners[record] = slot as u8;
-    memory.addresses[page] = record as u16 + 1;
+    record
 }
 
 /// The frame of a page that is in one.

@@ -66,6 +66,15 @@ extern "C" {
         answers_count: usize,
     ) -> Answer;
     fn c_port_page_look(keeper: *const Lent, slot: usize, page: usize) -> Part;
+    fn c_port_export(keeper: *const Lent, slot: usize, sheet: *mut u8, sheet_count: usize) -> Answer;
+    fn c_port_import(
+        keeper: *mut Lent,
+        slot: usize,
+        account: usize,
+        number: u32,
+        sheet: *const u8,
+        sheet_count: usize,
+    ) -> Answer;
 }
 
 fn slice<T>(table: &mut Vec<T>) -> Slice<T> {
@@ -138,6 +147,14 @@ impl Lent<'_> {
     pub fn page_look(&self, slot: u32, page: u32) -> Part {
         unsafe { c_port_page_look(self, slot as usize, page as usize) }
     }
+
+    pub fn export(&self, slot: usize, sheet: &mut [u8]) -> Answer {
+        unsafe { c_port_export(self, slot, sheet.as_mut_ptr(), sheet.len()) }
+    }
+
+    pub fn import(&mut self, slot: usize, account: usize, number: u32, sheet: &[u8]) -> Answer {
+        unsafe { c_port_import(self, slot, account, number, sheet.as_ptr(), sheet.len()) }
+    }
 }
 
 pub const C_PORT: Subject = Subject {
@@ -148,4 +165,11 @@ pub const C_PORT: Subject = Subject {
     apply_all: |keeper, requests, answers| Lent::of(keeper).apply_all(requests, answers),
     // the look changes nothing, so a copy of the tables serves
     page_look: |keeper, slot, page| Lent::of(&mut keeper.clone()).page_look(slot, page),
+    export: |keeper, slot, sheet| {
+        let mut copy = keeper.clone();
+        let answer = Lent::of(&mut copy).export(slot, sheet);
+        assert!(copy == *keeper, "an export of the C port changed a table");
+        answer
+    },
+    import: |keeper, slot, account, number, sheet| Lent::of(keeper).import(slot, account, number, sheet),
 };

@@ -3,3 +3,15 @@
 pub mod c_port; // the C port of bench/
 #[cfg(keeper)]
 pub mod proved; // the static library that firmware links
+
+use crate::drive::{Subject, REFERENCE};
+
+/// The reference, and every keeper that is linked in.
+pub fn all() -> Vec<Subject> {
+    vec![
+        REFERENCE,
+        c_port::C_PORT,
+        #[cfg(keeper)]
+        proved::PROVED,
+    ]
+}

@@ -218,6 +218,98 @@ extern "C" {
         changes: *mut u32,
         changes_count: usize,
     ) -> Answer;
+    fn keeper_export(
+        sizes: Sizes,
+        slot: usize,
+        sheet: *mut u8,
+        sheet_count: usize,
+        frames: *const Frame,
+        frames_count: usize,
+        pool: Pool,
+        records: *const u32,
+        records_count: usize,
+        numbers: *const u32,
+        numbers_count: usize,
+        accounts: *const u16,
+        accounts_count: usize,
+        maps: *const u16,
+        maps_count: usize,
+        limits: *const u16,
+        limits_count: usize,
+        parents: *const u16,
+        parents_count: usize,
+        frame_words: *const u32,
+        frame_words_count: usize,
+        free_queue: *const u16,
+        free_queue_count: usize,
+        removal_list: *const u16,
+        removal_list_count: usize,
+        addresses: *const u16,
+        addresses_count: usize,
+        states: *const u8,
+        states_count: usize,
+        owners: *const u8,
+        owners_count: usize,
+        free_map: *const u32,
+        free_map_count: usize,
+        active: *const u8,
+        active_count: usize,
+        updating: *const u8,
+        updating_count: usize,
+        images: *const u16,
+        images_count: usize,
+        line: *const u16,
+        line_count: usize,
+        used: *const u16,
+        used_count: usize,
+    ) -> Answer;
+    fn keeper_import(
+        sizes: Sizes,
+        slot: usize,
+        account: usize,
+        number: u32,
+        sheet: *const u8,
+        sheet_count: usize,
+        frames: *const Frame,
+        frames_count: usize,
+        pool: *mut Pool,
+        records: *mut u32,
+        records_count: usize,
+        numbers: *mut u32,
+        numbers_count: usize,
+        accounts: *mut u16,
+        accounts_count: usize,
+        maps: *mut u16,
+        maps_count: usize,
+        limits: *const u16,
+        limits_count: usize,
+        parents: *const u16,
+        parents_count: usize,
+        frame_words: *const u32,
+        frame_words_count: usize,
+        free_queue: *const u16,
+        free_queue_count: usize,
+        removal_list: *const u16,
+        removal_list_count: usize,
+        addresses: *const u16,
+        addresses_count: usize,
+        states: *mut u8,
+        states_count: usize,
+        owners: *mut u8,
+        owners_count: usize,
+        free_map: *mut u32,
+        free_map_count: usize,
+        active: *const u8,
+        active_count: usize,
+        updating: *const u8,
+        updating_count: usize,
+        images: *const u16,
+        images_count: usize,
+        line: *const u16,
+        line_count: usize,
+        used: *mut u16,
+        used_count: usize,
+    ) -> Answer;
 }
 // end of calls
 
@@ -313,4 +405,15 @@ pub fn page_look(keeper: &Keeper, slot: u32, page: u32) -> Part {
     lend!(keeper_page_look(keeper; slot as usize, page as usize,; keeper.memory.pool; as_ptr))
 }
 
-pub const PROVED: Subject = Subject { name: "keeper", format, restart, apply, apply_all, page_look };
+pub fn export(keeper: &Keeper, slot: usize, sheet: &mut [u8]) -> Answer {
+    let (at, count) = (sheet.as_mut_ptr(), sheet.len());
+    lend!(keeper_export(keeper; slot, at, count,; keeper.memory.pool; as_ptr))
+}
+
+pub fn import(keeper: &mut Keeper, slot: usize, account: usize, number: u32, sheet: &[u8]) -> Answer {
+    let (at, count) = (sheet.as_ptr(), sheet.len());
+    lend!(keeper_import(keeper; slot, account, number, at, count,; &mut keeper.memory.pool; as_mut_ptr))
+}
+
+pub const PROVED: Subject =
+    Subject { name: "keeper", format, restart, apply, apply_all, page_look, export, import };

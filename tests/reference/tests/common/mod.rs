@@ -1,4 +1,8 @@
 //! What the tests of single cases share: the reference, formatted and restarted, and its answers to one event after the other.
+// each test uses some of them
+#![allow(dead_code)]
+
+pub mod all; // a call over every keeper
 
 use reference::event::{Answer, Request};
 use reference::keeper::Keeper;
