@@ -1,4 +1,4 @@
-/* Questions 3 to 27, in number order for each event. Those of the sheets are in sheets.c. */
+/* Questions 3 to 27, in number order for each event, and 32 just after 3. Those of the sheets are in sheets.c. */
 #include "inside.h"
 
 static bool in_range(const struct keeper *k, const struct request *r)
@@ -19,8 +19,11 @@ static bool in_range(const struct keeper *k, const struct request *r)
     }
 }
 
+/* The questions of a create from 32 on. A number that stands in a slot may be higher. */
 uint32_t refuses_create(const struct keeper *k, size_t slot, uint32_t number)
 {
+    if (number > INT32_MAX)
+        return 32;
     if (k->disk.numbers.at[slot] != 0)
         return 5;
     for (size_t other = 0; other < k->sizes.slots; other++)

@@ -154,7 +154,8 @@ enum {
     KEEPER_LINE_FULL = 27,      /* join: 32 pages are waiting */
     KEEPER_SHEET_WRONG = 29,    /* import: these bytes are no sheet */
     KEEPER_SHEET_OTHER = 30,    /* import: the sheet is of a board with another W or N */
-    KEEPER_SHEET_SHORT = 31     /* export: the buffer has fewer bytes than the sheet */
+    KEEPER_SHEET_SHORT = 31,    /* export: the buffer has fewer bytes than the sheet */
+    KEEPER_NUMBER_HIGH = 32     /* create, import: the number is 2,147,483,648 or more */
 };
 
 /* tables and calls: made by tools/tables.py from tools/tables.txt */
@@ -377,8 +378,8 @@ KeeperAnswer keeper_export(
 
 /* Makes a design of a sheet, in an empty slot, for an account, with a number that the caller gives; it is not active. Any
  * bytes are a sheet to ask about. Lent: everything; records, numbers, accounts, maps, states, owners, free_map, used and pool
- * are changed. Answers 0, 1, 2, 3, 5, 6, 29, 30, 18 or 19. The result is the number that stands in the sheet. It makes several
- * stores on the disk part; docs/USING.md says in which order they come to the device. */
+ * are changed. Answers 0, 1, 2, 3, 32, 5, 6, 29, 30, 18 or 19. The result is the number that stands in the sheet. It makes
+ * several stores on the disk part; docs/USING.md says in which order they come to the device. */
 KeeperAnswer keeper_import(
     KeeperSizes sizes,
     size_t slot,

@@ -536,6 +536,7 @@ static inline const char *keeper_text(uint32_t refusal)
     case KEEPER_SHEET_WRONG: return "import: these bytes are no sheet";
     case KEEPER_SHEET_OTHER: return "import: the sheet is of a board with another W or N";
     case KEEPER_SHEET_SHORT: return "export: the buffer has fewer bytes than the sheet";
+    case KEEPER_NUMBER_HIGH: return "create, import: the number is 2,147,483,648 or more";
     default: return "no refusal of this keeper";
     }
 }

@@ -121,7 +121,7 @@ static KeeperRequest any_request(void)
     r.kind = 1 + random_below(KEEPER_TURN);
     r.first = random_below(r.kind == KEEPER_PAGE_DONE ? F + 1 : r.kind == KEEPER_LIMIT || r.kind == KEEPER_MOVE ? Q + 1 : S);
     r.second = random_below(r.kind == KEEPER_PAGE_DONE || r.kind == KEEPER_MAP_DONE ? 2 : r.kind == KEEPER_CREATE || r.kind == KEEPER_MOVE ? Q : N + 1);
-    r.third = r.kind == KEEPER_CREATE ? 1 + random_below(40) : random_below(W);
+    r.third = r.kind != KEEPER_CREATE ? random_below(W) : random_below(8) != 0 ? 1 + random_below(40) : 0x7FFFFFFEu + random_below(4);
     r.fourth = random_below(3);
     return r;
 }
@@ -139,7 +139,7 @@ static int same_tables(void)
 static void test_events(void)
 {
     KeeperSizes sizes = sizes_of(W, R, F, S, N, Q);
-    unsigned done[KEEPER_TURN + 1] = {0}, refused[KEEPER_LINE_FULL + 1] = {0}, different = 0;
+    unsigned done[KEEPER_TURN + 1] = {0}, refused[KEEPER_NUMBER_HIGH + 1] = {0}, different = 0;
     set_up(sizes);
     CHECK(keeper_format(sizes, KEEPER_LEND(parents), KEEPER_LEND_DISK(disk)).refusal == KEEPER_DONE);
     CHECK(keeper_restart(sizes, EVERYTHING).refusal == KEEPER_DONE);
@@ -158,7 +158,7 @@ static void test_events(void)
     CHECK(different == 0);
     for (unsigned kind = 1; kind <= KEEPER_TURN; kind++)
         CHECK(kind == 16 ? done[kind] == 0 : done[kind] > 20);
-    CHECK(refused[KEEPER_NO_MOVE] > 20 && refused[KEEPER_OVER_LIMIT] > 5);
+    CHECK(refused[KEEPER_NO_MOVE] > 20 && refused[KEEPER_OVER_LIMIT] > 5 && refused[KEEPER_NUMBER_HIGH] > 20);
 }
 
 /* ── the parents of a format ── */
@@ -266,6 +266,25 @@ static void test_sheets(void)
     CHECK(keeper_activate(&keeper, 1).refusal == KEEPER_DONE && keeper_easy_export(&keeper, 1, plain, SHEET).refusal == KEEPER_ACTIVE);
 }
 
+/* ── numbers of 2,147,483,648 or more ── */
+static void test_high_numbers(void)
+{
+    uint8_t sheet[SHEET];
+    set_up(sizes_of(W, R, F, S, N, Q));
+    CHECK(keeper_format(keeper.sizes, KEEPER_LEND(parents), KEEPER_LEND_DISK(disk)).refusal == KEEPER_DONE);
+    two_pages();
+    keeper.numbers[0] = disk.numbers[0] = 0xFFFFFFFFu; /* as an older board gave it */
+    CHECK(keeper_easy_restart(&keeper).refusal == KEEPER_DONE && keeper_restart(keeper.sizes, EVERYTHING).refusal == KEEPER_DONE);
+    CHECK(keeper_create(&keeper, S, 0, 0x80000000u).refusal == KEEPER_NO_RANGE);
+    CHECK(keeper_create(&keeper, 0, 0, 0x80000000u).refusal == KEEPER_NUMBER_HIGH && keeper_create(&keeper, 1, 0, 0xFFFFFFFFu).refusal == KEEPER_NUMBER_HIGH);
+    CHECK(keeper_create(&keeper, 0, 0, 0x7FFFFFFFu).refusal == KEEPER_SLOT_FILLED && same_tables());
+    const size_t length = keeper_easy_export(&keeper, 0, sheet, SHEET).result;
+    CHECK(length == 17 + 2 * (5 + 4 * W) && sheet[10] == 0xFF);
+    CHECK(imported(0, 0x80000000u, sheet, 0).refusal == KEEPER_NUMBER_HIGH && imported(S, 0x80000000u, sheet, 0).refusal == KEEPER_NO_RANGE);
+    CHECK(imported(1, 0x7FFFFFFFu, sheet, length).result == 0xFFFFFFFFu && keeper.numbers[1] == 0x7FFFFFFFu);
+    CHECK(keeper_activate(&keeper, 0).refusal == KEEPER_DONE && keeper_fault(&keeper, 0, 1).refusal == KEEPER_DONE);
+}
+
 /* ── many requests in one call ── */
 enum { MOST_LISTED = 20 };
 static void test_lists(void)
@@ -364,7 +383,7 @@ static void test_line(void)
 static void test_text(void)
 {
     CHECK(strcmp(keeper_text(KEEPER_LINE_FULL), "join: 32 pages are waiting") == 0);
-    for (uint32_t a = 0; a <= KEEPER_SHEET_SHORT; a++) {
+    for (uint32_t a = 0; a <= KEEPER_NUMBER_HIGH; a++) {
         if (a == 23 || a == 28) { /* no call answers these */
             CHECK(strcmp(keeper_text(a), keeper_text(1000)) == 0);
             continue;
@@ -578,6 +597,7 @@ int main(void)
     test_format();
     test_mend();
     test_sheets();
+    test_high_numbers();
     test_lists();
     test_transfers();
     test_line();

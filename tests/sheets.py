@@ -151,8 +151,8 @@ class Import(Case):
 
     def test_no_pages(self):
         self.sheet.write_bytes(sheet({}, 4294967295))
-        self.assertIn("it was 4294967295", self.run_tool("import-checked", self.pack, 3, 1, 4294967295, self.sheet)[1])
-        self.assertEqual(self.look(), DESIGN_101 + DESIGN_102 + "slot 3 design 4294967295 account 1: - - -\n")
+        self.assertIn("it was 4294967295", self.run_tool("import-checked", self.pack, 3, 1, 2147483647, self.sheet)[1])
+        self.assertEqual(self.look(), DESIGN_101 + DESIGN_102 + "slot 3 design 2147483647 account 1: - - -\n")
 
     def test_refusals(self):
         def refused(slot, account, number, line):
@@ -161,6 +161,9 @@ class Import(Case):
         refused(4, 1, 7, "there is no slot 4: its slots are 0 to 3")
         refused(1, 3, 7, "there is no account 3: its accounts are 0 to 2")
         refused(1, 1, 0, "a design's number is 1 or more")
+        refused(4, 1, 2147483648, "there is no slot 4: its slots are 0 to 3")
+        for number in (2147483648, 4294967295):
+            refused(0, 1, number, f"number {number} is too high: give the design one of 2147483647 or less")
         refused(0, 1, 7, "slot 0 has design 101: choose an empty one: 1, 3")
         refused(1, 1, 102, "number 102 stands in slot 2: give the design a number of its own")
         refused(1, 1, 7, "the sheet has 3 pages; account 1, which pays, uses 3 of 5: raise its limit, or take another account")

@@ -67,8 +67,8 @@ COMMENTS = {
     "import": [
         "Makes a design of a sheet, in an empty slot, for an account, with a number that the caller gives; it is not active. Any",
         "bytes are a sheet to ask about. Lent: everything; records, numbers, accounts, maps, states, owners, free_map, used and pool",
-        "are changed. Answers 0, 1, 2, 3, 5, 6, 29, 30, 18 or 19. The result is the number that stands in the sheet. It makes several",
-        "stores on the disk part; docs/USING.md says in which order they come to the device.",
+        "are changed. Answers 0, 1, 2, 3, 32, 5, 6, 29, 30, 18 or 19. The result is the number that stands in the sheet. It makes",
+        "several stores on the disk part; docs/USING.md says in which order they come to the device.",
     ],
 }
 

@@ -25,6 +25,12 @@ static int out_of_range(const Asked *asked, KeeperSizes sizes)
     return 1;
 }
 
+static int number_high(const Asked *asked)
+{
+    fprintf(stderr, "import: %s: number %u is too high: give the design one of 2147483647 or less\n", asked->pack, (unsigned)asked->number);
+    return 1;
+}
+
 static int slot_filled(const Asked *asked, const Keeper *keeper)
 {
     fprintf(stderr, "import: %s: slot %u has design %u: choose an empty one", asked->pack, (unsigned)asked->slot, (unsigned)keeper->numbers[asked->slot]);
@@ -79,6 +85,7 @@ static int refused(const Asked *asked, const Keeper *keeper, uint32_t refusal)
     const char *wrong = take_apart(asked->bytes, asked->count, &sheet, &where);
     switch (refusal) {
     case KEEPER_NO_RANGE: return out_of_range(asked, keeper->sizes);
+    case KEEPER_NUMBER_HIGH: return number_high(asked);
     case KEEPER_SLOT_FILLED: return slot_filled(asked, keeper);
     case KEEPER_NUMBER_TAKEN: return number_taken(asked, keeper);
     case KEEPER_SHEET_WRONG: return no_sheet("import", asked->path, wrong ? wrong : "the keeper refuses it", where);

@@ -4,7 +4,7 @@
 #include <stdlib.h>
 #include "lists.h"
 
-enum { KINDS = 32, REFUSALS = 32, LIST = 20, OFTEN = 400 };
+enum { KINDS = 33, REFUSALS = KEEPER_NUMBER_HIGH + 1, LIST = 20, OFTEN = 400 };
 /* counted as kinds, behind those of the requests */
 enum { EXPORTED = KINDS - 2, IMPORTED = KINDS - 1 };
 
@@ -115,7 +115,7 @@ static void import_one(void)
 {
     const size_t count = below(8) != 0 ? sheet_bytes : below((uint32_t)sheet_bytes + 1), hurt = below(60);
     const uint8_t was = sheet[hurt];
-    const uint32_t slot = near(keeper.sizes.slots), account = near(keeper.sizes.accounts), number = below(30);
+    const uint32_t slot = near(keeper.sizes.slots), account = near(keeper.sizes.accounts), number = some_number();
     if (below(6) == 0)
         sheet[hurt] ^= (uint8_t)(1 << below(8));
     add_answer(IMPORTED, keeper_easy_import(&keeper, slot, account, number, sheet, count));

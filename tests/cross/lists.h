@@ -57,10 +57,16 @@ static uint32_t second_of(const Keeper *keeper, uint32_t kind, uint32_t first)
     }
 }
 
+/* A design's: mostly small, now and then near the highest that is taken. */
+static uint32_t some_number(void)
+{
+    return below(12) != 0 ? below(30) : 0x7FFFFFFDu + below(6);
+}
+
 static uint32_t third_of(const Keeper *keeper, uint32_t kind)
 {
     switch (kind) {
-    case KEEPER_CREATE: return below(30);
+    case KEEPER_CREATE: return some_number();
     case KEEPER_MOVE: return below(6);
     default: return near(keeper->sizes.words);
     }

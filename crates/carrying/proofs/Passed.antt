@@ -46,7 +46,7 @@ module _ (z : Sizes) (s q n : ℕ) (b limits parents : List ℕ) (t : Tables) wh
     pub passed : Passed
     passed =
         let y : Asked (importQuestions z (seenAsked (t .pool .free) (t .numbers) limits parents (t .used)) s q n b) = all-yes 0 _ tt (sym e) in
-        let ((slot, (account, number)), (empty, (fresh, (form, ((words, pages), (affords, (room, none))))))) = y in
+        let ((slot, (account, number)), (small, (empty, (fresh, (form, ((words, pages), (affords, (room, none)))))))) = y in
         record { slot = slot; account = account; form = formed b form; words = words; pages = pages; affords = affords; room = room }
 
     pub few : countIn b ≤ t .pool .free

@@ -113,7 +113,7 @@ fn ask_sheet(
     }
 }
 
-// Import's, in order: 3, 5 and 6, as create asks them, then those about the sheet.
+// Import's, in order: 3, 32, 5 and 6, as create asks them, then those about the sheet.
 pub fn ask_import(
     sizes: Sizes,
     slot: usize,

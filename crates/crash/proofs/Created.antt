@@ -15,6 +15,7 @@ use Rattle.model.specs.declared.sizes.Sizes.{Sizes}
 use Rattle.model.specs.declared.event.Design.the-variants.{Create, Delete}
 use Rattle.model.specs.declared.event.Event.the-variants as Event
 use Rattle.model.specs.State.{State, frameAt, allPages, slotOf}
+use Rattle.model.specs.Laws.Creating.{Creating, creating}
 use Rattle.model.specs.Laws.Ruled.{Ruled}
 use Rattle.model.specs.Setters.{onDisk, setNumbers, setAccounts, counted}
 use Rattle.model.specs.Parts.{ofSlot}
@@ -126,7 +127,7 @@ module _ (z : Sizes) (st : State) (l : Ledger) (fit : Fit z st) (rules : Ruled z
 
 pub create : (z : Sizes) (s q n : ℕ) → Step z (Event.Design (Create s q n))
 unfolding carried fed note Designs.create
-create z s q n st l b = redesigned z st l (b .fit) (b .ruled) (b .tied) s new off (λ i h e. b .ruled .disk .empty-map i h (ap (at (st .disk .numbers)) e ∙ b .asked .1 .0)) _ _ new (over (l .pages .text) (ofSlot z s) (λ w. 0)) (over (l .pages .kept) (ofSlot z s) false)
+create z s q n st l b = redesigned z st l (b .fit) (b .ruled) (b .tied) s new off (λ i h e. b .ruled .disk .empty-map i h (ap (at (st .disk .numbers)) e ∙ asked .empty)) _ _ new (over (l .pages .text) (ofSlot z s) (λ w. 0)) (over (l .pages .kept) (ofSlot z s) false)
     (record {
       born = λ t h e. elim (split-put (l .design) s new t) [
         | inl x ↦ omega (arith, x .1)
@@ -145,6 +146,9 @@ create z s q n st l b = redesigned z st l (b .fit) (b .ruled) (b .tied) s new of
     (λ i h e a c. elim (split-over (l .pages .text) (ofSlot z s) (λ w. 0) i) [ inl x ↦ ap (λ (t : ℕ → ℕ). t a) (x .1) | inr x ↦ absurd (x .0 e) ])
     (λ i t. elim (split-over (l .pages .kept) (ofSlot z s) false i) [ inl x ↦ absurd (rw (x .1) at t) | inr x ↦ rw (x .1) at t ])
   where
+    asked : Creating z st s q n
+    asked = creating z st s q n (b .asked)
+
     new : ℕ
     new = suc (l .births)
 
@@ -152,10 +156,10 @@ create z s q n st l b = redesigned z st l (b .fit) (b .ruled) (b .tied) s new of
     d = b .tied .disk .designs
 
     off : ¬ (at (st .memory .slots .active) s ≡ 1)
-    off e = omega (arith, b .asked .1 .0, b .ruled .records .active-filled s (b .asked .0 .0) e)
+    off e = omega (arith, asked .empty, b .ruled .records .active-filled s (asked .slot) e)
 
     number-split : (t : ℕ) → Split (t ≡ s) (at (set (st .disk .numbers) s n) t) n (at (st .disk .numbers) t)
-    number-split t = split-set (st .disk .numbers) s n t (rw (b .fit .disk .numbers) (b .asked .0 .0))
+    number-split t = split-set (st .disk .numbers) s n t (rw (b .fit .disk .numbers) (asked .slot))
 
 pub delete : (z : Sizes) (s : ℕ) → Step z (Event.Design (Delete s))
 unfolding carried fed note Designs.delete

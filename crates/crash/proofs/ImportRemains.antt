@@ -153,7 +153,6 @@ module _ (z : Sizes) (w : World) (s q n : ℕ) (b : List ℕ) (e : import z (w .
   pub has-some : (p : ℕ) → T (has (sheetOf b) p) → ¬ ((j : ℕ) → j < z .words → textIn b p j ≡ 0)
   unfolding importAnswer
   has-some p t all-zero =
-      let a = all-yes 0 (asked z (w .state) (importQuestions z (w .state) s q n b)) tt carried-out in
-      let sheet = a .1 .1 .1 .1 .1 in
+      let (fits, (keeps, (range, (low, (empty, (fresh, (form, ((words, pages), others)))))))) = all-yes 0 (asked z (w .state) (importQuestions z (w .state) s q n b)) tt carried-out in
       let f = field-of (sheetOf b) (import-asked .once) p t in
-      page-of b (formed b (sheet .0)) (fieldOf (sheetOf b) p) (f .0) .some (λ j g. sym (said-some (sheetOf b) p t j) ∙ said-text b p j ∙ all-zero j (omega (arith, g, sheet .1 .0 .0)))
+      page-of b (formed b form) (fieldOf (sheetOf b) p) (f .0) .some (λ j g. sym (said-some (sheetOf b) p t j) ∙ said-text b p j ∙ all-zero j (omega (arith, g, words)))

@@ -20,6 +20,7 @@ use Rattle.model.specs.Setters.{counted}
 use Rattle.model.specs.Questions.{questions}
 use Rattle.model.specs.Designs
 use Rattle.model.specs.Step.{carried}
+use Rattle.model.specs.Laws.Creating.{creating}
 use Rattle.model.specs.Laws.Index.{of-pages}
 use Rattle.model.specs.Laws.Ruled.{Ruled}
 use Rattle.model.specs.Laws.Fit.{Fit}
@@ -54,8 +55,10 @@ module _ (z : Sizes) (st : State) (f : Fit z st) (r : Ruled z st) where
   pub create-left : (s q n : ℕ) → Asked (questions z st (Event.Design (Create s q n))) → carried z st (Event.Design (Create s q n))
       ≡ after st (set (st .disk .numbers) s n) (set (st .disk .accounts) s q) (st .memory .held .addresses) (st .memory .held .states) (st .memory .slots .active)
   unfolding carried Designs.create
-  create-left s q n a = filed-left s q n (λ e. let p : 0 < v .number s = r .records .active-filled s (a .0 .0) e in omega (arith, p, a .1 .0))
-      (λ i h e. r .disk .empty-map i h (subst (λ (t : ℕ). v .number t ≡ 0) (sym e) (a .1 .0)))
+  create-left s q n a =
+      let k = creating z st s q n a in
+      filed-left s q n (λ e. let p : 0 < v .number s = r .records .active-filled s (k .slot) e in omega (arith, p, k .empty))
+      (λ i h e. r .disk .empty-map i h (subst (λ (t : ℕ). v .number t ≡ 0) (sym e) (k .empty)))
 
   pub delete-left : (s : ℕ) → Asked (questions z st (Event.Design (Delete s))) → carried z st (Event.Design (Delete s))
       ≡ after st (set (st .disk .numbers) s 0) (set (st .disk .accounts) s 0) (st .memory .held .addresses) (st .memory .held .states) (st .memory .slots .active)

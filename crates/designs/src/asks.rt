@@ -24,6 +24,7 @@ use model::refusals::ACTIVE;
 use model::refusals::MAP_NOT_EMPTY;
 use model::refusals::MAP_OLD;
 use model::refusals::NO_RANGE;
+use model::refusals::NUMBER_HIGH;
 use model::refusals::NUMBER_TAKEN;
 use model::refusals::PAGES_IN;
 use model::refusals::SLOT_FILLED;
@@ -43,13 +44,19 @@ pub fn number_new(slots: usize, numbers: &[u32], number: u32) -> bool
     true
 }
 
-// Questions 3, 5 and 6.
+// Numbers from here up are no longer taken.
+const HIGH: u32 = 2147483648;
+
+// Questions 3, 32, 5 and 6.
 pub fn ask_create(sizes: Sizes, slot: usize, account: usize, number: u32, numbers: &[u32]) -> u32
     ensures { λ r. ⌜ r ≡ firstNo (questions sizes (seenFiles (now (numbers .entry)) [] [] []) (Event.Design (Design.Create slot account number))) ⌝ }
 {
     let in_range = (slot < sizes.slots) & ((account < sizes.accounts) & (0 < number));
     if in_range {} else {
         return NO_RANGE;
+    }
+    if number < HIGH {} else {
+        return NUMBER_HIGH;
     }
     if at32(numbers, slot) != 0 {
         return SLOT_FILLED;

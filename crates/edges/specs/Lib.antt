@@ -14,6 +14,7 @@ pub mod StoreEdges
 pub mod Sheets
 pub mod FormEdges
 pub mod SheetEdges
+pub mod NumberEdges
 pub mod SheetRuns
 pub mod Worlds
 pub mod Packs

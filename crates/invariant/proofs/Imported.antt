@@ -27,22 +27,19 @@ module _ (z : Sizes) (st : State) (s q n : ℕ) (b : List ℕ) where
   pub import-before : importAnswer z st s q n b ≡ 0 → Before z st s q n (sheetOf b)
   unfolding importAnswer
   import-before e =
-      let a = all-yes 0 (asked z st (importQuestions z st s q n b)) tt e in
-      let r = ruled z st (a .1 .0) in
-      let own = a .1 .1 in
-      let sheet = own .1 .1 .1 in
-      let f = formed b (sheet .0) in
-      let alike = sheet .1 .0 in
-      let room = sheet .1 .1 .1 .0 in
+      let (sound, (keeps, own)) = all-yes 0 (asked z st (importQuestions z st s q n b)) tt e in
+      let ((slot, (account, number)), (small, (empty, (fresh, (form, ((words, pages), (limit, (room, none)))))))) = own in
+      let r = ruled z st keeps in
+      let f = formed b form in
       record {
-        fit = fit z st (a .0);
+        fit = fit z st sound;
         ruled = r;
-        slot = own .0 .0;
-        account = own .0 .1 .0;
-        number = own .0 .1 .1;
-        empty = own .1 .0;
-        fresh = own .1 .1 .0;
-        pages = λ i g. omega (arith, page-of b f i g .below, alike .1);
+        slot = slot;
+        account = account;
+        number = number;
+        empty = empty;
+        fresh = fresh;
+        pages = λ i g. omega (arith, page-of b f i g .below, pages);
         once = page-once b f;
         enough = enough (countIn b) room (r .counts .free);
       }

@@ -13,6 +13,7 @@ use Rattle.model.specs.State.{State, Files, files, allPages, slotOf}
 use Rattle.model.specs.Setters.{counted}
 use Rattle.model.specs.Questions.{questions}
 use Rattle.model.specs.Rules
+use Rattle.model.specs.Laws.Creating.{creating}
 use Rattle.model.specs.Laws.Ruled.{OnDisk, OfRecords, Ruled}
 use Rattle.model.specs.Laws.Fit.{Fit}
 use Rattle.model.specs.Designs
@@ -82,15 +83,17 @@ module _ (z : Sizes) (st : State) (f : Fit z st) (r : Ruled z st) where
 
   pub create-named : (s q n : ℕ) → Asked (questions z st (Event.Design (Create s q n))) → (let w = files (Designs.create z st s q n) in Named z s n q v (w .number) (w .account))
   unfolding Designs.create counted
-  create-named s q n a = record {
-    fits = a .0 .1 .0;
-    empty = λ e. absurd (omega (arith, e, a .0 .1 .1));
-    fresh = λ e. a .1 .1 .0;
-    off = λ e. omega (arith, r .records .active-filled s (a .0 .0) e, a .1 .0);
-    unlisted = λ i h e. r .disk .empty-map i h (ap (v .number) e ∙ a .1 .0);
-    number = λ t h. split-set (st .disk .numbers) s n t (rw (f .disk .numbers) (a .0 .0));
-    account = λ t h. split-set (st .disk .accounts) s q t (rw (f .disk .accounts) (a .0 .0));
-  }
+  create-named s q n a =
+      let k = creating z st s q n a in
+      record {
+        fits = k .account;
+        empty = λ e. absurd (omega (arith, e, k .some));
+        fresh = λ e. k .fresh;
+        off = λ e. omega (arith, r .records .active-filled s (k .slot) e, k .empty);
+        unlisted = λ i h e. r .disk .empty-map i h (ap (v .number) e ∙ k .empty);
+        number = λ t h. split-set (st .disk .numbers) s n t (rw (f .disk .numbers) (k .slot));
+        account = λ t h. split-set (st .disk .accounts) s q t (rw (f .disk .accounts) (k .slot));
+      }
 
   pub delete-named : (s : ℕ) → Asked (questions z st (Event.Design (Delete s))) → (let w = files (Designs.delete z st s) in Named z s 0 0 v (w .number) (w .account))
   unfolding Designs.delete counted

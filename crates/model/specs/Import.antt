@@ -91,5 +91,5 @@ module _ (z : Sizes) (st : State) (s q n : ℕ) (b : List ℕ) where
   import = outcome importAnswer (numberIn b) st (imported z st s q n (sheetOf b))
 
   -- 29 and 30 come before 18
-  pub import-order : numbers (asked z st (importQuestions z st s q n b)) ≡ 1 ∷ 2 ∷ 3 ∷ 5 ∷ 6 ∷ 29 ∷ 30 ∷ 18 ∷ 19 ∷ []
+  pub import-order : numbers (asked z st (importQuestions z st s q n b)) ≡ 1 ∷ 2 ∷ 3 ∷ 32 ∷ 5 ∷ 6 ∷ 29 ∷ 30 ∷ 18 ∷ 19 ∷ []
   import-order = refl

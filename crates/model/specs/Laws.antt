@@ -12,6 +12,7 @@ pub mod LineLaws
 pub mod Own
 pub mod EveryCall
 pub mod OwnLaws
+pub mod Creating
 pub mod Implied
 pub mod Unasked
 pub mod ListedActs

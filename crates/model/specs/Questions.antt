@@ -1,5 +1,5 @@
 -- The questions that come after 1 and 2: each stands once here, under the papers' sentence and with its number. Number 23 is not used (Unasked).
-use Prim.Native.Nat.{ℕ, suc, _+_, _%_}
+use Prim.Native.Nat.{ℕ, suc, _+_, _*_, _%_}
 use mathlib.Core.List.{List}
 use lib.Dec.{eqb}
 use Rattle.tables.specs.Base.{at, if}
@@ -34,6 +34,10 @@ pub data Turning : Type 0 where
   faults : Turning
   claims : Turning
   sendsAway : ℕ → Turning
+
+-- Questions are asked in the order of their numbers, but 32 just after 3, and import's 29 and 30 after 6, before 18: the place of each number.
+unfoldable pub rank : ℕ → ℕ
+rank n = if (eqb n 32) 31 (if (eqb n 29) 62 (if (eqb n 30) 63 (10 * n)))
 
 module _ (z : Sizes) (st : State) where
   abbrev v : Files
@@ -73,6 +77,10 @@ module _ (z : Sizes) (st : State) where
   -- 3. Slot, page, word, frame, account below their sizes, k at most N, good 0 or 1, number above 0?
   abbrev q3 : Rule → Questions → Questions
   q3 range = ask 3 range
+
+  -- (02) 32, asked after 3, for a number from 2,147,483,648 up from the caller
+  abbrev q32 : ℕ → Questions → Questions
+  q32 n = ask 32 (below n 2147483648)
 
   -- 4. All slot events but create: slot filled?
   abbrev q4 : ℕ → Questions → Questions
@@ -186,7 +194,7 @@ module _ (z : Sizes) (st : State) where
   fromUp s k rule = each (z .pages) λ p. non (below p k) then rule (page s p)
 
   abbrev pub designQuestions : Design → Questions
-  designQuestions (Create s q n) = q3 (below s (z .slots) and below q (z .accounts) and below 0 n) (q5 s (q6 n none))
+  designQuestions (Create s q n) = q3 (below s (z .slots) and below q (z .accounts) and below 0 n) (q32 n (q5 s (q6 n none)))
   designQuestions (Delete s) = q3 (slotRange s) (q4 s (q7 s (q9 s none)))
   designQuestions (Activate s) = q3 (slotRange s) (q4 s (q9 s none))
   designQuestions (Deactivate s) = q3 (slotRange s) (q4 s (q8 s (q10 s (q11 s (q12 s none)))))
@@ -278,7 +286,7 @@ module _ (z : Sizes) (st : State) where
 
   -- It asks 5 and 6 first.
   abbrev pub importQuestions : ℕ → ℕ → ℕ → List ℕ → Questions
-  importQuestions s q n sheet = q3 (below s (z .slots) and below q (z .accounts) and below 0 n) (q5 s (q6 n (sheetQuestions q sheet)))
+  importQuestions s q n sheet = q3 (below s (z .slots) and below q (z .accounts) and below 0 n) (q32 n (q5 s (q6 n (sheetQuestions q sheet))))
 
   -- Export asks 4 and 9.
   abbrev pub exportQuestions : ℕ → ℕ → ℕ → Questions

@@ -1,9 +1,12 @@
 -- Every call: the questions in number order, then the work; a refusal leaves all as it was, with result 0.
 use mathlib.Core.List.{List, []}
-use Prim.Native.Nat.{ℕ, zero, suc, _*_}
-use lib.Dec.{T}
+use mathlib.Core.Bool.{Bool, true, false}
+use mathlib.Core.Path.{_≡_}
+use Prim.Native.Nat.{ℕ, zero, suc, _*_, _<_, _≤_}
+use native.Mathlib.Omega.{arith}
+use lib.Dec.{T, eqb, eqb→eq}
 use lib.ListN.{length, take, drop}
-use Rattle.tables.specs.Base.{at}
+use Rattle.tables.specs.Base.{at, if}
 use Rattle.tables.specs.Questions.{Questions, none, ask, firstNo, above, rising, rising-above}
 use Rattle.tables.specs.Rule.{Rule, same, _and_}
 use Rattle.model.specs.declared.sizes.Sizes.{Sizes}
@@ -18,7 +21,7 @@ use Rattle.model.specs.declared.event.Event.the-variants as Event
 use Rattle.model.specs.Sizes.{sizesFit}
 use Rattle.model.specs.State.{Disk, Memory, State, LINE, allPages, mapWords}
 use Rattle.model.specs.Rules.{lower, diskRules, allRules}
-use Rattle.model.specs.Questions.{Turning, nobody, serves, goesBack, faults, claims, sendsAway, questions, lookQuestions, turnQuestions, turning}
+use Rattle.model.specs.Questions.{Turning, nobody, serves, goesBack, faults, claims, sendsAway, rank, questions, lookQuestions, turnQuestions, turning}
 use Rattle.model.specs.Designs
 use Rattle.model.specs.Accounts
 use Rattle.model.specs.Pages
@@ -117,7 +120,8 @@ restart z st = outcome (firstNo (ask 1 (allFit z st) (ask 2 (diskRules z st) non
 unfoldable pub look : Sizes → State → ℕ → ℕ → Outcome (List ℕ)
 look z st s p = outcome (firstNo (asked z st (lookQuestions z st s p))) 0 [] (take (z .words) (drop (Pages.lookStart z st s p) (st .memory .core .words)))
 
-turn-order : (z : Sizes) (st : State) (t : Turning) → T (rising 0 (asked z st (turnQuestions z st t)))
+turn-order : (z : Sizes) (st : State) (t : Turning) → T (rising rank 0 (asked z st (turnQuestions z st t)))
+unfolding rank
 turn-order z st nobody = tt
 turn-order z st serves = tt
 turn-order z st goesBack = tt
@@ -125,8 +129,9 @@ turn-order z st faults = tt
 turn-order z st claims = tt
 turn-order z st (sendsAway n) = tt
 
--- Asked in number order, 1 to 3 first.
-pub in-order : (z : Sizes) (st : State) (e : Event) → T (rising 0 (asked z st (questions z st e)))
+-- Asked in the order of their places, 1 to 3 first.
+pub in-order : (z : Sizes) (st : State) (e : Event) → T (rising rank 0 (asked z st (questions z st e)))
+unfolding rank
 in-order z st (Event.Design (Create s q n)) = tt
 in-order z st (Event.Design (Delete s)) = tt
 in-order z st (Event.Design (Activate s)) = tt
@@ -146,9 +151,21 @@ in-order z st (Event.Writeback (MapDone s good)) = tt
 in-order z st (Event.Waiting (Join s p)) = tt
 in-order z st (Event.Waiting Turn) = turn-order z st (turning z st)
 
+-- what is asked after a number from 0 to 3 is above it
+pub rank-above : (n m : ℕ) → n ≤ 3 → 10 * n < rank m → n < m
+unfolding rank
+rank-above n m l h = go (eqb m 32) (eqb m 29) (eqb m 30) (eqb→eq m 32) (eqb→eq m 29) (eqb→eq m 30) h
+  where
+    go : (a b c : Bool) → (T a → m ≡ 32) → (T b → m ≡ 29) → (T c → m ≡ 30) → 10 * n < if a 31 (if b 62 (if c 63 (10 * m))) → n < m
+    go true b c p q r h = omega (arith, p tt, l)
+    go false true c p q r h = omega (arith, q tt, l)
+    go false false true p q r h = omega (arith, r tt, l)
+    go false false false p q r h = omega (arith, h)
+
 -- so no question has the number 0, and an event's own have numbers from 3 up
 pub all-above : (z : Sizes) (st : State) (e : Event) → T (above 0 (asked z st (questions z st e)))
-all-above z st e = rising-above 0 (asked z st (questions z st e)) (in-order z st e)
+all-above z st e = rising-above rank 0 0 (λ m h. rank-above 0 m (omega arith) (omega (arith, h))) (asked z st (questions z st e)) (in-order z st e)
 
 pub own-above : (z : Sizes) (st : State) (e : Event) → T (above 2 (questions z st e))
-own-above z st e = rising-above 2 (questions z st e) (in-order z st e)
+unfolding rank
+own-above z st e = rising-above rank 2 20 (λ m h. rank-above 2 m (omega arith) (omega (arith, h))) (questions z st e) (in-order z st e)

@@ -84,3 +84,6 @@ pub const SHEET_OTHER: u32 = 30;
 
 // Export: the buffer long enough?
 pub const SHEET_SHORT: u32 = 31;
+
+// Create, import: number below 2,147,483,648?
+pub const NUMBER_HIGH: u32 = 32;

@@ -1,5 +1,5 @@
-//! Questions 3 to 27, asked in number order; each says yes to the events that it does not concern. Of import it has 3, 5 and 6, of export
-//! 3, 4 and 9: carry.rs asks what they ask of a sheet.
+//! Questions 3 to 27, asked in number order, and 32 just after 3; each says yes to the events that it does not concern. Of import it has
+//! 3, 32, 5 and 6, of export 3, 4 and 9: carry.rs asks what they ask of a sheet.
 
 use crate::accounts;
 use crate::event::Event;
@@ -10,10 +10,14 @@ use crate::rules::View;
 use crate::tables::{LINE, LIVE, NO_TRANSFER, NULLED, READING, RELEASED};
 use std::ops::Range;
 
+/// No design is created or imported under this number or a higher one; older packs have such designs.
+pub const HIGH: u32 = 2_147_483_648;
+
 type Question = fn(&Keeper, Event) -> bool;
 
-const ASKED: [(u32, Question); 23] = [
+const ASKED: [(u32, Question); 24] = [
     (3, in_range),
+    (32, number_low),
     (4, slot_filled),
     (5, slot_empty),
     (6, number_new),
@@ -67,6 +71,14 @@ fn in_range(keeper: &Keeper, event: Event) -> bool {
             Event::MapDone { good, .. } => good <= 1,
             _ => true,
         }
+}
+
+/// The caller's number. Those that stand in slots, and a sheet's own, may be higher.
+fn number_low(_: &Keeper, event: Event) -> bool {
+    match event {
+        Event::Create { number, .. } | Event::Import { number, .. } => number < HIGH,
+        _ => true,
+    }
 }
 
 fn slot_filled(keeper: &Keeper, event: Event) -> bool {

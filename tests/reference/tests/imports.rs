@@ -6,6 +6,7 @@ use common::all::{export, import};
 use common::{ask, does};
 use reference::event::Answer;
 use reference::keeper::Keeper;
+use reference::questions::HIGH;
 use reference::sheet::Sheet;
 use reference::tables::{Sizes, FILED, FREE};
 
@@ -82,6 +83,7 @@ fn questions_in_order() {
     for (place, number) in [([3, 0], 40), ([usize::MAX, 0], 40), ([0, 3], 40), ([0, usize::MAX], 40), ([0, 0], 0)] {
         refuses(&keeper, place, number, &[], 3);
     }
+    refuses(&keeper, [0, 0], HIGH, &[], 32);
     refuses(&keeper, [0, 0], 40, &[], 5);
     refuses(&keeper, [1, 0], 40, &[], 6);
     refuses(&keeper, [1, 0], 41, &[], 29);
@@ -171,7 +173,8 @@ fn numbers() {
     refuses(&keeper, [1, 0], 7, &sheet(&[0]), 6);
     import(&start(), [1, 0], 7, &sheet(&[0]), Answer::done(7));
     let most = Sheet { words: 2, pages: 4, number: u32::MAX, woven: Vec::new() }.print();
-    import(&keeper, [1, 0], u32::MAX, &most, Answer::done(u32::MAX));
+    import(&keeper, [1, 0], HIGH - 1, &most, Answer::done(u32::MAX));
+    refuses(&keeper, [1, 0], u32::MAX, &most, 32);
 }
 
 /// An imported design is one at rest: it is activated, read, and its sheet is the one that came, under its new number.

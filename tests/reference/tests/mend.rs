@@ -4,8 +4,10 @@
 use reference::drive::packs::pack;
 use reference::event::Answer;
 use reference::keeper::Keeper;
+use reference::linked;
 use reference::linked::c_port::Lent;
 use reference::mend::{mend, places, Change};
+use reference::questions::HIGH;
 use reference::rules;
 use reference::tables::{Disk, Memory, Sizes};
 
@@ -77,6 +79,25 @@ fn mended_alike() {
     }
     println!("{PACKS} packs, {sound} of them sound, {beyond} with a wrong parent; changes by reason {:?}", &reasons[1..]);
     assert!(sound > PACKS / 10 && beyond > PACKS / 50 && reasons[1..].iter().all(|&changes| changes > PACKS / 10));
+}
+
+/// A number of 2,147,483,648 or more is left, unless it stands in a lower slot too; a pack with one is restarted.
+#[test]
+fn high_numbers_stay() {
+    let sizes = Sizes { words: 1, records: 4, frames: 1, slots: 4, pages: 2, accounts: 1 };
+    let mut disk = Disk { numbers: vec![HIGH, 7, u32::MAX, HIGH - 1], ..Disk::zeros(&sizes) };
+    disk.maps.copy_from_slice(&[1, 0, 0, 2, 4, 3, 0, 0]);
+    let room = places(&sizes);
+    assert_eq!(mended(&sizes, &disk, room, 0), (Answer::done(0), disk.clone(), vec![UNTOUCHED; room]));
+    for subject in linked::all() {
+        let mut keeper = Keeper { sizes, disk: disk.clone(), memory: Memory::zeros(&sizes) };
+        assert_eq!((subject.restart)(&mut keeper), Answer::done(0), "{}", subject.name);
+        assert!(keeper.disk == disk && rules::kept(&keeper), "{}", subject.name);
+    }
+    let mut twice = disk.clone();
+    twice.numbers[2] = HIGH;
+    let (answer, after, _) = mended(&sizes, &twice, room, 1);
+    assert_eq!((answer.refusal, after.numbers), (0, vec![HIGH, 7, 0, HIGH - 1]));
 }
 
 #[test]

@@ -2,6 +2,25 @@
 
 use reference::drive::{list, REFERENCE};
 
+/// What a design above the bound stays usable for.
+const ON_HIGH: [&str; 15] = [
+    "restart",
+    "delete",
+    "activate",
+    "deactivate",
+    "fault",
+    "read",
+    "write",
+    "wire",
+    "unwire",
+    "truncate",
+    "update",
+    "map done",
+    "join",
+    "page look",
+    "export",
+];
+
 #[test]
 fn lists_keep_the_promises() {
     let counts = list::run_as_set([REFERENCE, REFERENCE]);
@@ -16,5 +35,6 @@ fn lists_keep_the_promises() {
     assert!(!counts.moves.rarer_than(20), "limits, moves and who pays: {:?}", counts.moves);
     assert!(!counts.turns.rare(), "turns: {:?}", counts.turns);
     assert!(!counts.bound.rare(), "runs to the bound on waiting: {:?}", counts.bound);
+    assert_eq!(counts.high.rarer_than(20, &ON_HIGH), Vec::<&str>::new(), "numbers above the bound: {:?}", counts.high);
     assert_eq!(counts.seldom_alone(), [], "rules that seldom stood alone");
 }

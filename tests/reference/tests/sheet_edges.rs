@@ -59,7 +59,8 @@ fn printed() {
         export(&keeper, 1, room, Answer::refused(31), &[]);
     }
     let mut bare = start();
-    does(&mut bare, 0x01, &[0, 2, 0xFFFE_FDFC]);
+    bare.disk.numbers[0] = 0xFFFE_FDFC;
+    bare.disk.accounts[0] = 2;
     let whole = [3, 0, 4, 0, 2, 0, 3, 1, 0, 4, 0xFF, 0xFE, 0xFD, 0xFC, 4, 0, 0];
     export(&bare, 0, 17, Answer::done(17), &whole);
     export(&bare, 0, 16, Answer::refused(31), &[]);

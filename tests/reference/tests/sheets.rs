@@ -8,6 +8,7 @@ use reference::drive::random::Random;
 use reference::drive::{damage, misfit, sheets, Subject};
 use reference::keeper::Keeper;
 use reference::linked;
+use reference::questions::HIGH;
 use reference::sheet::Sheet;
 use std::collections::BTreeMap;
 
@@ -62,7 +63,8 @@ fn import(keeper: &Keeper, lent: &Keeper, random: &mut Random, seen: &mut Seen) 
     let far = [keeper.sizes.accounts, usize::MAX];
     let account = if random.percent(5) { random.pick(&far) } else { random.below(keeper.sizes.accounts) };
     let number = match random.below(10) {
-        0 => random.pick(&[0, u32::MAX]),
+        0 => random.pick(&[0, HIGH - 1]),
+        3 => random.pick(&[HIGH - 1, HIGH, HIGH + 1, u32::MAX]),
         1..=2 => keeper.disk.numbers[random.find(keeper.sizes.slots, |slot| keeper.disk.numbers[slot] != 0).unwrap_or(0)],
         _ => 1000 + random.below(1000) as u32,
     };
@@ -134,7 +136,7 @@ fn carried_alike() {
             keeper = if random.percent(30) { after } else { keeper };
         }
     }
-    often(&seen.imports, &[0, 1, 2, 3, 5, 6, 29, 30, 18, 19], BOARDS / 20);
+    often(&seen.imports, &[0, 1, 2, 3, 32, 5, 6, 29, 30, 18, 19], BOARDS / 20);
     often(&seen.exports, &[0, 1, 2, 3, 4, 9, 31], BOARDS / 20);
     assert!(seen.of_pages > BOARDS / 20, "{} imports of pages", seen.of_pages);
 }

@@ -1,8 +1,8 @@
 -- The calls as one (step, apply, restart, format, look): what each asks, and demand 1's refusal, which leaves everything lent as it was.
 use mathlib.Core.Path.{_≡_, refl}
-use mathlib.Core.Bool.{Bool, true, false}
 use mathlib.Core.List.{List, []}
 use Prim.Native.Nat.{ℕ, zero, suc}
+use native.Mathlib.Omega.{arith}
 use lib.Dec.{T}
 use lib.ListN.{length}
 use Rattle.tables.specs.Base.{at}
@@ -17,10 +17,10 @@ use Rattle.model.specs.Sizes.{sizesFit}
 use Rattle.model.specs.Requests.{decoded, decodedNumber}
 use Rattle.model.specs.State.{Disk, State}
 use Rattle.model.specs.Rules.{lower, diskRules, allRules}
-use Rattle.model.specs.Questions.{questions, lookQuestions, importQuestions, exportQuestions}
+use Rattle.model.specs.Questions.{rank, questions, lookQuestions, importQuestions, exportQuestions}
 use Rattle.model.specs.Import.{importAnswer, import}
 use Rattle.model.specs.Export.{exported, export}
-use Rattle.model.specs.Step.{Outcome, outcome, diskLengths, formatLengths, memoryLengths, allFit, answer, step, format, restart, look, in-order}
+use Rattle.model.specs.Step.{Outcome, outcome, diskLengths, formatLengths, memoryLengths, allFit, answer, step, format, restart, look, in-order, rank-above}
 use Rattle.model.specs.Calls.{apply, stepOf, unknown}
 
 pub data Call : Type 0 where
@@ -103,39 +103,25 @@ later (exporting z st s buffer) = ask 2 (allRules z st) (exportQuestions z st s 
 abbrev pub asks : Call → Questions
 asks c = ask 1 (sizesFit (sizesIn c) and lengths c) (later c)
 
--- in number order
-decoded-order : (z : Sizes) (st : State) (d : Decoded) → T (rising 2 (decodedQuestions z st d))
+-- in the order of their places
+decoded-order : (z : Sizes) (st : State) (d : Decoded) → T (rising rank 20 (decodedQuestions z st d))
+unfolding rank
 decoded-order z st (Known e) = in-order z st e
 decoded-order z st Unknown = tt
 
--- import's order is `import-order`
-abbrev pub rises : Call → Bool
-rises (importing z st s q n b) = false
-rises (stepping z st e) = true
-rises (applying z st r) = true
-rises (restarting z st) = true
-rises (formatting z w d) = true
-rises (looking z st s p) = true
-rises (exporting z st s buffer) = true
-
-pub later-order : (c : Call) → T (rises c) → T (rising 1 (later c))
-later-order (stepping z st e) t = in-order z st e
-later-order (applying z st r) t = decoded-order z st (decoded r)
-later-order (restarting z st) t = tt
-later-order (formatting z w d) t = tt
-later-order (looking z st s p) t = tt
-later-order (exporting z st s buffer) t = tt
-later-order (importing z st s q n b) t = absurd t
+pub later-order : (c : Call) → T (rising rank 10 (later c))
+unfolding rank
+later-order (stepping z st e) = in-order z st e
+later-order (applying z st r) = decoded-order z st (decoded r)
+later-order (restarting z st) = tt
+later-order (formatting z w d) = tt
+later-order (looking z st s p) = tt
+later-order (exporting z st s buffer) = tt
+later-order (importing z st s q n b) = tt
 
 -- so 1 is the first question's number alone
 pub later-above : (c : Call) → T (above 1 (later c))
-later-above (importing z st s q n b) = tt
-later-above (stepping z st e) = rising-above 1 (later (stepping z st e)) (later-order (stepping z st e) tt)
-later-above (applying z st r) = rising-above 1 (later (applying z st r)) (later-order (applying z st r) tt)
-later-above (restarting z st) = tt
-later-above (formatting z w d) = tt
-later-above (looking z st s p) = tt
-later-above (exporting z st s buffer) = tt
+later-above c = rising-above rank 1 10 (λ m h. rank-above 1 m (omega arith) (omega (arith, h))) (later c) (later-order c)
 
 -- ── the answer, and a refusal ──
 -- the refusal is the number of the first question that fails, or 0; where it is not 0, the result is 0 and nothing has changed

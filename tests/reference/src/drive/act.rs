@@ -26,6 +26,8 @@ pub enum Before {
     Cut(u64),
     /// It fails inside an import, before its last store, if the tables allow one. It stays so.
     CutInside(u64),
+    /// Designs get higher numbers than a create or an import takes, as on a pack of an older board. It stays so.
+    Age(u64),
     /// Cells are changed. Undone after the call.
     Damage(u64),
     /// A table or a size is too long or short. Undone after the call.

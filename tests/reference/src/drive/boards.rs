@@ -33,7 +33,7 @@ pub fn board(seed: u64, sizes: Sizes, acts: usize) -> Keeper {
     let first = sizes.accounts + 2;
     for _ in 0..first + chooser.random.below(acts) {
         let act = chooser.next(&keeper);
-        if matches!(act.before, Before::Nothing | Before::Cut(_) | Before::CutInside(_)) {
+        if matches!(act.before, Before::Nothing | Before::Cut(_) | Before::CutInside(_) | Before::Age(_)) {
             prepare(&mut keeper, act.before);
             act.call.make(&REFERENCE, &mut keeper);
         }

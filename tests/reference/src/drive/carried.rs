@@ -1,6 +1,7 @@
 //! The next import or export of a list.
 
 use super::act::Call;
+use super::high;
 use super::random::Random;
 use crate::keeper::Keeper;
 
@@ -13,7 +14,7 @@ pub fn import(keeper: &Keeper, random: &mut Random, new: u32) -> Call {
         _ => random.below(sizes.slots + 1),
     };
     let other = [0, random.pick(&keeper.disk.numbers)];
-    let number = if random.percent(80) { new } else { random.pick(&other) };
+    let number = if random.percent(80) { high::drawn(random, new) } else { random.pick(&other) };
     let account = if random.percent(95) { random.below(sizes.accounts) } else { sizes.accounts };
     Call::Import { slot, account, number, sheet: random.next() }
 }

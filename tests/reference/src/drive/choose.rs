@@ -5,8 +5,9 @@ use super::aims::{self, Aim};
 use super::counts::{tag, MOVE, REQUESTS};
 use super::random::Random;
 use super::shadow::marked;
-use super::{carried, trees};
+use super::{carried, high, trees};
 use crate::keeper::Keeper;
+use crate::questions::HIGH;
 use crate::tables::{Sizes, NO_TRANSFER, WRITING};
 
 /// From so many records on, half of the lists start from a disk that is nearly full.
@@ -81,7 +82,7 @@ impl Chooser {
                 let before = if self.random.percent(60) { Before::CutInside(seed) } else { Before::Cut(seed) };
                 (before, self.in_range(keeper))
             }
-            22 if self.random.percent(20) => (Before::Nothing, Call::Restart),
+            22 if self.random.percent(20) => (self.age(), Call::Restart),
             _ => (Before::Nothing, self.sensible(keeper)),
         };
         Act { before, call }
@@ -94,7 +95,13 @@ impl Chooser {
         }
         self.lost = false;
         self.aim = None;
-        Act { before: Before::Nothing, call: Call::Restart }
+        Act { before: self.age(), call: Call::Restart }
+    }
+
+    /// Before every other restart.
+    fn age(&mut self) -> Before {
+        let seed = self.random.next();
+        if self.random.percent(50) { Before::Age(seed) } else { Before::Nothing }
     }
 
     fn any_call(&mut self, keeper: &Keeper) -> Call {
@@ -117,7 +124,7 @@ impl Chooser {
             0..=2 => self.random.below(3),
             3 => self.random.pick(&near),
             4 => self.random.pick(&near) + 1,
-            _ => self.random.pick(&[65_535, 65_536, u32::MAX as usize]),
+            _ => self.random.pick(&[65_535, 65_536, HIGH as usize - 1, HIGH as usize, u32::MAX as usize]),
         });
         Call::request(self.random.below(22) as u32, values)
     }
@@ -260,7 +267,8 @@ impl Chooser {
             1 => {
                 let slot = self.random.find(sizes.slots, |slot| keeper.disk.numbers[slot] == 0)?;
                 self.numbers += 1;
-                Some(Call::request(0x01, [slot, self.random.below(sizes.accounts), self.numbers as usize, 0]))
+                let number = high::drawn(&mut self.random, self.numbers);
+                Some(Call::request(0x01, [slot, self.random.below(sizes.accounts), number as usize, 0]))
             }
             _ => {
                 let waits = |slot| keeper.disk.numbers[slot] != 0 && keeper.memory.active[slot] == 0;

@@ -4,6 +4,7 @@ use super::act::{Call, Outcome};
 use super::batch::Batches;
 use super::bound::Bound;
 use super::choose::LARGE;
+use super::high::High;
 use super::moves::Moves;
 use super::turns::Turns;
 use crate::event::Request;
@@ -70,6 +71,7 @@ pub struct Counts {
     pub moves: Moves,
     pub turns: Turns,
     pub bound: Bound,
+    pub high: High,
 }
 
 /// Records taken by faults, and among them: where a lower page of the design had a record, where a higher one had (the pages come out
@@ -164,22 +166,24 @@ impl Written {
     }
 }
 
+/// A call's kind; of a request that is no event: none of them.
+fn name(call: &Call) -> &'static str {
+    match call {
+        Call::Format { .. } => KINDS[REQUESTS],
+        Call::Restart => KINDS[REQUESTS + 1],
+        Call::Look { .. } => KINDS[REQUESTS + 2],
+        Call::Apply(Request { kind: MOVE, .. }) => APART[0],
+        Call::Export { .. } => APART[1],
+        Call::Import { .. } => APART[2],
+        Call::Apply(request) => (0..REQUESTS).find(|&kind| tag(kind) == request.kind).map_or("no event", |kind| KINDS[kind]),
+    }
+}
+
 impl Counts {
     fn count(&mut self, call: &Call, outcome: &Outcome) {
         self.calls += 1;
-        let kind = || match call {
-            Call::Format { .. } => KINDS[REQUESTS],
-            Call::Restart => KINDS[REQUESTS + 1],
-            Call::Look { .. } => KINDS[REQUESTS + 2],
-            Call::Apply(Request { kind: MOVE, .. }) => APART[0],
-            Call::Export { .. } => APART[1],
-            Call::Import { .. } => APART[2],
-            Call::Apply(request) => {
-                KINDS[(0..REQUESTS).find(|&kind| tag(kind) == request.kind).expect("a kind of request")]
-            }
-        };
         match outcome.refusal() {
-            0 => *self.carried_out.entry(kind()).or_default() += 1,
+            0 => *self.carried_out.entry(name(call)).or_default() += 1,
             number => *self.refused.entry(number).or_default() += 1,
         }
     }
@@ -194,6 +198,7 @@ impl Counts {
             self.written.note(call, before);
         }
         self.moves.note(call, outcome.refusal(), before, after);
+        self.high.note(call, name(call), outcome.refusal(), before);
         if let (Call::Apply(Request { kind: 19, .. }), Outcome::Answer(answer)) = (call, outcome) {
             self.turns.note(answer, before, after);
         }
@@ -216,9 +221,9 @@ impl Counts {
         all.filter(|&(_, count)| count < self.floor()).collect()
     }
 
-    /// Refusals of 1 to 22, 25 to 27, and 29 to 31, never given.
+    /// Refusals of 1 to 22, 25 to 27, and 29 to 32, never given.
     pub fn refusals_missing(&self) -> Vec<u32> {
-        (1..=22).chain(25..=27).chain(29..=31).filter(|number| !self.refused.contains_key(number)).collect()
+        (1..=22).chain(25..=27).chain(29..=32).filter(|number| !self.refused.contains_key(number)).collect()
     }
 }
 
@@ -231,6 +236,7 @@ impl fmt::Display for Counts {
         writeln!(out, "{:?}", self.moves)?;
         writeln!(out, "{:?}", self.turns)?;
         writeln!(out, "{:?}", self.bound)?;
+        writeln!(out, "{:?}", self.high)?;
         writeln!(out, "carried out: {:?}", self.carried_out)?;
         writeln!(out, "refused: {:?}", self.refused)?;
         writeln!(out, "rules that alone refused a damaged table, each at least {} times:", self.floor())?;

@@ -16,7 +16,7 @@ pub fn list(seed: u64, length: usize) -> Vec<u8> {
         let act = chooser.next(&keeper);
         let field = match (act.before, act.call) {
             (Before::Nothing, Call::Apply(request)) => field(&request),
-            (Before::Nothing, Call::Restart) => field(&Request { kind: CUT, ..Request::default() }),
+            (Before::Nothing | Before::Age(_), Call::Restart) => field(&Request { kind: CUT, ..Request::default() }),
             _ => None,
         };
         make(&mut keeper, act.call, field.is_some());

@@ -8,7 +8,7 @@ use super::compare::{compare, promises, Side};
 use super::counts::Counts;
 use super::random::Random;
 use super::shadow::Shadow;
-use super::{cut, damage, misfit, trees, Subject};
+use super::{cut, damage, high, misfit, trees, Subject};
 use crate::bench::disk;
 use crate::keeper::Keeper;
 use crate::rules;
@@ -73,6 +73,9 @@ fn nearly_full(sizes: Sizes, random: &mut Random) -> Keeper {
     }
     let free = random.up_to(3);
     let listed = sizes.records.saturating_sub(free).min(filled * sizes.pages);
+    if random.percent(50) {
+        high::age(&mut keeper, random.next());
+    }
     disk::list(&mut keeper, filled, listed, random);
     keeper
 }
@@ -187,6 +190,7 @@ pub fn prepare(keeper: &mut Keeper, before: Before) -> Prepared {
             prepared.stores = cut::inside_import(keeper, seed);
             cut::cut(keeper, seed);
         }
+        Before::Age(seed) => high::age(keeper, seed),
         Before::Damage(seed) => prepared.aimed = damage::damage(keeper, seed),
         Before::Misfit(seed) => misfit::misfit(keeper, seed),
     }

@@ -2,6 +2,7 @@
 
 use super::random::Random;
 use super::trees::tree;
+use crate::questions::HIGH;
 use crate::tables::{Disk, Sizes};
 
 /// Small sizes mostly, now and then the largest.
@@ -28,6 +29,9 @@ fn sound(random: &mut Random, sizes: &Sizes) -> Disk {
     for slot in 0..sizes.slots {
         if random.percent(70) {
             disk.numbers[slot] = 1 + slot as u32 + random.below(3) as u32 * 1000;
+            if random.percent(20) {
+                disk.numbers[slot] |= HIGH;
+            }
             disk.accounts[slot] = random.below(sizes.accounts) as u16;
             for page in 0..sizes.pages {
                 if !records.is_empty() && random.percent(50) {
@@ -45,7 +49,7 @@ fn hurt(random: &mut Random, sizes: &Sizes, disk: &mut Disk) {
     let slot = random.below(sizes.slots);
     match random.below(6) {
         0 => disk.numbers[slot] = random.pick(&disk.numbers),
-        1 => disk.numbers[slot] = random.pick(&[0, 7, u32::MAX]),
+        1 => disk.numbers[slot] = random.pick(&[0, 7, HIGH, u32::MAX]),
         2 => disk.accounts[slot] = random.pick(&[sizes.accounts as u16 - 1, sizes.accounts as u16, u16::MAX]),
         3 => disk.maps[random.below(sizes.all_pages())] = random.pick(&disk.maps),
         4 => disk.maps[random.below(sizes.all_pages())] = random.pick(&[sizes.records as u16, sizes.records as u16 + 1, u16::MAX]),

@@ -1,6 +1,8 @@
 -- `ask_create` meets its contract: the first test that fails gives its number.
 use borrow.Author.Needs.{needs}
 use mathlib.Core.Path.{sym, _∙_}
+use Prim.Native.Nat.{_<_}
+use native.Mathlib.Omega.{arith}
 use Rattle.tables.specs.Questions.{yes-all}
 use Rattle.tables.specs.Turn.{said-yes, said-no}
 use Rattle.model.specs.Laws.Own.{first-yes, first-no}
@@ -15,31 +17,44 @@ returns c =
     let a = s .args in
     sym (first-no 3 _ _ (three-no (a .slot) (a .sizes .slots) (a .account) (a .sizes .accounts) 0 (a .number) (c .if1 .left)))
 
+-- 3 says yes
+range : (t : tie.Then1) → (let a : tie.Start = search in let g = a .args in (g .slot < g .sizes .slots) × ((g .account < g .sizes .accounts) × (0 < g .number)))
+range t = let s : tie.Start = search in let a = s .args in three-yes (a .slot) (a .sizes .slots) (a .account) (a .sizes .accounts) 0 (a .number) (t .if1 .taken)
+
 returns-2 : tie.Need-returns-2
 returns-2 c =
-    let s : tie.Start = search in
-    let k = c .before in
-    let a = s .args in
-    let y = three-yes (a .slot) (a .sizes .slots) (a .account) (a .sizes .accounts) 0 (a .number) (k .before .if1 .taken) in
-    sym (first-yes 3 _ _ y ∙ first-no 5 _ _ (λ h. c .if2 .taken (k .at32 .ensures ∙ h)))
+    let t : tie.Then1 = search in
+    sym (first-yes 3 _ _ (range t) ∙ first-no 32 _ _ (λ h. omega (arith, h, c .if2 .left)))
 
 returns-3 : tie.Need-returns-3
 returns-3 c =
-    let s : tie.Start = search in
-    let n = c .before in
-    let k = n .before .before in
-    let a = s .args in
-    let y = three-yes (a .slot) (a .sizes .slots) (a .account) (a .sizes .accounts) 0 (a .number) (k .before .if1 .taken) in
-    sym (first-yes 3 _ _ y ∙ first-yes 5 _ _ (sym (k .at32 .ensures) ∙ n .before .if2 .left) ∙ first-no 6 _ _ (said-no (newNumber (a .sizes .slots) (a .numbers .now) (a .number)) (n .number-new .ensures) (c .if3 .left)))
+    let t : tie.Then1 = search in
+    let small : tie.Then2 = search in
+    let k : tie.After-at32 = search in
+    sym (first-yes 3 _ _ (range t) ∙ first-yes 32 _ _ (small .if2 .taken) ∙ first-no 5 _ _ (λ h. c .if3 .taken (k .at32 .ensures ∙ h)))
 
 returns-4 : tie.Need-returns-4
 returns-4 c =
     let s : tie.Start = search in
-    let n = c .before in
-    let k = n .before .before in
+    let t : tie.Then1 = search in
+    let small : tie.Then2 = search in
+    let k : tie.After-at32 = search in
+    let empty : tie.Else3 = search in
+    let n : tie.After-number-new = search in
     let a = s .args in
-    let y = three-yes (a .slot) (a .sizes .slots) (a .account) (a .sizes .accounts) 0 (a .number) (k .before .if1 .taken) in
-    sym (yes-all _ (y, (sym (k .at32 .ensures) ∙ n .before .if2 .left, (said-yes (newNumber (a .sizes .slots) (a .numbers .now) (a .number)) (n .number-new .ensures) (c .if3 .taken), tt))))
+    sym (first-yes 3 _ _ (range t) ∙ first-yes 32 _ _ (small .if2 .taken) ∙ first-yes 5 _ _ (sym (k .at32 .ensures) ∙ empty .if3 .left)
+    ∙ first-no 6 _ _ (said-no (newNumber (a .sizes .slots) (a .numbers .now) (a .number)) (n .number-new .ensures) (c .if4 .left)))
+
+returns-5 : tie.Need-returns-5
+returns-5 c =
+    let s : tie.Start = search in
+    let t : tie.Then1 = search in
+    let small : tie.Then2 = search in
+    let k : tie.After-at32 = search in
+    let empty : tie.Else3 = search in
+    let n : tie.After-number-new = search in
+    let a = s .args in
+    sym (yes-all _ (range t, (small .if2 .taken, (sym (k .at32 .ensures) ∙ empty .if3 .left, (said-yes (newNumber (a .sizes .slots) (a .numbers .now) (a .number)) (n .number-new .ensures) (c .if4 .taken), tt)))))
 
 pub ask-create-spec : {M : Type 1} → statement M
-ask-create-spec = tie.close (tie.spec returns (λ c κs. search needs) returns-2 (λ c κs. search needs) returns-3 returns-4)
+ask-create-spec = tie.close (tie.spec returns returns-2 (λ c κs. search needs) returns-3 (λ c κs. search needs) returns-4 returns-5)
