@@ -1,10 +1,19 @@
 // The 600-record pack: where each record starts, and which record a sector is in. Each look-up asks question 28 alone.
 ghost use mathlib.Core.Path.{_≡_};
-ghost use Rattle.sectors.specs.Pack.{startOf, recordOf};
+ghost use Rattle.tables.specs.Base.{tab};
+ghost use Rattle.sectors.specs.Pack.{packRecords, start, startOf, recordOf};
 use crate::table::STARTS;
 use model::event::Answer;
 
 pub mod table; // the 600 starts
+
+// The whole table, each record's first sector at its place.
+// Shut out: an entry that no look-up of the tests asks for wrong.
+pub fn starts() -> [u16; 600]
+    ensures { λ r. ⌜ r ≡ tab packRecords start 0 ⌝ }
+{
+    STARTS
+}
 
 fn wide(x: u16) -> u32
     ensures { λ r. ⌜ r ≡ x ⌝ }

@@ -1,12 +1,12 @@
-// Prints the start of each record of the 600-record pack, one number a line.
+// Prints the table of the 600-record pack, the start of each record, one number a line.
 use libc::STDOUT_FILENO;
-use sectors::sectors_start_of;
+use sectors::starts;
 
 fn main() {
-    let mut r: u32 = 0;
+    let table = starts();
+    let mut r: usize = 0;
     while r < 600 {
-        let start = sectors_start_of(r);
-        io::print_decimal(STDOUT_FILENO, start.result as u64);
+        io::print_decimal(STDOUT_FILENO, table[r] as u64);
         io::write_all(STDOUT_FILENO, b"\n");
         r += 1;
     }

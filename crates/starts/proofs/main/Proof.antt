@@ -6,10 +6,10 @@ use Rattle.starts.proofs.main.Statement.{statement}
 use Rattle.starts.proofs.main.Tie as tie
 
 abbrev Inv-loop : tie.InvT-loop
-Inv-loop r₀ t3 r = r ≤ 600
+Inv-loop table r₀ t4 r = r ≤ 600
 
 abbrev μ-loop : tie.MeasureT-loop
-μ-loop r₀ t3 r = 600 - r
+μ-loop table r₀ t4 r = 600 - r
 
 pub main-spec : {M : Type 1} → statement M
 main-spec =
@@ -17,8 +17,10 @@ main-spec =
     (tie.spec
     Inv-loop
     μ-loop
-    (λ c. omega arith)
     (λ c κs. search needs)
+    (λ c. omega arith)
+    (λ c. search needs)
+    (λ c. search needs)
     (λ c. search needs)
     (λ c κs. search needs)
     (λ c. search needs)
