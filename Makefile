@@ -84,6 +84,7 @@ docs:
 	python3 tools/walks.py --write
 	python3 tools/pictures.py --write
 	python3 tools/spread.py --write
+	python3 tools/starts.py --write
 	python3 tools/counts.py --write docs/PROOF.md
 
 bench: $(LIBRARY)

@@ -16,7 +16,7 @@ enum {
     SECTORS_NOT_IN_PACK = 28  /* the refusal */
 };
 
-/* The first sector of a record: (record / 6) * 100 + (record % 6) * 16. */
+/* The first sector of a record: (record / 6) * 100 + (record % 6) * 16. The whole table: sectors_starts.h. */
 KeeperAnswer sectors_start_of(uint32_t record);
 
 /* The record that a sector is in. */

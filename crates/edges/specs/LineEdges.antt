@@ -10,7 +10,7 @@ use Rattle.model.specs.declared.sizes.Sizes.{Sizes}
 use Rattle.model.specs.declared.event.Waiting.the-variants.{Turn}
 use Rattle.model.specs.declared.event.Event.the-variants as Event
 use Rattle.model.specs.State.{State, frameAt, WRITING}
-use Rattle.model.specs.Setters.{setUsed}
+use Rattle.model.specs.Setters.{setUsed, setLine}
 use Rattle.model.specs.Step.{step}
 use Rattle.model.specs.Acts.{Act}
 use Rattle.edges.specs.Lists.{create, fault, write, wire, claim, pageDone, restart, join, turn, small, sized, says, leaves}
@@ -53,6 +53,10 @@ unfoldable stillThere : List ℕ
 unfolding leaves
 stillThere = members (turnOf (turnOf (turnOf hurt)) .memory .line)
 
+-- all tables but the line, once a list is carried out
+abbrev beside : List Act → List ℕ
+beside acts = tables (setLine [] (leaves small acts))
+
 pub record LineEdges : Type 0 where
   -- A turn with nobody waiting changes nothing.
   nobody : says small (opened 2 ++ turn ∷ []) ≡ 0 ∷ 0 ∷ []
@@ -60,6 +64,7 @@ pub record LineEdges : Type 0 where
   -- If its page is in service it is served and leaves, wired or not.
   served : says small (opened 2 ++ join 0 0 ∷ turn ∷ []) ≡ 0 ∷ 1 ∷ []
   served-left : waiting small (opened 2 ++ join 0 0 ∷ turn ∷ []) ≡ []
+  served-same : T (equal (beside (opened 2 ++ join 0 0 ∷ turn ∷ [])) (beside (opened 2)))
   served-wired : says small (opened 2 ++ wire 0 0 ∷ join 0 0 ∷ turn ∷ []) ≡ 0 ∷ 1 ∷ []
   -- The same page may wait twice.
   twice : waiting small (opened 2 ++ join 0 0 ∷ join 0 0 ∷ turn ∷ []) ≡ 0 ∷ []
@@ -67,6 +72,7 @@ pub record LineEdges : Type 0 where
   -- If the page is in transfer it goes to the back;
   back-reading : says small (reading ++ join 0 0 ∷ join 0 1 ∷ turn ∷ []) ≡ 0 ∷ 0 ∷ []
   back-read : waiting small (reading ++ join 0 0 ∷ join 0 1 ∷ turn ∷ []) ≡ 1 ∷ 0 ∷ []
+  back-same : T (equal (beside (reading ++ join 0 0 ∷ join 0 1 ∷ turn ∷ [])) (beside reading))
   back-writing : says small (writing ++ join 0 0 ∷ join 0 1 ∷ turn ∷ []) ≡ 0 ∷ 0 ∷ []
   back-written : waiting small (writing ++ join 0 0 ∷ join 0 1 ∷ turn ∷ []) ≡ 1 ∷ 0 ∷ []
   -- otherwise the turn faults. If the fault is accepted the request stays first;
@@ -87,6 +93,7 @@ pub record LineEdges : Type 0 where
   away-8 : says small (opened 2 ++ create 1 0 8 ∷ join 1 0 ∷ turn ∷ []) ≡ 0 ∷ 8 ∷ []
   away-19 : says (sized 1 2) (opened 2 ++ join 0 1 ∷ turn ∷ []) ≡ 0 ∷ 19 ∷ []
   away-left : waiting small (opened 2 ++ join 1 0 ∷ turn ∷ []) ≡ []
+  away-same : T (equal (beside (opened 2 ++ join 1 0 ∷ turn ∷ [])) (beside (opened 2)))
   -- Joining asks only 1 to 3, then 27.
   joins : says small (opened 2 ++ join 1 2 ∷ []) ≡ 0 ∷ 0 ∷ []
   slot-past : says small (opened 2 ++ join 2 0 ∷ []) ≡ 3 ∷ 0 ∷ []
@@ -116,11 +123,13 @@ lineEdges = record {
   nobody-same = tt;
   served = refl;
   served-left = refl;
+  served-same = tt;
   served-wired = refl;
   twice = refl;
   twice-served = refl;
   back-reading = refl;
   back-read = refl;
+  back-same = tt;
   back-writing = refl;
   back-written = refl;
   faults = refl;
@@ -136,6 +145,7 @@ lineEdges = record {
   away-8 = refl;
   away-19 = refl;
   away-left = refl;
+  away-same = tt;
   joins = refl;
   slot-past = refl;
   page-past = refl;

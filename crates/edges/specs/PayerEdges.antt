@@ -1,5 +1,6 @@
 -- Edges of who pays and of moves, as one table under one theorem, by computation: answers, and the limits and used counts left.
 use mathlib.Core.Path.{_≡_, refl}
+use mathlib.Core.Bool.{Bool, true, false}
 use mathlib.Core.List.{List, [], _∷_, _++_}
 use Prim.Native.Nat.{ℕ, _+_}
 use lib.ListN.{replicate}
@@ -8,8 +9,8 @@ use Rattle.model.specs.State.{Disk, State}
 use Rattle.model.specs.Setters.{onDisk, setParents}
 use Rattle.model.specs.Restart.{formatted}
 use Rattle.model.specs.Step
-use Rattle.model.specs.Acts.{Act, run}
-use Rattle.edges.specs.Lists.{limit, move, create, delete, activate, fault, write, claim, update, pageDone, mapDone, restart, said, beginWith, saysFrom}
+use Rattle.model.specs.Acts.{Act, legal, run}
+use Rattle.edges.specs.Lists.{limit, move, create, delete, activate, fault, write, claim, update, pageDone, mapDone, turn, restart, said, beginWith, saysFrom}
 
 -- four accounts
 abbrev four : Sizes
@@ -68,6 +69,11 @@ unfoldable pub restarting : List ℕ → ℕ
 unfolding said beginWith
 restarting parents = Step.restart four (onDisk (setParents parents) (beginWith four parents .state)) .answer .refusal
 
+-- whether an event may follow that restart
+unfoldable pub goesOn : List ℕ → Bool
+unfolding said beginWith
+goesOn parents = legal four (beginWith four parents) (restart ∷ turn ∷ [])
+
 pub record PayerEdges : Type 0 where
   -- a chain of three accounts with limits 0: account 0 pays; one on the way with a limit pays instead
   chain-paid : paid chain (limits 2 0 0 0 ++ design 0 3 ++ page 0 0) ≡ 1 ∷ 0 ∷ 0 ∷ 0 ∷ []
@@ -124,9 +130,12 @@ pub record PayerEdges : Type 0 where
   restart-higher : restarting (0 ∷ 2 ∷ 0 ∷ 0 ∷ []) ≡ 2
   restart-lower : restarting (0 ∷ 0 ∷ 1 ∷ 2 ∷ []) ≡ 0
   restart-first : restarting (9 ∷ 0 ∷ 1 ∷ 2 ∷ []) ≡ 0
+  -- after a restart that is refused no event may come
+  refused-down : goesOn (0 ∷ 0 ∷ 2 ∷ 0 ∷ []) ≡ false
+  restarted-up : goesOn (0 ∷ 0 ∷ 1 ∷ 2 ∷ []) ≡ true
 
 pub payerEdges : PayerEdges
-unfolding told paid shared owning formatting restarting
+unfolding told paid shared owning formatting restarting goesOn
 payerEdges = record {
   chain-paid = refl;
   chain-full = refl;
@@ -169,4 +178,6 @@ payerEdges = record {
   restart-higher = refl;
   restart-lower = refl;
   restart-first = refl;
+  refused-down = refl;
+  restarted-up = refl;
 }

@@ -9,7 +9,7 @@ use Rattle.tables.specs.Rule.{test}
 use Rattle.model.specs.declared.sizes.Sizes.{Sizes}
 use Rattle.model.specs.State.{State}
 use Rattle.model.specs.Acts.{Act}
-use Rattle.model.specs.Turns.{Deed, turn, pageDone, mapDone, turns, Gone, calmTurns, gone, afterAll}
+use Rattle.model.specs.Turns.{Deed, turn, pageDone, mapDone, turns, Gone, pagesOf, calmTurns, gone, afterAll}
 use Rattle.model.specs.Terms.{passes, unwired}
 use Rattle.edges.specs.Lists.{write, wire, update, join, sized, small, leaves, said}
 use Rattle.edges.specs.Edges.{opened, listing}
@@ -40,6 +40,11 @@ unfoldable waiting : Sizes → List Act → List Deed → List ℕ
 unfolding leaves said afterAll
 waiting z acts ds = members (afterAll z (leaves z acts) ds .memory .line)
 
+-- the pages of those that have left, then those that wait: all that stood in the line
+unfoldable stood : Sizes → List Act → List Deed → List ℕ
+unfolding leaves said gone waiting
+stood z acts ds = pagesOf (gone z (leaves z acts) ds) ++ waiting z acts ds
+
 -- one frame, page 0 in it, page 1 waits
 abbrev crowded : List Act
 crowded = opened 2 ++ join 0 1 ∷ []
@@ -68,6 +73,7 @@ pub record TurnsEdges : Type 0 where
   two-bound : T (bounded small two (turn ∷ pageDone 1 ∷ turn ∷ turn ∷ mapDone 0 ∷ turn ∷ turn ∷ turn ∷ []) 2)
   two-left : left small two (turn ∷ pageDone 1 ∷ turn ∷ turn ∷ mapDone 0 ∷ turn ∷ turn ∷ turn ∷ []) ≡ 0 ∷ 1 ∷ 3 ∷ 4 ∷ []
   two-waits : waiting small two (turn ∷ pageDone 1 ∷ turn ∷ []) ≡ 3 ∷ []
+  two-stood : stood small two (turn ∷ pageDone 1 ∷ turn ∷ []) ≡ 0 ∷ 3 ∷ []
   -- One frame of two is wired: the other serves.
   half-wired : T (bounded small half (turn ∷ turn ∷ turn ∷ []) 1)
   half-left : left small half (turn ∷ turn ∷ turn ∷ []) ≡ 1 ∷ 1 ∷ []
@@ -78,7 +84,7 @@ pub record TurnsEdges : Type 0 where
   one-too-many : bounded narrow crowded (turn ∷ turn ∷ turn ∷ turn ∷ turn ∷ turn ∷ []) 2 ≡ false
 
 pub turnsEdges : TurnsEdges
-unfolding bounded left waiting
+unfolding bounded left waiting stood
 turnsEdges = record {
   crowded-bound = tt;
   crowded-left = refl;
@@ -88,6 +94,7 @@ turnsEdges = record {
   two-bound = tt;
   two-left = refl;
   two-waits = refl;
+  two-stood = refl;
   half-wired = tt;
   half-left = refl;
   woven-moving = refl;

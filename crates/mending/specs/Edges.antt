@@ -84,11 +84,15 @@ sound = pack (7 ∷ 0 ∷ 8 ∷ []) (1 ∷ 0 ∷ 0 ∷ []) (3 ∷ 1 ∷ 0 ∷ 0 
 
 -- ── the call: a list of n places, all of them 9 ──
 abbrev lent : Pack → ℕ → Lent
-lent d n = record { disk = record { records = 0 ∷ 0 ∷ 0 ∷ []; numbers = d .numbers; accounts = d .accounts; maps = d .maps; limits = 5 ∷ 6 ∷ []; parents = 0 ∷ 0 ∷ [] }; list = replicate n 9 }
+lent d n = record { disk = record { records = 7 ∷ 8 ∷ 9 ∷ []; numbers = d .numbers; accounts = d .accounts; maps = d .maps; limits = 5 ∷ 6 ∷ []; parents = 0 ∷ 0 ∷ [] }; list = replicate n 9 }
 
 -- the answer, and the first k numbers of the list
 unfoldable pub says : Sizes → Lent → ℕ → List ℕ
 says z l k = let o = mend z l in o .answer .refusal ∷ o .answer .result ∷ length (o .left .list) ∷ take k (o .left .list)
+
+-- the records' words, the limits and the parents that the call leaves
+unfoldable pub keeps : Lent → List ℕ
+keeps l = let d = mend sizes l .left .disk in d .records ++ d .limits ++ d .parents
 
 -- what a restart of the mended pack answers where the parents are these
 unfoldable pub restarted : List ℕ → ℕ
@@ -135,13 +139,16 @@ pub record Edges : Type 0 where
   room : says sizes (lent odd-account 48) 9 ≡ 0 ∷ 2 ∷ 48 ∷ 1 ∷ 2 ∷ 2 ∷ 3 ∷ 2 ∷ 2 ∷ 9 ∷ 3 ∷ 9 ∷ []
   no-room : says sizes (lent odd-account 47) 2 ≡ 24 ∷ 0 ∷ 47 ∷ 9 ∷ 9 ∷ []
   no-fit : says all-five (lent odd-account 3) 2 ≡ 1 ∷ 0 ∷ 3 ∷ 9 ∷ 9 ∷ []
+  -- no word of a record, no limit and no parent is altered, nor of a record that loses its entries
+  rest-kept : keeps (lent odd-account 48) ≡ 7 ∷ 8 ∷ 9 ∷ 5 ∷ 6 ∷ 0 ∷ 0 ∷ []
+  words-kept : keeps (lent shared 48) ≡ 7 ∷ 8 ∷ 9 ∷ 5 ∷ 6 ∷ 0 ∷ 0 ∷ []
   -- the mended pack passes restart; a parent that is not lower gets 2 on it too
   passes : restarted (0 ∷ 0 ∷ []) ≡ 0
   parent-equal : restarted (0 ∷ 1 ∷ []) ≡ 2
   parent-first : restarted (1 ∷ 0 ∷ []) ≡ 0
 
 pub edges : Edges
-unfolding shows leaves says restarted mend firstNo after listedBy listed gather cleared wants placeAt store choose test any tab
+unfolding shows leaves says keeps restarted mend firstNo after listedBy listed gather cleared wants placeAt store choose test any tab
 edges = record {
   e1 = refl;
   e1-left = refl;
@@ -168,6 +175,8 @@ edges = record {
   room = refl;
   no-room = refl;
   no-fit = refl;
+  rest-kept = refl;
+  words-kept = refl;
   passes = refl;
   parent-equal = refl;
   parent-first = refl;
