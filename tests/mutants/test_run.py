@@ -10,6 +10,8 @@ import tempfile
 import time
 import unittest
 
+import edits
+
 HERE = pathlib.Path(__file__).resolve().parent
 EDIT = "# what is wrong\ncrate: small\nrefused: a fact\nfile: crates/small/src/lib.rt\nold: one\nnew: two\n"
 REFUSED = "crates/small/src/lib.rt:1:1: error: no\nlogic=not-proved\n"
@@ -166,6 +168,15 @@ class Copied(Small):
             with self.subTest(why):
                 self.put("tests/mutants/an_edit.edit", EDIT.replace(old, new))
                 self.failed(self.says(REFUSED, 1), why)
+
+
+class Kept(unittest.TestCase):
+    def test_every_edit_fits(self):
+        """Each text that an edit quotes stands once in its file: told before an hour of proofs, not after it."""
+        for name in edits.names():
+            for file, old, _ in edits.Edit(name).pairs:
+                with self.subTest(name):
+                    self.assertEqual((edits.ROOT / file).read_text(encoding="utf-8").count(old), 1)
 
 
 class Run(Small):
