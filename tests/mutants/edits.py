@@ -147,10 +147,16 @@ def command(edit, to):
     kit, proved = pathlib.Path(shutil.which("rt") or "rt").resolve().parent.parent, ROOT / "target" / "rlib"
     own = kit / "on" / os.uname().machine
     words = [own / "bin" / "rattle", "check", "--crate-name", edit.crate, root_of(to / "crates" / edit.crate), "--extern", f"std={own}/rlib/std.rlib"]
-    for name in dependencies()[edit.crate]:
+    for name in named(edit.crate, sources):
         words += ["--lib", f"{name}={root_of(to / 'crates' / name)}"] if name in sources else ["--extern", f"{name}={proved}/{name}.rlib"]
     words += ["-L", f"dependency={proved}", "-L", f"dependency={own}/rlib", "--antt-project", kit / "logic" / "antt-project.json"]
     return [*map(str, words), "--logic-built", str(own / "logic-built"), "--incremental", str(to / "target" / "inc" / edit.crate)]
+
+
+def named(crate, sources):
+    """What a crate depends on, and what those that are checked as source with it need besides."""
+    needs = dependencies()
+    return dict.fromkeys(name for one in (crate, *sources) for name in needs[one])
 
 
 def root_of(crate):

@@ -26,21 +26,6 @@ use Rattle.mending.specs.Mend.{Lent, allChanges, packOf, allPlaces, mendAnswer,
 use Rattle.mending.specs.Rules.{mended-rules, mended-lengths, map-once, pack-fit}
 use Rattle.mended.proofs.Refused.{run-still, start-still, still-says}
 
--- what a mending that is carried out leaves: a pack of its lengths that keeps the disk rules, whatever the memory holds
-pub record Sound (z : Sizes) (d : Disk) : Type 0 where
-  pub sizes : Holds (sizesFit z)
-  pub lengths : Holds (diskLengths z d)
-  pub rules : (m : Memory) → Holds (diskRules z (record { disk = d; memory = m }))
-
--- where each account but 0 has a lower parent
-pub mended-sound : (z : Sizes) (l : Lent) → Holds (lower (z .accounts) (at (l .disk .parents))) → mend z l .answer .refusal ≡ 0 → Sound z (mend z l .left .disk)
-unfolding mend
-mended-sound z l low = go (mendAnswer z l) refl
-  where
-    go : (n : ℕ) → mendAnswer z l ≡ n → (let o = outcome n (length (allChanges z (packOf (l .disk)))) l (mendedLent z l) in o .answer .refusal ≡ 0 → Sound z (o .left .disk))
-    go zero e h = let a = all-yes 0 (ask 1 (sizesFit z and diskLengths z (l .disk)) (ask 24 (non (below (length (l .list)) (4 * allPlaces z))) none)) tt e in record { sizes = a .0 .0; lengths = mended-lengths z (l .disk) (a .0 .0) (a .0 .1); rules = mended-rules z (l .disk) (a .0 .0) (a .0 .1) low }
-    go (suc n) e h = absurd (omega (arith, h))
-
 -- mending alters no word of a record, no limit and no parent
 pub mend-records : (z : Sizes) (l : Lent) → mend z l .left .disk .records ≡ l .disk .records
 unfolding mend
@@ -57,6 +42,21 @@ mend-limits z l = go (mendAnswer z l)
     go : (n : ℕ) → (let o = outcome n (length (allChanges z (packOf (l .disk)))) l (mendedLent z l) in (o .left .disk .limits ≡ l .disk .limits) × (o .left .disk .parents ≡ l .disk .parents))
     go zero = (refl, refl)
     go (suc n) = (refl, refl)
+
+-- what a mending that is carried out leaves: a pack of its lengths that keeps the disk rules, whatever the memory holds
+pub record Sound (z : Sizes) (d : Disk) : Type 0 where
+  pub sizes : Holds (sizesFit z)
+  pub lengths : Holds (diskLengths z d)
+  pub rules : (m : Memory) → Holds (diskRules z (record { disk = d; memory = m }))
+
+-- where each account but 0 has a lower parent
+pub mended-sound : (z : Sizes) (l : Lent) → Holds (lower (z .accounts) (at (l .disk .parents))) → mend z l .answer .refusal ≡ 0 → Sound z (mend z l .left .disk)
+unfolding mend
+mended-sound z l low = go (mendAnswer z l) refl
+  where
+    go : (n : ℕ) → mendAnswer z l ≡ n → (let o = outcome n (length (allChanges z (packOf (l .disk)))) l (mendedLent z l) in o .answer .refusal ≡ 0 → Sound z (o .left .disk))
+    go zero e h = let a = all-yes 0 (ask 1 (sizesFit z and diskLengths z (l .disk)) (ask 24 (non (below (length (l .list)) (4 * allPlaces z))) none)) tt e in record { sizes = a .0 .0; lengths = mended-lengths z (l .disk) (a .0 .0) (a .0 .1); rules = mended-rules z (l .disk) (a .0 .0) (a .0 .1) low }
+    go (suc n) e h = absurd (omega (arith, h))
 
 -- no mending answers 23
 pub mend-never-23 : (z : Sizes) (l : Lent) → ¬ (mend z l .answer .refusal ≡ 23)
