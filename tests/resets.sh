@@ -1,6 +1,6 @@
 #!/bin/sh
-# resets.sh: not proved; the file disk's journal through resets, cuts and failing syncs: every path of one store and of two, and STORES torn stores
-# (10000) at each of four grains, from SEED (1). docs/TESTS.md says what is checked.
+# resets.sh: not proved; the file disk's journal through resets, cuts and failing syncs: every path of one store, of two and of an import, and STORES
+# torn stores (10000) at each of four grains, from SEED (1). docs/TESTS.md says what is checked.
 set -eu
 cd "$(dirname "$0")/.."
 [ -f target/staticlib/libkeeper.a ] || rt staticlib keeper

@@ -143,39 +143,7 @@ void export_design(Run *run, uint32_t slot)
     tell(run, NOTE_SHEET_END, slot, 0, 0);
 }
 
-/* ── import, right and wrong ── */
-static int store_records(Run *run, uint32_t slot)
-{
-    const Keeper *keeper = run->own->keeper;
-    const size_t words = keeper->sizes.words;
-    int bad = 0;
-    for (size_t page = slot * keeper->sizes.pages; page < (slot + 1) * keeper->sizes.pages && !bad; page++) {
-        const size_t first = (keeper->maps[page] - 1u) * words;
-        const FilePiece piece = {KEEPER_TABLE_RECORDS, first, words, keeper->records + first};
-        bad = keeper->maps[page] != 0 && filedisk_store(&run->disk, &piece, 1) != 0;
-    }
-    return bad;
-}
-
-/* The slot first, then the records; or the records, then number and account, then the map. */
-static KeeperAnswer wrong_import(Run *run, uint32_t slot, const Sheet *sheet)
-{
-    Keeper *keeper = run->own->keeper;
-    const size_t pages = keeper->sizes.pages;
-    const FilePiece pieces[3] = {
-        {KEEPER_TABLE_NUMBERS, slot, 1, keeper->numbers + slot},
-        {KEEPER_TABLE_ACCOUNTS, slot, 1, keeper->accounts + slot},
-        {KEEPER_TABLE_MAPS, slot * pages, pages, keeper->maps + slot * pages},
-    };
-    KeeperAnswer answer = keeper_easy_import(keeper, slot, run->account, run->number, sheet->bytes, sheet->length);
-    if (answer.refusal != KEEPER_DONE)
-        return answer;
-    const int bad = run->own->wrong == WRONG_SLOT_FIRST
-                        ? filedisk_store(&run->disk, pieces, 3) != 0 || store_records(run, slot)
-                        : store_records(run, slot) || filedisk_store(&run->disk, pieces, 2) != 0 || filedisk_store(&run->disk, pieces + 2, 1) != 0;
-    answer.refusal = bad ? FILEDISK_DIED : KEEPER_DONE;
-    return answer;
-}
+/* ── import ── */
 
 /* A slot whose design is at rest, from some one on, + 1; 0 if there is none. */
 static uint32_t at_rest(Run *run)
@@ -202,8 +170,7 @@ void import_design(Run *run, uint32_t slot)
     tell_sheet(run, &sheet, slot, run->number, from);
     tell(run, NOTE_SHEET_END, slot, 1, 0);
     run->importing = 1, run->record_stores = 0;
-    const KeeperAnswer answer = wrong ? wrong_import(run, slot, &sheet)
-                                      : filedisk_import(&run->disk, keeper, slot, run->account, run->number, sheet.bytes, sheet.length);
+    const KeeperAnswer answer = without_import(&run->disk, keeper, run->own->wrong, slot, run->account, run->number, sheet.bytes, sheet.length);
     run->importing = 0;
     if (answer.refusal != KEEPER_AT_LIMIT && answer.refusal != KEEPER_NO_RECORD)
         must_be_done(run, answer, slot, run->number);

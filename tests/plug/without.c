@@ -1,4 +1,5 @@
-/* Not proved: a device that passes over some of what is written or synced, as under a driver that leaves it out. */
+/* Not proved: a device that passes over some of what is written or synced, as under a driver that leaves it out; and an import with its stores in a
+ * wrong order. */
 #include "without.h"
 
 static int in_journal(uint64_t at)
@@ -53,4 +54,36 @@ FileBlocks without_on(Without *device, FileBlocks inner, int wrong)
     device->inner = inner;
     device->wrong = wrong;
     return blocks;
+}
+
+static int store_records(FileDisk *disk, const Keeper *keeper, uint32_t slot)
+{
+    const size_t words = keeper->sizes.words;
+    int bad = 0;
+    for (size_t page = slot * keeper->sizes.pages; page < (slot + 1) * keeper->sizes.pages && !bad; page++) {
+        const size_t first = (keeper->maps[page] - 1u) * words;
+        const FilePiece piece = {KEEPER_TABLE_RECORDS, first, words, keeper->records + first};
+        bad = keeper->maps[page] != 0 && filedisk_store(disk, &piece, 1) != 0;
+    }
+    return bad;
+}
+
+/* The slot first, then the records; or the records, then number and account, then the map. */
+KeeperAnswer without_import(FileDisk *disk, Keeper *keeper, int wrong, uint32_t slot, uint32_t account, uint32_t number, const uint8_t *sheet, size_t bytes)
+{
+    const size_t pages = keeper->sizes.pages;
+    const FilePiece pieces[3] = {
+        {KEEPER_TABLE_NUMBERS, slot, 1, keeper->numbers + slot},
+        {KEEPER_TABLE_ACCOUNTS, slot, 1, keeper->accounts + slot},
+        {KEEPER_TABLE_MAPS, slot * pages, pages, keeper->maps + slot * pages},
+    };
+    if (wrong != WRONG_SLOT_FIRST && wrong != WRONG_SLOT_IN_TWO)
+        return filedisk_import(disk, keeper, slot, account, number, sheet, bytes);
+    KeeperAnswer answer = keeper_easy_import(keeper, slot, account, number, sheet, bytes);
+    if (answer.refusal != KEEPER_DONE)
+        return answer;
+    const int bad = wrong == WRONG_SLOT_FIRST ? filedisk_store(disk, pieces, 3) != 0 || store_records(disk, keeper, slot)
+                                              : store_records(disk, keeper, slot) || filedisk_store(disk, pieces, 2) != 0 || filedisk_store(disk, pieces + 2, 1) != 0;
+    answer.refusal = bad ? FILEDISK_DIED : KEEPER_DONE;
+    return answer;
 }

@@ -28,4 +28,7 @@ typedef struct {
 } Without;
 FileBlocks without_on(Without *device, FileBlocks inner, int wrong);
 
+/* filedisk_import by the right driver, and by those that store the slot before the records or in two. */
+KeeperAnswer without_import(FileDisk *disk, Keeper *keeper, int wrong, uint32_t slot, uint32_t account, uint32_t number, const uint8_t *sheet, size_t bytes);
+
 #endif

@@ -1,5 +1,5 @@
 /* Not proved: resets STORES [SEED]. The processor is reset while the device's cache lives, the power is cut, syncs fail: over every path of one
- * store and of two, and over so many stores torn by chance at each of four grains. Each wrong driver must be caught. */
+ * store, of two and of an import, and over so many stores torn by chance at each of four grains. Each wrong driver must be caught. */
 #include <stdio.h>
 #include <stdlib.h>
 #include "resets.h"
@@ -31,6 +31,17 @@ static void every_path(void)
     judge("a format over a disk; the driver is wrong, the header is not written again", paths_of_format(WRONG_HEADER_STAYS), WRONG_HEADER_STAYS);
 }
 
+static void every_import(void)
+{
+    static const char *names[] = {"right", "wrong, it stores the slot first", "wrong, it stores the slot in two", "wrong, it brings home what is not safe"};
+    static const int drivers[] = {WRONG_NONE, WRONG_SLOT_FIRST, WRONG_SLOT_IN_TWO, WRONG_HOME_FIRST};
+    char what[120];
+    for (size_t at = 0; at < sizeof drivers / sizeof *drivers; at++) {
+        snprintf(what, sizeof what, "an import of two pages, ends twice; the driver is %s", names[at]);
+        judge(what, paths_of_import(drivers[at], 2), drivers[at]);
+    }
+}
+
 static void long_run(unsigned long stores, uint64_t seed)
 {
     static const size_t grains[] = {4, 64, 512, 4096};
@@ -50,6 +61,7 @@ int main(int count, char **words)
         return 2;
     }
     every_path();
+    every_import();
     long_run(stores, count > 2 ? strtoull(words[2], NULL, 10) : 1);
     printf("%u passed, %u failed\n", passed, failed);
     return failed != 0;

@@ -7,7 +7,7 @@ enum { MOST_CHOICES = 256 };
 static unsigned choice[MOST_CHOICES], options[MOST_CHOICES];
 static size_t made, taken;
 
-static unsigned choose(unsigned below)
+unsigned choose(unsigned below)
 {
     if (taken == made) {
         if (made == MOST_CHOICES)
@@ -30,14 +30,14 @@ static int next_path(void)
 
 /* ── the board ── */
 enum { WORDS = 256, BEHIND = 7 };
-static const KeeperSizes sizes = {.words = WORDS, .records = 2, .frames = 2, .slots = 2, .pages = 2, .accounts = 2};
+static const KeeperSizes sizes = {.words = WORDS, .records = 3, .frames = 2, .slots = 2, .pages = 2, .accounts = 2};
 
 void board_new(Board *board, int wrong, size_t grain, unsigned (*chooses)(unsigned))
 {
     const size_t bytes = keeper_workspace(sizes);
     memset(board, 0, sizeof *board);
     keeper_place(&board->keeper, sizes, malloc(bytes), bytes);
-    board->device = device_new(FILEDISK_BLOCK + FILEDISK_JOURNAL + 9 * FILEDISK_BLOCK, grain, chooses);
+    board->device = device_new(FILEDISK_BLOCK + FILEDISK_JOURNAL + 11 * FILEDISK_BLOCK, grain, chooses);
     board->wrong = wrong;
     if (filedisk_format(&board->disk, device_on(board->device, 0), &board->keeper, NULL) != FILEDISK_GOOD || board->disk.end != board->device->bytes)
         abort();
@@ -97,19 +97,14 @@ static int slot_found(const Board *board)
  * writes and syncs the header, the journal block by block, six tables, and the header. */
 enum { STORE_OPERATIONS = 5, OPEN_OPERATIONS = 6, FORMAT_OPERATIONS = 2 + 17 + 7 + 2 };
 
-/* The store ends somewhere; so do some opens behind it, within or at rest; the last does not. What one has found stays. */
-static int one_path(Board *board, int record, unsigned ends)
+int opens_agree(Board *board, int known, unsigned ends, unsigned operations, int (*found_by)(const Board *))
 {
-    int known = -1;
-    board->disk.blocks = without_on(&board->without, device_on(board->device, 1 + choose(STORE_OPERATIONS)), board->wrong);
-    if ((record ? store_record(board, 1) : store_slot(board)) == 0)
-        known = 1;
     for (unsigned end = 1; end <= ends; end++) {
         device_end(board->device);
-        const int answer = board_open(board, end < ends ? choose(OPEN_OPERATIONS + 1) : 0);
+        const int answer = board_open(board, end < ends ? choose(operations + 1) : 0);
         if (answer == FILEDISK_DEVICE && board->device->ended)
             continue;
-        const int found = answer != FILEDISK_GOOD ? -1 : record ? record_found(board) : slot_found(board);
+        const int found = answer != FILEDISK_GOOD ? -1 : found_by(board);
         if (found < 0 || (known >= 0 && found != known))
             return 0;
         known = found;
@@ -117,7 +112,15 @@ static int one_path(Board *board, int record, unsigned ends)
     return 1;
 }
 
-static Found all_paths(Board *board, int (*path)(Board *, int, unsigned), int record, unsigned ends)
+/* The store ends somewhere; so do some opens behind it. */
+static int one_path(Board *board, int record, unsigned ends)
+{
+    board->disk.blocks = without_on(&board->without, device_on(board->device, 1 + choose(STORE_OPERATIONS)), board->wrong);
+    const int known = (record ? store_record(board, 1) : store_slot(board)) == 0 ? 1 : -1;
+    return opens_agree(board, known, ends, OPEN_OPERATIONS, record ? record_found : slot_found);
+}
+
+Found all_paths(Board *board, int (*path)(Board *, int, unsigned), int record, unsigned ends)
 {
     Found found = {0, 0};
     const FileDisk opened = board->disk;

@@ -1,5 +1,5 @@
 /* Not proved: what the parts of the test of resets share. A device whose every choice is made by `choose` (device.c): all of them, path by path
- * (paths.c), or by chance (torn.c). */
+ * (paths.c, imports.c), or by chance (torn.c). */
 #ifndef RESETS_H
 #define RESETS_H
 
@@ -38,14 +38,22 @@ void board_new(Board *board, int wrong, size_t grain, unsigned (*choose)(unsigne
 void board_free(Board *board);
 int board_open(Board *board, unsigned countdown); /* filedisk_open's answer */
 
-/* Every choice of one store, its reset or cut, and those of the opens behind it; of two stores; and of a format over a disk. How many paths were
- * gone, and how many of these broke a promise. */
+/* Every choice, path by path, from the disk as it is: how many paths were gone, and how many of these broke a promise. */
 typedef struct {
     unsigned long paths, broken;
 } Found;
+unsigned choose(unsigned below);
+Found all_paths(Board *board, int (*path)(Board *, int, unsigned), int record, unsigned ends);
+
+/* So many opens, each of which but the last ends at one of its operations or at rest. What `found_by` says of the disk is 0 or more, and stays: -1 is
+ * broken, and unknown before the first open. */
+int opens_agree(Board *board, int known, unsigned ends, unsigned operations, int (*found_by)(const Board *));
+
+/* The paths of one store, its reset or cut, and the opens behind it; of two stores; of a format over a disk; of an import. */
 Found paths_of_store(int wrong, int record, unsigned ends);
 Found paths_of_two(int wrong);
 Found paths_of_format(int wrong);
+Found paths_of_import(int wrong, unsigned ends);
 
 /* So many stores, torn by chance at that grain: whether each is found whole or not at all, and stays so. */
 Found torn_stores(int wrong, size_t grain, unsigned long stores, uint64_t seed);
