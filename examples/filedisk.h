@@ -70,6 +70,9 @@ int filedisk_file(FileDisk *disk, FileBlocks *blocks, const char *path, int how)
 uint64_t filedisk_bytes(const FileBlocks *blocks);
 void filedisk_close(FileBlocks *blocks);
 
+/* A new file, or a new name of one, is safe only once its folder is synced: that is done. 0, or -1, and errno says why. */
+int filedisk_folder(const char *path);
+
 /* A new disk: all zeros but the parents, then the header. What stood there is gone. The keeper is formatted and restarted too. `wanted`: the
  * parent of each account, or NULL for account 0 everywhere. Nothing but this and filedisk_make formats, so it is for the caller to ask first. */
 int filedisk_format(FileDisk *disk, FileBlocks blocks, Keeper *keeper, const uint16_t *wanted);

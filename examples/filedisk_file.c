@@ -53,8 +53,7 @@ static int file_sync(void *self)
     return 0;
 }
 
-/* A new file is safe only once its folder is synced too. */
-static int sync_folder(const char *path)
+int filedisk_folder(const char *path)
 {
     char copy[4096];
     if (strlen(path) >= sizeof copy) {
@@ -109,7 +108,7 @@ int filedisk_file(FileDisk *disk, FileBlocks *blocks, const char *path, int how)
         close(file);
         return filedisk_refused(disk, FILEDISK_THERE, "it is there already");
     }
-    if (how == FILEDISK_NEW && sync_folder(path) != 0) {
+    if (how == FILEDISK_NEW && filedisk_folder(path) != 0) {
         const int answer = failed(disk, file, "its folder cannot be synced");
         unlink(path); /* it is empty, and this one's own */
         return answer;

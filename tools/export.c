@@ -4,7 +4,6 @@
  * says what to do, and status 1; then nothing of it is left. */
 #define _POSIX_C_SOURCE 200809L
 #include <fcntl.h>
-#include <libgen.h>
 #include <unistd.h>
 #include "packs.h"
 #include "sheets.h"
@@ -69,22 +68,6 @@ static int named(const char *new, const char *path, int replaces)
     return access(path, F_OK) == 0 ? -1 : rename(new, path);
 }
 
-/* A name is safe once its folder is. */
-static int folder_synced(const char *path)
-{
-    char copy[4096];
-    if (strlen(path) >= sizeof copy) {
-        errno = ENAMETOOLONG;
-        return -1;
-    }
-    strcpy(copy, path);
-    const int folder = open(dirname(copy), O_RDONLY | O_CLOEXEC);
-    const int bad = folder < 0 || synced(folder) != 0;
-    if (folder >= 0)
-        close(folder);
-    return bad ? -1 : 0;
-}
-
 static int put_sheet(const char *path, const uint8_t *bytes, size_t count, int replaces)
 {
     char new[4096];
@@ -98,7 +81,7 @@ static int put_sheet(const char *path, const uint8_t *bytes, size_t count, int r
         errno = why;
         return why == EEXIST ? complain("export", path, "it is there already: name another file, or say REPLACE=1") : failed(path, "it cannot be named");
     }
-    return folder_synced(path) == 0 ? 0 : failed(path, "it is written, but its folder cannot be synced: a power cut may lose it");
+    return filedisk_folder(path) == 0 ? 0 : failed(path, "it is written, but its folder cannot be synced: a power cut may lose it");
 }
 
 /* A sheet may be replaced, and what is not there yet; no other file. */
@@ -109,11 +92,13 @@ static int may_replace(const char *path)
     if (access(path, F_OK) != 0)
         return 1;
     uint8_t *bytes = read_sheet("export", path, &count);
-    const char *wrong = bytes ? take_apart(bytes, count, &sheet, &where) : NULL;
+    if (bytes == NULL)
+        return 0;
+    const char *wrong = take_apart(bytes, count, &sheet, &where);
     free(bytes);
     if (wrong != NULL)
         complain("export", path, "it is there and is no sheet: it is left alone");
-    return bytes != NULL && wrong == NULL;
+    return wrong == NULL;
 }
 
 /* The slots that have a design. */
