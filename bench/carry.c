@@ -1,5 +1,6 @@
-/* Design sheets: export and import of a design all of whose pages have words, by the proved keeper and by the C port. bench/run.py builds it and makes the table.
-   carry SIZE SECONDS prints the least times in nanoseconds; carry SIZE makes each call once, for callgrind to count, a file for each. */
+/* Design sheets: export and import of designs that differ in their words, by the proved keeper and by the C port. bench/run.py builds it and makes the table.
+   carry SIZE SECONDS prints the least times in nanoseconds; carry SIZE makes each call of each design once, for callgrind to count, a file for each. */
+#include <stdbool.h>
 #include <stdio.h>
 #include <stdlib.h>
 #include "clock.h"
@@ -17,6 +18,9 @@
 
 enum { EXPORTS, IMPORTS, KINDS, SIDES = 2, NEW_NUMBER = 1000 };
 static const char *const names[KINDS] = {"export", "import"};
+enum { NONE_ZERO, FIRST_ZERO, LAST_ALONE, HALF_ZERO, HALF_PAGES, DESIGNS };
+static const char *const designs[DESIGNS] = /* by their words */
+    {"none is 0", "the first of each page is 0", "all but the last of each page are 0", "half are 0, by chance", "half of the pages are zeros, by chance"};
 static const KeeperSizes middle = {64, 512, 16, 16, 64, 4};
 static const KeeperSizes largest = {KEEPER_MOST_WORDS, KEEPER_MOST_RECORDS, KEEPER_MOST_FRAMES, KEEPER_MOST_SLOTS, KEEPER_MOST_PAGES, KEEPER_MOST_ACCOUNTS};
 
@@ -61,15 +65,33 @@ static void lay(KeeperSizes z)
     sheet = space(room), written = space(room), entries = space(z.pages * sizeof *entries);
 }
 
+static size_t by_chance(size_t below)
+{
+    static uint64_t chance = 1;
+    chance = chance * 6364136223846793005u + 1442695040888963407u;
+    return (size_t)(chance >> 33) % below;
+}
+
+/* The words of every record, as the design says. */
+static void fill_words(int design)
+{
+    const size_t words = lent.sizes.words;
+    bool page_zero = false;
+    for (size_t at = 0; at < lent.sizes.records * words; at++) {
+        const bool first = at % words == 0, last = at % words == words - 1;
+        page_zero = first ? by_chance(2) == 0 : page_zero;
+        const bool zero[DESIGNS] = {false, first, !last, by_chance(2) == 0, page_zero};
+        lent.records[at] = zero[design] ? 0 : (uint32_t)at * 2654435761u | 1;
+    }
+}
+
 /* Design 1 in slot 0 with all its pages, others behind it; so many records are free as it has pages. Who lists a record is by chance. */
 static void fill(void)
 {
     const KeeperSizes z = lent.sizes;
     static uint16_t order[KEEPER_MOST_RECORDS];
-    uint64_t chance = 1;
     for (size_t at = 0; at < z.records; at++) {
-        chance = chance * 6364136223846793005u + 1442695040888963407u;
-        const size_t other = (size_t)(chance >> 33) % (at + 1);
+        const size_t other = by_chance(at + 1);
         order[at] = order[other];
         order[other] = (uint16_t)(at + 1);
     }
@@ -77,8 +99,6 @@ static void fill(void)
         lent.maps[at] = order[at];
         lent.numbers[at / z.pages] = (uint32_t)(at / z.pages) + 1;
     }
-    for (size_t word = 0; word < z.records * z.words; word++)
-        lent.records[word] = (uint32_t)word * 2654435761u | 1;
     for (size_t account = 0; account < z.accounts; account++)
         lent.limits[account] = UINT16_MAX;
     if (c_port_restart(&port).refusal != 0)
@@ -115,23 +135,22 @@ static void check(int kind, size_t result)
 }
 
 /* The sheet and the map that both sides must make: the C port's; and that the words come back. */
-static void prepare(KeeperSizes sizes)
+static void prepare(int design)
 {
-    lay(sizes);
-    fill();
-    const size_t slot = sizes.slots - 1;
+    fill_words(design);
+    const size_t pages = lent.sizes.pages, slot = lent.sizes.slots - 1;
     length = c_port_export(&port, 0, sheet, room).result;
-    if (length != room || c_port_import(&port, slot, 0, NEW_NUMBER, sheet, length).result != 1)
-        fail("no full design");
-    memcpy(entries, lent.maps + slot * sizes.pages, sizes.pages * sizeof *entries);
-    if (c_port_export(&port, slot, written, room).result != room || memcmp(sheet + 14, written + 14, room - 14) != 0)
+    if ((length == room) != (design != HALF_PAGES) || c_port_import(&port, slot, 0, NEW_NUMBER, sheet, length).result != 1)
+        fail("another design");
+    memcpy(entries, lent.maps + slot * pages, pages * sizeof *entries);
+    if (c_port_export(&port, slot, written, room).result != length || memcmp(sheet + 14, written + 14, length - 14) != 0)
         fail("other words");
     check(IMPORTS, 1);
     for (int turn = 0; turn < KINDS * SIDES; turn++) /* so that no first call of a library function is counted */
         check(turn / SIDES, call(turn / SIDES, turn % SIDES));
 }
 
-static void measure(double wanted)
+static void measure(int design, double wanted)
 {
     uint64_t least[KINDS][SIDES], from = ticks(), own = UINT64_MAX;
     memset(least, 0xFF, sizeof least);
@@ -148,12 +167,11 @@ static void measure(double wanted)
             *best = took < *best ? took : *best;
         }
     const double nanoseconds = (seconds() - begun) * 1e9 / (double)(ticks() - from);
-    printf("rounds\t%ld\n", rounds);
     for (int kind = 0; kind < KINDS; kind++)
-        printf("%s\t%.0f\t%.0f\n", names[kind], (double)(least[kind][0] - own) * nanoseconds, (double)(least[kind][1] - own) * nanoseconds);
+        printf("%s: %s\t%.0f\t%.0f\n", names[kind], designs[design], (double)(least[kind][0] - own) * nanoseconds, (double)(least[kind][1] - own) * nanoseconds);
 }
 
-static void count(void)
+static void count(int design)
 {
     for (int turn = 0; turn < KINDS * SIDES; turn++) {
         callgrind(START);
@@ -162,7 +180,7 @@ static void count(void)
         callgrind(DUMP);
         check(turn / SIDES, result);
         if (turn % SIDES == 0)
-            printf("%s\n", names[turn / SIDES]);
+            printf("%s: %s\n", names[turn / SIDES], designs[design]);
     }
 }
 
@@ -170,10 +188,14 @@ int main(int words, char **word)
 {
     if (words < 2)
         fail("carry middle|largest [SECONDS]");
-    prepare(strcmp(word[1], "largest") == 0 ? largest : middle);
-    if (words > 2)
-        measure(atof(word[2]));
-    else
-        count();
+    lay(strcmp(word[1], "largest") == 0 ? largest : middle);
+    fill();
+    for (int design = 0; design < DESIGNS; design++) {
+        prepare(design);
+        if (words > 2)
+            measure(design, atof(word[2]) / DESIGNS);
+        else
+            count(design);
+    }
     return 0;
 }

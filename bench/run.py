@@ -158,15 +158,16 @@ def sheets(names):
     """The table of design sheets, for the sizes by their names."""
     print("sheets ..", file=sys.stderr)
     output(*GCC, "-std=gnu11", "-o", str(CARRY), "bench/carry.c", *built_port("c"), str(LIBRARY))
-    yield "### Design sheets: a design all of whose pages have words\n"
+    yield "### Design sheets: a design all of whose pages are listed\n"
     yield "Export and import of it, into an empty slot while as many records are free as it has pages; who lists the others is by chance. Nanoseconds a call.\n"
-    yield "| size | call | keeper | C | keeper/C | instructions keeper/C | keeper instructions | C instructions |\n|---|---|" + "--:|" * 6
+    yield "| size | call | of the words | keeper | C | keeper/C | instructions keeper/C | keeper instructions | C instructions |\n|---|---|---|" + "--:|" * 6
     for size, name in names.items():
         times, counts = fields(output(str(CARRY), size, SECONDS)), counted_calls(CARRY, 2, size)
-        for call in counts:
-            keeper, c_port = map(float, times[call])
-            own, other = counts[call]
-            yield f"| {name} | {call} | {keeper:,.0f} | {c_port:,.0f} | {keeper / c_port:.2f} | {own / other:.2f} | {own:,} | {other:,} |"
+        for case in counts:
+            call, design = case.split(": ")
+            keeper, c_port = map(float, times[case])
+            own, other = counts[case]
+            yield f"| {name} | {call} | {design} | {keeper:,.0f} | {c_port:,.0f} | {keeper / c_port:.2f} | {own / other:.2f} | {own:,} | {other:,} |"
     yield ""
 
 

@@ -28,10 +28,6 @@ module _ (w : ℕ) (records : List ℕ) (entry : ℕ) where
     pub room : Listed w entry records → (entry - 1) * w + w ≤ length records
     room l = subst (λ (r : ℕ). r * w + w ≤ length records) (sym before) (l (pred entry) (not-zero entry some))
 
-    -- its first word shows it
-    pub shown-first : 0 < w → ¬ (at records ((entry - 1) * w) ≡ 0) → true ≡ not (test (blank w (textOf w records entry)))
-    shown-first l d = ap not (sym (untold (blank w (textOf w records entry)) (λ f. d (ap (at records) (omega arith) ∙ text-is 0 ∙ f 0 l))))
-
     pub shown-by : (b : Bool) → b ≡ test (each w (λ j. same (at records ((entry - 1) * w + j)) 0)) → not b ≡ not (test (blank w (textOf w records entry)))
     shown-by b e = ap not (e ∙ alike (each w (λ j. same (at records ((entry - 1) * w + j)) 0)) (blank w (textOf w records entry)) (λ f j h. sym (text-is j) ∙ f j h) (λ f j h. text-is j ∙ f j h))
 

@@ -9,7 +9,7 @@ ghost use Rattle.carrying.specs.Texts.{textOf, Listed, shownText, slotTe
 ghost use Rattle.carrying.specs.Exports.{Exporting, enteredExport, handed, exportOf};
 use designs::asks::ask_activate;
 use leaves::cells::at32;
-use leaves::words::zeros;
+use leaves::words::all_zero;
 use model::event::Answer;
 use model::refusals::SHEET_SHORT;
 use model::sizes::Sizes;
@@ -25,11 +25,7 @@ fn is_shown(records: &[u32], w: usize, entry: u16) -> bool
     if entry == 0 {
         return false;
     }
-    let start = (entry as usize - 1) * w;
-    if records[start] != 0 {
-        return true;
-    }
-    !zeros(records, start, w)
+    !all_zero(records, w, entry as usize - 1)
 }
 
 // The field of a page that is not all zeros; nothing of one that is. The result is where the next one starts.

@@ -5,22 +5,44 @@ ghost use lib.ListN.{length, set};
 ghost use Rattle.tables.specs.Base.{at};
 ghost use Rattle.tables.specs.Rule.{same};
 ghost use Rattle.tables.specs.Store.{store};
+ghost use Rattle.tables.specs.StoreLoops.{between};
 ghost use Rattle.sheets.specs.Sheet.{wordsIn, placeOf, wordIn};
 use leaves::cells::put16;
 use leaves::cells::put32;
 use sheets::read::word_in;
 
-// One store: a record takes the words of the k-th page of a sheet.
+// So many words of the k-th page of a sheet, from the first one named on, go to their places in a record.
+fn store_words(
+    records: &mut [u32],
+    w: usize,
+    target: usize,
+    sheet: &[u8],
+    k: usize,
+    first: usize,
+    n: usize,
+)
+    requires { ⌜ (first + n ≤ w) × (w < 65536) × (k < 65536) × (w ≡ wordsIn (now sheet)) × (placeOf (now sheet) k + (5 + 4 * w) ≤ length (now sheet)) × (target * w + w ≤ length (now records)) ⌝ }
+    ensures { λ _. ⌜ now (records .exit) ≡ store (now (records .entry)) (between (target * w + first) (target * w + first + n)) (λ i. wordIn (now (sheet .entry)) k (i % w)) ⌝ }
+{
+    let start = target * w + first;
+    let mut j = 0;
+    while j < n {
+        records[start + j] = word_in(sheet, w, k, first + j);
+        j += 1;
+    }
+}
+
+// One store: a record takes the words of the k-th page of a sheet, eight a turn.
 pub fn store_record(records: &mut [u32], w: usize, target: usize, sheet: &[u8], k: usize)
     requires { ⌜ (0 < w) × (w < 65536) × (k < 65536) × (w ≡ wordsIn (now sheet)) × (placeOf (now sheet) k + (5 + 4 * w) ≤ length (now sheet)) × (target * w + w ≤ length (now records)) ⌝ }
     ensures { λ _. ⌜ now (records .exit) ≡ store (now (records .entry)) (λ i. same (i / w) target) (λ i. wordIn (now (sheet .entry)) k (i % w)) ⌝ }
 {
-    let start = target * w;
     let mut j = 0;
-    while j < w {
-        records[start + j] = word_in(sheet, w, k, j);
-        j += 1;
+    while w - j >= 8 {
+        store_words(records, w, target, sheet, k, j, 8);
+        j += 8;
     }
+    store_words(records, w, target, sheet, k, j, w - j);
 }
 
 // The slot's entries of the map, from a table of one design's.

@@ -48,10 +48,18 @@ pub fn zeros(words: &[u32], start: usize, size: usize) -> bool
     ok
 }
 
-// Whether all words of the part are 0.
+// Whether all words of the part are 0: sixteen are compared at once, and the first sixteen that are not all 0 decide.
 pub fn all_zero(words: &[u32], size: usize, part: usize) -> bool
     requires { ⌜ part * size + size ≤ length (now words) ⌝ }
     ensures { λ r. ⌜ r ≡ test (each size (λ w. same (at (now (words .entry)) (part * size + w)) 0)) ⌝ }
 {
-    zeros(words, part * size, size)
+    let start = part * size;
+    let mut w = 0;
+    while size - w >= 16 {
+        if zeros(words, start + w, 16) {} else {
+            return false;
+        }
+        w += 16;
+    }
+    zeros(words, start + w, size - w)
 }

@@ -10,7 +10,7 @@ use lib.Dec.{eqb, ltb, leb}
 use lib.ListN.{length}
 use borrow.Author.Tests.{eq-eqb, ne-eqb}
 use Rattle.tables.specs.Base.{at, if}
-use Rattle.tables.specs.Rule.{Rule, Holds, same, each, test, sound, complete, told, untold}
+use Rattle.tables.specs.Rule.{Rule, Holds, test, sound, complete, told, untold}
 use Rattle.sheets.specs.declared.read.Parsed.the-variants.{Of, Wrong}
 use Rattle.sheets.specs.Laws.Formed.{Formed, formed, has-form}
 use Rattle.sheets.specs.Sheet.{number, headed, blank, wordsIn, pagesIn, numberIn, countIn, placeOf, pageAt, wordAt, leastIn, pageIn, fieldFits, pageFits, form, parsed}
@@ -22,14 +22,6 @@ module _ (s : List ℕ) (i tag size : ℕ) where
   pub by-size : at s i ≡ tag → (x : ℕ) → x ≡ number 2 0 s (i + 1) → eqb x size ≡ test (headed s i tag size)
   unfolding test
   by-size e x f = rw (eq-eqb (at s i) tag e, f)
-
--- all of the first w numbers are zero
-module _ (w : ℕ) (g : ℕ → ℕ) where
-  pub zero-all : ((j : ℕ) → j < w → g j ≡ 0) → true ≡ test (each w (λ j. same (g j) 0))
-  zero-all f = sym (told (each w (λ j. same (g j) 0)) f)
-
-  pub not-zero-at : (j : ℕ) → j < w → ¬ (g j ≡ 0) → false ≡ test (each w (λ j. same (g j) 0))
-  not-zero-at j l d = sym (untold (each w (λ j. same (g j) 0)) (λ h. d (h j l)))
 
 -- a test that says no, and one that says yes
 pub says-no : (r : Rule) → test r ≡ false → ¬ (Holds r)

@@ -2,6 +2,7 @@
 ghost use mathlib.Core.Path.{_≡_};
 ghost use Prim.Native.Nat.{_+_, _*_, _≤_, _<_};
 ghost use lib.ListN.{length};
+ghost use Rattle.tables.specs.Base.{at};
 ghost use Rattle.tables.specs.Rule.{each, same, test};
 ghost use Rattle.sheets.specs.Sheet.{number, wordsIn, pagesIn, placeOf, pageIn, wordIn, pageFits, fieldFits, headed, parsed};
 
@@ -53,21 +54,41 @@ fn is_headed(s: &[u8], from: usize, tag: u8, size: u32) -> bool
     number_at(s, from + 1, 2) == size
 }
 
-// The w words from a place on are all zeros.
+// Whether so many bytes from a place on are 0: all are looked at, so that many are compared at once.
+fn zeros(s: &[u8], from: usize, n: usize) -> bool
+    requires { ⌜ from + n ≤ length (now s) ⌝ }
+    ensures { λ r. ⌜ r ≡ test (each n (λ k. same (at (now (s .entry)) (from + k)) 0)) ⌝ }
+{
+    let mut ok = true;
+    let mut k = 0;
+    while k < n {
+        ok = ok & (s[from + k] == 0);
+        k += 1;
+    }
+    ok
+}
+
+// Whether so many bytes from a place on are 0: 32 are compared at once, and the first 32 that are not all 0 decide.
+fn all_zero(s: &[u8], from: usize, n: usize) -> bool
+    requires { ⌜ from + n ≤ length (now s) ⌝ }
+    ensures { λ r. ⌜ r ≡ test (each n (λ k. same (at (now (s .entry)) (from + k)) 0)) ⌝ }
+{
+    let mut k = 0;
+    while n - k >= 32 {
+        if zeros(s, from + k, 32) {} else {
+            return false;
+        }
+        k += 32;
+    }
+    zeros(s, from + k, n - k)
+}
+
+// The w words from a place on are all zeros: so are their bytes.
 fn is_blank(s: &[u8], from: usize, w: usize) -> bool
     requires { ⌜ from + 4 * w ≤ length (now s) ⌝ }
     ensures { λ r. ⌜ r ≡ test (each w (λ j. same (number 4 0 (now (s .entry)) (from + 4 * j)) 0)) ⌝ }
 {
-    let mut j = 0;
-    let mut place = from;
-    while j < w {
-        if number_at(s, place, 4) != 0 {
-            return false;
-        }
-        place += 4;
-        j += 1;
-    }
-    true
+    all_zero(s, from, 4 * w)
 }
 
 // A page's field starts at a place: its length, a page below n, none below the least, not all zeros.
