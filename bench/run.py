@@ -83,7 +83,7 @@ def measured(size):
 
 def built_alone():
     """A library of the proved search alone: a crate of bench/alone.txt beside the crates that it needs, as they are proved."""
-    needs = ["tables", "model", "leaves"]
+    needs = ["tables", "sheets", "model", "leaves"]
     for folder in ["crates/alone/src", "target/rlib", "target/stamp", "target/log"]:
         (ALONE / folder).mkdir(parents=True, exist_ok=True)
     for name in needs:
