@@ -16,7 +16,7 @@
 #define keeper_import c_port_import
 #include "keeper.h"
 
-enum { EXPORTS, IMPORTS, KINDS, SIDES = 2, NEW_NUMBER = 1000 };
+enum { EXPORTS, IMPORTS, KINDS, SIDES = 2, OLD_NUMBER = 999, NEW_NUMBER };
 static const char *const names[KINDS] = {"export", "import"};
 enum { NONE_ZERO, FIRST_ZERO, LAST_ALONE, HALF_ZERO, HALF_PAGES, DESIGNS };
 static const char *const designs[DESIGNS] = /* by their words */
@@ -53,7 +53,7 @@ static void lay(KeeperSizes z)
     port = (struct keeper){
         {z.words, z.records, z.frames, z.slots, z.pages, z.accounts},
         {SLICE(lent.records, z.records * z.words), SLICE(lent.numbers, z.slots), SLICE(lent.accounts, z.slots), SLICE(lent.maps, pages),
-         SLICE(lent.limits, z.accounts), SLICE(lent.parents, z.accounts)},
+         SLICE(lent.limits, z.accounts), SLICE(lent.parents, z.accounts), SLICE(lent.highest, 1)},
         {SLICE((struct frame *)lent.frames, z.frames), SLICE(lent.frame_words, z.frames * z.words), SLICE(lent.free_queue, z.frames),
          SLICE(lent.removal_list, z.frames), SLICE(lent.addresses, pages), SLICE(lent.states, z.records), SLICE(lent.owners, z.records),
          SLICE(lent.free_map, (z.records + 31) / 32), SLICE(lent.active, z.slots), SLICE(lent.updating, z.slots), SLICE(lent.images, pages),
@@ -127,10 +127,11 @@ static void check(int kind, size_t result)
         fail("another sheet");
     if (kind == EXPORTS)
         return;
-    if (result != 1 || lent.numbers[slot] != NEW_NUMBER || memcmp(lent.maps + slot * pages, entries, pages * sizeof *entries) != 0)
+    if (result != 1 || lent.numbers[slot] != NEW_NUMBER || lent.highest[0] != NEW_NUMBER || memcmp(lent.maps + slot * pages, entries, pages * sizeof *entries) != 0)
         fail("another import");
     memcpy(lent.frames, memory_before, memory_bytes);
     lent.numbers[slot] = 0;
+    lent.highest[0] = OLD_NUMBER;
     memset(lent.maps + slot * pages, 0, pages * sizeof *entries);
 }
 

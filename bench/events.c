@@ -322,10 +322,17 @@ static void page_done(struct keeper *k, size_t number, bool good)
     }
 }
 
-static void create(struct keeper *k, size_t slot, uint16_t account, uint32_t number)
+static void name_slot(struct keeper *k, size_t slot, uint16_t account, uint32_t number)
 {
     k->disk.numbers.at[slot] = number;
     k->disk.accounts.at[slot] = account;
+}
+
+/* Two stores, the highest first: a cut between them skips a number. */
+static void create(struct keeper *k, size_t slot, uint16_t account, uint32_t number)
+{
+    k->disk.highest.at[0] = number;
+    name_slot(k, slot, account, number);
 }
 
 /* The first request leaves the line, or goes to its back. */
@@ -356,7 +363,7 @@ uint32_t carry_out(struct keeper *k, const struct request *r)
     size_t pages = k->sizes.pages, page = r->first * pages + r->second;
     switch (r->kind) {
     case CREATE: create(k, r->first, (uint16_t)r->second, r->third); break;
-    case DELETE: create(k, r->first, 0, 0); break;
+    case DELETE: name_slot(k, r->first, 0, 0); break;
     case ACTIVATE: activate(k, r->first); break;
     case DEACTIVATE: deactivate(k, r->first); break;
     case FAULT: return fault(k, page);

@@ -25,6 +25,7 @@ struct answer keeper_format(struct keeper *k, const uint16_t *wanted, size_t wan
     memset(k->disk.limits.at, 0, k->disk.limits.len * sizeof *k->disk.limits.at);
     memmove(k->disk.parents.at, wanted, k->disk.parents.len * sizeof *k->disk.parents.at);
     k->disk.parents.at[0] = 0;
+    k->disk.highest.at[0] = 0;
     return refused(0);
 }
 
@@ -45,6 +46,14 @@ static void clear_memory(struct memory *m)
     *m->pool = (struct pool){0};
 }
 
+/* The highest number that was ever given, where an older pack does not have it: that of a slot. */
+static void store_highest(struct disk *d)
+{
+    for (size_t slot = 0; slot < d->numbers.len; slot++)
+        if (d->numbers.at[slot] <= INT32_MAX && d->numbers.at[slot] > d->highest.at[0])
+            d->highest.at[0] = d->numbers.at[slot];
+}
+
 struct answer keeper_restart(struct keeper *k)
 {
     struct memory *m = &k->memory;
@@ -52,6 +61,7 @@ struct answer keeper_restart(struct keeper *k)
         return refused(1);
     if (!keeps_disk_rules(k))
         return refused(2);
+    store_highest(&k->disk);
     clear_memory(m);
     for (size_t frame = 0; frame < k->sizes.frames; frame++)
         m->free_queue.at[frame] = (uint16_t)(frame + 1);

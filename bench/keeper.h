@@ -39,6 +39,7 @@ struct disk {
     struct halves maps;
     struct halves limits;
     struct halves parents;
+    struct words highest;
 };
 
 struct memory {

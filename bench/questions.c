@@ -1,4 +1,4 @@
-/* Questions 3 to 27, in number order for each event, and 32 just after 3. Those of the sheets are in sheets.c. */
+/* Questions 3 to 27, in number order for each event, 32 just after 3 and 33 just after 6. Those of the sheets are in sheets.c. */
 #include "inside.h"
 
 static bool in_range(const struct keeper *k, const struct request *r)
@@ -29,7 +29,7 @@ uint32_t refuses_create(const struct keeper *k, size_t slot, uint32_t number)
     for (size_t other = 0; other < k->sizes.slots; other++)
         if (k->disk.numbers.at[other] == number)
             return 6;
-    return 0;
+    return number > k->disk.highest.at[0] ? 0 : 33;
 }
 
 static uint32_t delete(const struct keeper *k, size_t slot)

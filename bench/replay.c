@@ -14,6 +14,7 @@ static uint16_t accounts[S];
 static uint16_t maps[S * N];
 static uint16_t limits[Q];
 static uint16_t parents[Q];
+static uint32_t highest[1];
 static struct frame frames[F];
 static uint32_t frame_words[F * W];
 static uint16_t free_queue[F];
@@ -38,6 +39,7 @@ static struct keeper keeper = {
         SLICE(maps),
         SLICE(limits),
         SLICE(parents),
+        SLICE(highest),
     },
     .memory = {
         SLICE(frames),

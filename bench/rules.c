@@ -16,7 +16,7 @@ bool fits_disk(const struct keeper *k)
     const struct disk *d = &k->disk;
     return sizes_within(z) && d->records.len == z->records * z->words && d->numbers.len == z->slots
         && d->accounts.len == z->slots && d->maps.len == z->slots * z->pages && d->limits.len == z->accounts
-        && d->parents.len == z->accounts;
+        && d->parents.len == z->accounts && d->highest.len == 1;
 }
 
 bool fits_memory(const struct keeper *k)

@@ -25,6 +25,7 @@ enum { W = 1, F = MOST_FRAMES, S = MOST_SLOTS, N = MOST_PAGES, Q = MOST_ACCOUNTS
 static struct {
     uint32_t records[R * W], numbers[S];
     uint16_t accounts[S], maps[S * N], limits[Q], parents[Q];
+    uint32_t highest[1];
 } disk;
 static struct tables {
     struct frame frames[F];
@@ -40,7 +41,8 @@ static struct tables {
 #define SLICE(table) {table, sizeof table / sizeof *table}
 static struct keeper keeper = {
     {W, R, F, S, N, Q},
-    {SLICE(disk.records), SLICE(disk.numbers), SLICE(disk.accounts), SLICE(disk.maps), SLICE(disk.limits), SLICE(disk.parents)},
+    {SLICE(disk.records), SLICE(disk.numbers), SLICE(disk.accounts), SLICE(disk.maps), SLICE(disk.limits), SLICE(disk.parents),
+     SLICE(disk.highest)},
     {SLICE(memory.frames), SLICE(memory.frame_words), SLICE(memory.free_queue), SLICE(memory.removal_list), SLICE(memory.addresses),
      SLICE(memory.states), SLICE(memory.owners), SLICE(memory.free_map), SLICE(memory.active), SLICE(memory.updating), SLICE(memory.images),
      SLICE(memory.line), SLICE(memory.used), &memory.pool},
@@ -84,8 +86,8 @@ __attribute__((noinline)) static size_t call(int side, size_t page)
     struct disk *d = &keeper.disk;
     struct memory *m = &keeper.memory;
     return keeper_apply(sizes, asked, (KeeperFrame *)m->frames.at, m->frames.len, (KeeperPool *)m->pool, LENT(d->records), LENT(d->numbers),
-                        LENT(d->accounts), LENT(d->maps), LENT(d->limits), LENT(d->parents), LENT(m->frame_words), LENT(m->free_queue),
-                        LENT(m->removal_list), LENT(m->addresses), LENT(m->states), LENT(m->owners), LENT(m->free_map), LENT(m->active), LENT(m->updating),
+                        LENT(d->accounts), LENT(d->maps), LENT(d->limits), LENT(d->parents), LENT(d->highest), LENT(m->frame_words),
+                        LENT(m->free_queue), LENT(m->removal_list), LENT(m->addresses), LENT(m->states), LENT(m->owners), LENT(m->free_map), LENT(m->active), LENT(m->updating),
                         LENT(m->images), LENT(m->line), LENT(m->used)).refusal;
 }
 

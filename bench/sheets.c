@@ -180,6 +180,7 @@ struct answer keeper_import(struct keeper *k, size_t slot, size_t account, uint3
         refusal = refuses_sheet(k, account, bytes, count, &sheet);
     if (refusal != 0)
         return (struct answer){.refusal = refusal};
+    k->disk.highest.at[0] = number;
     store_pages(k, slot, &sheet, map);
     k->memory.used.at[payer(k, k->disk.limits.at, account)] += (uint16_t)sheet.count;
     k->disk.numbers.at[slot] = number;

@@ -17,8 +17,8 @@ enum { VERSION = 8, SIZE_COUNT = 12, TABLE_COUNT = 16, SIZES = 20, WIDTHS = SIZE
 
 /* How many tables each version has, the first of those that there are now; versions before FRAMELESS have F among their sizes. */
 enum { FRAMELESS = 3 };
-static const uint32_t TABLES[FILEDISK_VERSION + 1] = {0, 5, 6, KEEPER_DISK_COUNT};
-KEEPER_ASSERT(FILEDISK_VERSION == 3 && KEEPER_DISK_COUNT == 6, "another table is another version of the layout");
+static const uint32_t TABLES[FILEDISK_VERSION + 1] = {0, 5, 6, 6, KEEPER_DISK_COUNT};
+KEEPER_ASSERT(FILEDISK_VERSION == 4 && KEEPER_DISK_COUNT == 7, "another table is another version of the layout");
 
 static uint32_t field(const unsigned char *block, size_t at)
 {
@@ -249,6 +249,21 @@ int filedisk_read(FileDisk *disk, FileBlocks blocks, Keeper *keeper)
     return FILEDISK_GOOD;
 }
 
+int filedisk_store_highest(FileDisk *disk, const Keeper *keeper)
+{
+    const FilePiece piece = {KEEPER_TABLE_HIGHEST, 0, 1, keeper->highest};
+    return filedisk_store(disk, &piece, 1);
+}
+
+/* The restart, with its own one store: the highest number, where an older pack has a lower one. */
+static int restarted(FileDisk *disk, Keeper *keeper)
+{
+    const uint32_t highest = keeper->highest[0], refusal = keeper_easy_restart(keeper).refusal;
+    if (refusal != KEEPER_DONE)
+        return filedisk_refused(disk, FILEDISK_RESTART, keeper_text(refusal));
+    return keeper->highest[0] == highest || filedisk_store_highest(disk, keeper) == 0 ? FILEDISK_GOOD : FILEDISK_DEVICE;
+}
+
 int filedisk_open(FileDisk *disk, FileBlocks blocks, Keeper *keeper)
 {
     unsigned char block[FILEDISK_BLOCK];
@@ -267,8 +282,5 @@ int filedisk_open(FileDisk *disk, FileBlocks blocks, Keeper *keeper)
         return filedisk_refused(disk, FILEDISK_DEVICE, "the device failed: the journal cannot be read, or its store not brought to its places");
     if (get_tables(disk, keeper, NULL) != 0)
         return filedisk_refused(disk, FILEDISK_DEVICE, "the device failed: the disk part cannot be read");
-    const uint32_t refusal = keeper_easy_restart(keeper).refusal;
-    if (refusal != KEEPER_DONE)
-        return filedisk_refused(disk, FILEDISK_RESTART, keeper_text(refusal));
-    return FILEDISK_GOOD;
+    return restarted(disk, keeper);
 }

@@ -4,10 +4,12 @@
  *
  *        0   the header block, 512 bytes: magic, version, the sizes, the tables' widths and lengths, and a checksum of these
  *      512   the journal, FILEDISK_JOURNAL bytes: the last store, whole, with its checksum
- *   then     the tables of the disk part, in the order of tools/tables.txt: records, numbers, accounts, maps, limits, parents
+ *   then     the tables of the disk part, in the order of tools/tables.txt: records, numbers, accounts, maps, limits, parents,
+ *            highest
  *
  * Version 1 has no parents, version 2 has them. Both have F among the sizes; since version 3 a 0 stands there: the number of frames is no part of
- * a disk. filedisk_sizes and filedisk_read know all three, the others the last alone (make convert makes it of the older ones).
+ * a disk. Version 4 has the highest number. filedisk_sizes and filedisk_read know all four, the others the last alone (make convert makes it of the
+ * older ones).
  *
  * A store goes to the journal first; that is synced; then it goes to its places; that is synced too. A cut in the first half leaves the
  * places alone (the journal's checksum is wrong then, or it holds the store before, which is in its places already); a cut in the second
@@ -25,7 +27,7 @@
 extern "C" {
 #endif
 
-enum { FILEDISK_VERSION = 3, FILEDISK_BLOCK = 512, FILEDISK_JOURNAL = 8192, FILEDISK_MOST_PIECES = 8 };
+enum { FILEDISK_VERSION = 4, FILEDISK_BLOCK = 512, FILEDISK_JOURNAL = 8192, FILEDISK_MOST_PIECES = 8 };
 
 /* A device of bytes. Each answers 0, or -1 if it failed. What was written is safe once a later sync has answered 0. */
 typedef struct {
@@ -78,7 +80,7 @@ int filedisk_folder(const char *path);
 int filedisk_format(FileDisk *disk, FileBlocks blocks, Keeper *keeper, const uint16_t *wanted);
 
 /* A disk after a cut or a reset: the header is checked, and that the device is as long as it says. Up to there nothing is written. Then the journal's
- * store is brought to its places, the disk part read, the keeper restarted. */
+ * store is brought to its places, the disk part read, the keeper restarted; and if that changed the highest number, it is stored. */
 int filedisk_open(FileDisk *disk, FileBlocks blocks, Keeper *keeper);
 
 /* The sizes that a disk of this or an older version was formatted with, by its header; it must be as long as that says. The frames are 1. */
@@ -104,14 +106,16 @@ int filedisk_store(FileDisk *disk, const FilePiece *pieces, size_t count);
 /* The refusal that tells that the disk is dead: the keeper has carried it out, but nobody knows whether its store will land. */
 #define FILEDISK_DIED UINT32_MAX
 
-/* The events that store by themselves: the call, then its store. The keeper's answer, or FILEDISK_DIED. */
+/* The events that store by themselves: the call, then its store. The keeper's answer, or FILEDISK_DIED. A create has two, the highest number and then
+ * the slot: if a cut comes between them, the slot is empty and the number is skipped. */
 KeeperAnswer filedisk_limit(FileDisk *disk, Keeper *keeper, uint32_t account, uint32_t pages);
 KeeperAnswer filedisk_move(FileDisk *disk, Keeper *keeper, uint32_t giver, uint32_t taker, uint32_t pages);
 KeeperAnswer filedisk_create(FileDisk *disk, Keeper *keeper, uint32_t slot, uint32_t account, uint32_t number);
 KeeperAnswer filedisk_delete(FileDisk *disk, Keeper *keeper, uint32_t slot);
 
-/* An import: the call, then each record that it has filled as a store of its own, pages rising, then the slot as one store: number, account, map. If a
- * cut comes before the last, the slot is empty and the records are free. An export stores nothing: keeper_easy_export. */
+/* An import: the call, then the highest number, then each record that it has filled as a store of its own, pages rising, then the slot as one store:
+ * number, account, map. If a cut comes before the last, the slot is empty, the records are free, and the number is skipped, if it came to the
+ * device. An export stores nothing: keeper_easy_export. */
 KeeperAnswer filedisk_import(FileDisk *disk, Keeper *keeper, uint32_t slot, uint32_t account, uint32_t number, const uint8_t *sheet, size_t bytes);
 
 /* What a step asks for: the store or the read, and then the report. 0, or -1, and the disk is dead. */

@@ -35,10 +35,11 @@ KeeperAnswer filedisk_move(FileDisk *disk, Keeper *keeper, uint32_t giver, uint3
     return stored(answer, answer.refusal == KEEPER_DONE && filedisk_store(disk, &piece, 1) != 0);
 }
 
+/* The highest number first: a number that is in a slot on the device was never lower than it. */
 KeeperAnswer filedisk_create(FileDisk *disk, Keeper *keeper, uint32_t slot, uint32_t account, uint32_t number)
 {
     const KeeperAnswer answer = keeper_create(keeper, slot, account, number);
-    return stored(answer, answer.refusal == KEEPER_DONE && store_slot(disk, keeper, slot) != 0);
+    return stored(answer, answer.refusal == KEEPER_DONE && (filedisk_store_highest(disk, keeper) != 0 || store_slot(disk, keeper, slot) != 0));
 }
 
 KeeperAnswer filedisk_delete(FileDisk *disk, Keeper *keeper, uint32_t slot)
@@ -71,6 +72,8 @@ static int store_design(FileDisk *disk, const Keeper *keeper, uint32_t slot)
 static int store_import(FileDisk *disk, const Keeper *keeper, uint32_t slot)
 {
     const uint16_t *map = keeper->maps + slot * keeper->sizes.pages;
+    if (filedisk_store_highest(disk, keeper) != 0)
+        return -1;
     for (size_t page = 0; page < keeper->sizes.pages; page++)
         if (map[page] != 0 && store_record(disk, keeper, map[page]) != 0)
             return -1;

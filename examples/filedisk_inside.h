@@ -33,6 +33,9 @@ uint32_t filedisk_checksum(const unsigned char *bytes, size_t count);
 /* Why a disk is refused: it is dead then. Answers `answer`. */
 int filedisk_refused(FileDisk *disk, int answer, const char *line);
 
+/* The highest number as a store of its own. 0, or -1, and the disk is dead. */
+int filedisk_store_highest(FileDisk *disk, const Keeper *keeper);
+
 /* The journal's entry as read; 1 if a whole store stands in it, with places that are the tables', 0 if none does, -1 if the device failed. */
 int filedisk_journal_read(const FileDisk *disk, unsigned char entry[FILEDISK_JOURNAL]);
 

@@ -18,6 +18,13 @@ static int failed(const char *what, uint32_t refusal)
     return 1;
 }
 
+/* The first design is 101, each other one has the next number; a cut inside a create skips one. */
+static uint32_t new_number(void)
+{
+    const uint32_t next = keeper_next_number(&keeper);
+    return next > 101 ? next : 101;
+}
+
 /* Opens the disk, or makes it if it may and there is no such file, and gives every slot a design. */
 static int power_on(const char *path, FileBlocks *blocks, int makes)
 {
@@ -32,7 +39,7 @@ static int power_on(const char *path, FileBlocks *blocks, int makes)
         if (keeper.numbers[slot] == 0)
             refusal = filedisk_limit(&disk, &keeper, slot, (uint32_t)sizes.pages).refusal;
         if (keeper.numbers[slot] == 0 && refusal == KEEPER_DONE)
-            refusal = filedisk_create(&disk, &keeper, slot, slot, 101 + slot).refusal;
+            refusal = filedisk_create(&disk, &keeper, slot, slot, new_number()).refusal;
         if (refusal == KEEPER_DONE)
             refusal = keeper_activate(&keeper, slot).refusal;
         if (refusal != KEEPER_DONE)

@@ -101,7 +101,7 @@ KEEPER_ASSERT(sizeof(KeeperPart) == 3 * sizeof(size_t) && offsetof(KeeperPart, s
 
 /* The kinds of request. */
 enum {
-    KEEPER_CREATE = 1,      /* slot, account, number */
+    KEEPER_CREATE = 1,      /* slot, account, number: two stores, highest, then the slot */
     KEEPER_DELETE = 2,      /* slot */
     KEEPER_ACTIVATE = 3,    /* slot */
     KEEPER_DEACTIVATE = 4,  /* slot */
@@ -155,7 +155,8 @@ enum {
     KEEPER_SHEET_WRONG = 29,    /* import: these bytes are no sheet */
     KEEPER_SHEET_OTHER = 30,    /* import: the sheet is of a board with another W or N */
     KEEPER_SHEET_SHORT = 31,    /* export: the buffer has fewer bytes than the sheet */
-    KEEPER_NUMBER_HIGH = 32     /* create, import: the number is 2,147,483,648 or more */
+    KEEPER_NUMBER_HIGH = 32,    /* create, import: the number is 2,147,483,648 or more */
+    KEEPER_NUMBER_GIVEN = 33    /* create, import: the number is not above the highest ever given */
 };
 
 /* tables and calls: made by tools/tables.py from tools/tables.txt */
@@ -166,7 +167,8 @@ enum {
     uint16_t accounts[S];        /* the slot's account */                                     \
     uint16_t maps[(S) * (N)];    /* file maps: 0 for a page of zeros, else record + 1 */      \
     uint16_t limits[Q];          /* the account's limit, 0 to 65,535 pages */                 \
-    uint16_t parents[Q];         /* the account's parent, a lower account; 0 for account 0 */
+    uint16_t parents[Q];         /* the account's parent, a lower account; 0 for account 0 */ \
+    uint32_t highest[1];         /* the highest number below 2,147,483,648 ever given */
 #define KEEPER_MEMORY_TABLES(W, R, F, S, N, Q)                                                                                                                  \
     KeeperFrame frames[F];              /* the frames: page, switches, transfer */                                                                              \
     uint32_t frame_words[(F) * (W)];    /* the frames' words */                                                                                                 \
@@ -191,7 +193,8 @@ enum {
     KEEPER_LEND((disk).accounts), \
     KEEPER_LEND((disk).maps),     \
     KEEPER_LEND((disk).limits),   \
-    KEEPER_LEND((disk).parents)
+    KEEPER_LEND((disk).parents),  \
+    KEEPER_LEND((disk).highest)
 #define KEEPER_LEND_MEMORY(memory)      \
     KEEPER_LEND((memory).frame_words),  \
     KEEPER_LEND((memory).free_queue),   \
@@ -219,11 +222,14 @@ KeeperAnswer keeper_format(
     uint16_t *accounts, size_t accounts_count,   /* S */
     uint16_t *maps, size_t maps_count,           /* S * N */
     uint16_t *limits, size_t limits_count,       /* Q */
-    uint16_t *parents, size_t parents_count      /* Q */
+    uint16_t *parents, size_t parents_count,     /* Q */
+    uint32_t *highest, size_t highest_count      /* 1 */
 );
 
 /* Sets up the memory part from the disk part alone: the first call after a format or a cut, made again while it is
- * refused. Lent: everything. Answers 0, 1 or 2. */
+ * refused. Carried out, it raises highest to the highest number below 2,147,483,648 in a slot, where it is lower, as on an older
+ * pack: that is its one store, on the device before the next call. Lent: everything; the memory part and highest are changed.
+ * Answers 0, 1 or 2. */
 KeeperAnswer keeper_restart(
     KeeperSizes sizes,
     KeeperFrame *frames, size_t frames_count,          /* F */
@@ -234,6 +240,7 @@ KeeperAnswer keeper_restart(
     const uint16_t *maps, size_t maps_count,           /* S * N */
     const uint16_t *limits, size_t limits_count,       /* Q */
     const uint16_t *parents, size_t parents_count,     /* Q */
+    uint32_t *highest, size_t highest_count,           /* 1 */
     uint32_t *frame_words, size_t frame_words_count,   /* F * W */
     uint16_t *free_queue, size_t free_queue_count,     /* F */
     uint16_t *removal_list, size_t removal_list_count, /* F */
@@ -260,6 +267,7 @@ KeeperAnswer keeper_apply(
     uint16_t *maps, size_t maps_count,                 /* S * N */
     uint16_t *limits, size_t limits_count,             /* Q */
     const uint16_t *parents, size_t parents_count,     /* Q */
+    uint32_t *highest, size_t highest_count,           /* 1 */
     uint32_t *frame_words, size_t frame_words_count,   /* F * W */
     uint16_t *free_queue, size_t free_queue_count,     /* F */
     uint16_t *removal_list, size_t removal_list_count, /* F */
@@ -290,6 +298,7 @@ KeeperAnswer keeper_apply_all(
     uint16_t *maps, size_t maps_count,                 /* S * N */
     uint16_t *limits, size_t limits_count,             /* Q */
     const uint16_t *parents, size_t parents_count,     /* Q */
+    uint32_t *highest, size_t highest_count,           /* 1 */
     uint32_t *frame_words, size_t frame_words_count,   /* F * W */
     uint16_t *free_queue, size_t free_queue_count,     /* F */
     uint16_t *removal_list, size_t removal_list_count, /* F */
@@ -318,6 +327,7 @@ KeeperPart keeper_page_look(
     const uint16_t *maps, size_t maps_count,                 /* S * N */
     const uint16_t *limits, size_t limits_count,             /* Q */
     const uint16_t *parents, size_t parents_count,           /* Q */
+    const uint32_t *highest, size_t highest_count,           /* 1 */
     const uint32_t *frame_words, size_t frame_words_count,   /* F * W */
     const uint16_t *free_queue, size_t free_queue_count,     /* F */
     const uint16_t *removal_list, size_t removal_list_count, /* F */
@@ -333,7 +343,7 @@ KeeperPart keeper_page_look(
 );
 
 /* Mends a disk part that restart answers 2, before restart is called again; docs/USING.md says what is lost. Lent: the disk
- * part, of which records, limits and parents are only read, and a list for the changes, four numbers a place
+ * part, of which records, limits, parents and highest are only read, and a list for the changes, four numbers a place
  * (KEEPER_LEND_CHANGES). A parent that is not lower stays, and restart answers 2 still.
  * Answers 0, 1 or 24. The result is how many changes are listed; the list's later places are untouched. */
 KeeperAnswer keeper_mend(
@@ -344,6 +354,7 @@ KeeperAnswer keeper_mend(
     uint16_t *maps, size_t maps_count,             /* S * N */
     const uint16_t *limits, size_t limits_count,   /* Q */
     const uint16_t *parents, size_t parents_count, /* Q */
+    const uint32_t *highest, size_t highest_count, /* 1 */
     uint32_t *changes, size_t changes_count        /* 4 * S * (N + 2), or more */
 );
 
@@ -362,6 +373,7 @@ KeeperAnswer keeper_export(
     const uint16_t *maps, size_t maps_count,                 /* S * N */
     const uint16_t *limits, size_t limits_count,             /* Q */
     const uint16_t *parents, size_t parents_count,           /* Q */
+    const uint32_t *highest, size_t highest_count,           /* 1 */
     const uint32_t *frame_words, size_t frame_words_count,   /* F * W */
     const uint16_t *free_queue, size_t free_queue_count,     /* F */
     const uint16_t *removal_list, size_t removal_list_count, /* F */
@@ -377,8 +389,8 @@ KeeperAnswer keeper_export(
 );
 
 /* Makes a design of a sheet, in an empty slot, for an account, with a number that the caller gives; it is not active. Any
- * bytes are a sheet to ask about. Lent: everything; records, numbers, accounts, maps, states, owners, free_map, used and pool
- * are changed. Answers 0, 1, 2, 3, 32, 5, 6, 29, 30, 18 or 19. The result is the number that stands in the sheet. It makes
+ * bytes are a sheet to ask about. Lent: everything; records, numbers, accounts, maps, highest, states, owners, free_map, used and
+ * pool are changed. Answers 0, 1, 2, 3, 32, 5, 6, 33, 29, 30, 18 or 19. The result is the number that stands in the sheet. It makes
  * several stores on the disk part; docs/USING.md says in which order they come to the device. */
 KeeperAnswer keeper_import(
     KeeperSizes sizes,
@@ -394,6 +406,7 @@ KeeperAnswer keeper_import(
     uint16_t *maps, size_t maps_count,                       /* S * N */
     const uint16_t *limits, size_t limits_count,             /* Q */
     const uint16_t *parents, size_t parents_count,           /* Q */
+    uint32_t *highest, size_t highest_count,                 /* 1 */
     const uint32_t *frame_words, size_t frame_words_count,   /* F * W */
     const uint16_t *free_queue, size_t free_queue_count,     /* F */
     const uint16_t *removal_list, size_t removal_list_count, /* F */

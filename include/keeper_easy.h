@@ -4,7 +4,7 @@
  *   size_t bytes = keeper_workspace(sizes);                  what all tables take, 0 for sizes out of limits
  *   keeper_place(&keeper, sizes, block, bytes);              lays the tables into your block
  *   keeper_easy_format(&keeper, NULL);                       every account under account 0; or an array of Q parents
- *   keeper_easy_restart(&keeper);
+ *   keeper_easy_restart(&keeper);                            keeper.highest goes to the device if that changed it
  *   keeper_limit(&keeper, 0, 8); keeper_create(&keeper, 0, 0, 101); keeper_activate(&keeper, 0);
  *
  * One function for each event, named as its kind: keeper_fault, keeper_write, .. And four that ask the tables, so that a driver
@@ -61,22 +61,23 @@ enum {
     KEEPER_TABLE_MAPS = 3,
     KEEPER_TABLE_LIMITS = 4,
     KEEPER_TABLE_PARENTS = 5,
-    KEEPER_TABLE_FRAMES = 6,
-    KEEPER_TABLE_FRAME_WORDS = 7,
-    KEEPER_TABLE_FREE_QUEUE = 8,
-    KEEPER_TABLE_REMOVAL_LIST = 9,
-    KEEPER_TABLE_ADDRESSES = 10,
-    KEEPER_TABLE_STATES = 11,
-    KEEPER_TABLE_OWNERS = 12,
-    KEEPER_TABLE_FREE_MAP = 13,
-    KEEPER_TABLE_ACTIVE = 14,
-    KEEPER_TABLE_UPDATING = 15,
-    KEEPER_TABLE_IMAGES = 16,
-    KEEPER_TABLE_LINE = 17,
-    KEEPER_TABLE_USED = 18,
-    KEEPER_TABLE_POOL = 19,
-    KEEPER_DISK_COUNT = 6,
-    KEEPER_TABLE_COUNT = 20
+    KEEPER_TABLE_HIGHEST = 6,
+    KEEPER_TABLE_FRAMES = 7,
+    KEEPER_TABLE_FRAME_WORDS = 8,
+    KEEPER_TABLE_FREE_QUEUE = 9,
+    KEEPER_TABLE_REMOVAL_LIST = 10,
+    KEEPER_TABLE_ADDRESSES = 11,
+    KEEPER_TABLE_STATES = 12,
+    KEEPER_TABLE_OWNERS = 13,
+    KEEPER_TABLE_FREE_MAP = 14,
+    KEEPER_TABLE_ACTIVE = 15,
+    KEEPER_TABLE_UPDATING = 16,
+    KEEPER_TABLE_IMAGES = 17,
+    KEEPER_TABLE_LINE = 18,
+    KEEPER_TABLE_USED = 19,
+    KEEPER_TABLE_POOL = 20,
+    KEEPER_DISK_COUNT = 7,
+    KEEPER_TABLE_COUNT = 21
 };
 
 /* The sizes and all tables: a name for everything that is lent. */
@@ -88,6 +89,7 @@ typedef struct {
     uint16_t *maps;         /* S * N: file maps: 0 for a page of zeros, else record + 1 */
     uint16_t *limits;       /* Q: the account's limit, 0 to 65,535 pages */
     uint16_t *parents;      /* Q: the account's parent, a lower account; 0 for account 0 */
+    uint32_t *highest;      /* 1: the highest number below 2,147,483,648 ever given */
     KeeperFrame *frames;    /* F: the frames: page, switches, transfer */
     uint32_t *frame_words;  /* F * W: the frames' words */
     uint16_t *free_queue;   /* F: the free frames, a queue: frame + 1, packed at the front, then 0 */
@@ -151,6 +153,7 @@ static inline size_t keeper_lay(Keeper *keeper, unsigned char *block)
     keeper->maps = (uint16_t *)keeper_take(block, &at, sizeof *keeper->maps, sizes.slots * sizes.pages);
     keeper->limits = (uint16_t *)keeper_take(block, &at, sizeof *keeper->limits, sizes.accounts);
     keeper->parents = (uint16_t *)keeper_take(block, &at, sizeof *keeper->parents, sizes.accounts);
+    keeper->highest = (uint32_t *)keeper_take(block, &at, sizeof *keeper->highest, 1);
     keeper->frames = (KeeperFrame *)keeper_take(block, &at, sizeof *keeper->frames, sizes.frames);
     keeper->frame_words = (uint32_t *)keeper_take(block, &at, sizeof *keeper->frame_words, sizes.frames * sizes.words);
     keeper->free_queue = (uint16_t *)keeper_take(block, &at, sizeof *keeper->free_queue, sizes.frames);
@@ -179,6 +182,7 @@ static inline KeeperTable keeper_table(const Keeper *keeper, size_t number)
     case KEEPER_TABLE_MAPS: return keeper_described("maps", keeper->maps, sizeof *keeper->maps, sizes.slots * sizes.pages);
     case KEEPER_TABLE_LIMITS: return keeper_described("limits", keeper->limits, sizeof *keeper->limits, sizes.accounts);
     case KEEPER_TABLE_PARENTS: return keeper_described("parents", keeper->parents, sizeof *keeper->parents, sizes.accounts);
+    case KEEPER_TABLE_HIGHEST: return keeper_described("highest", keeper->highest, sizeof *keeper->highest, 1);
     case KEEPER_TABLE_FRAMES: return keeper_described("frames", keeper->frames, sizeof *keeper->frames, sizes.frames);
     case KEEPER_TABLE_FRAME_WORDS: return keeper_described("frame_words", keeper->frame_words, sizeof *keeper->frame_words, sizes.frames * sizes.words);
     case KEEPER_TABLE_FREE_QUEUE: return keeper_described("free_queue", keeper->free_queue, sizeof *keeper->free_queue, sizes.frames);
@@ -209,7 +213,8 @@ static inline KeeperAnswer keeper_easy_format(Keeper *keeper, const uint16_t *wa
         keeper->accounts, sizes.slots,
         keeper->maps, sizes.slots * sizes.pages,
         keeper->limits, sizes.accounts,
-        keeper->parents, sizes.accounts);
+        keeper->parents, sizes.accounts,
+        keeper->highest, 1);
 }
 
 static inline KeeperAnswer keeper_easy_restart(Keeper *keeper)
@@ -225,6 +230,7 @@ static inline KeeperAnswer keeper_easy_restart(Keeper *keeper)
         keeper->maps, sizes.slots * sizes.pages,
         keeper->limits, sizes.accounts,
         keeper->parents, sizes.accounts,
+        keeper->highest, 1,
         keeper->frame_words, sizes.frames * sizes.words,
         keeper->free_queue, sizes.frames,
         keeper->removal_list, sizes.frames,
@@ -253,6 +259,7 @@ static inline KeeperAnswer keeper_easy_apply(Keeper *keeper, KeeperRequest reque
         keeper->maps, sizes.slots * sizes.pages,
         keeper->limits, sizes.accounts,
         keeper->parents, sizes.accounts,
+        keeper->highest, 1,
         keeper->frame_words, sizes.frames * sizes.words,
         keeper->free_queue, sizes.frames,
         keeper->removal_list, sizes.frames,
@@ -282,6 +289,7 @@ static inline KeeperAnswer keeper_easy_apply_all(Keeper *keeper, const KeeperReq
         keeper->maps, sizes.slots * sizes.pages,
         keeper->limits, sizes.accounts,
         keeper->parents, sizes.accounts,
+        keeper->highest, 1,
         keeper->frame_words, sizes.frames * sizes.words,
         keeper->free_queue, sizes.frames,
         keeper->removal_list, sizes.frames,
@@ -311,6 +319,7 @@ static inline KeeperPart keeper_easy_page_look(const Keeper *keeper, size_t slot
         keeper->maps, sizes.slots * sizes.pages,
         keeper->limits, sizes.accounts,
         keeper->parents, sizes.accounts,
+        keeper->highest, 1,
         keeper->frame_words, sizes.frames * sizes.words,
         keeper->free_queue, sizes.frames,
         keeper->removal_list, sizes.frames,
@@ -336,6 +345,7 @@ static inline KeeperAnswer keeper_easy_mend(Keeper *keeper, KeeperChange *change
         keeper->maps, sizes.slots * sizes.pages,
         keeper->limits, sizes.accounts,
         keeper->parents, sizes.accounts,
+        keeper->highest, 1,
         (uint32_t *)changes, 4 * places);
 }
 
@@ -354,6 +364,7 @@ static inline KeeperAnswer keeper_easy_export(const Keeper *keeper, size_t slot,
         keeper->maps, sizes.slots * sizes.pages,
         keeper->limits, sizes.accounts,
         keeper->parents, sizes.accounts,
+        keeper->highest, 1,
         keeper->frame_words, sizes.frames * sizes.words,
         keeper->free_queue, sizes.frames,
         keeper->removal_list, sizes.frames,
@@ -385,6 +396,7 @@ static inline KeeperAnswer keeper_easy_import(Keeper *keeper, size_t slot, size_
         keeper->maps, sizes.slots * sizes.pages,
         keeper->limits, sizes.accounts,
         keeper->parents, sizes.accounts,
+        keeper->highest, 1,
         keeper->frame_words, sizes.frames * sizes.words,
         keeper->free_queue, sizes.frames,
         keeper->removal_list, sizes.frames,
@@ -537,6 +549,7 @@ static inline const char *keeper_text(uint32_t refusal)
     case KEEPER_SHEET_OTHER: return "import: the sheet is of a board with another W or N";
     case KEEPER_SHEET_SHORT: return "export: the buffer has fewer bytes than the sheet";
     case KEEPER_NUMBER_HIGH: return "create, import: the number is 2,147,483,648 or more";
+    case KEEPER_NUMBER_GIVEN: return "create, import: the number is not above the highest ever given";
     default: return "no refusal of this keeper";
     }
 }
@@ -592,6 +605,12 @@ static inline const uint32_t *keeper_words(const Keeper *keeper, uint32_t slot, 
 {
     KeeperPart part = keeper_easy_page_look(keeper, slot, page);
     return part.refusal == KEEPER_DONE ? keeper->frame_words + part.start : NULL;
+}
+
+/* The lowest number that a create or an import takes now: no number is given twice, and a cut may have skipped one. 0 if none is left. */
+static inline uint32_t keeper_next_number(const Keeper *keeper)
+{
+    return keeper->highest[0] < INT32_MAX ? keeper->highest[0] + 1 : 0;
 }
 
 /* ── what is to be transferred ── */

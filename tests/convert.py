@@ -1,10 +1,10 @@
 #!/usr/bin/env python3
 """Not proved: writes a pack of an older layout of the file disk, byte by byte, as the programs of that version did: tests/convert.sh has it converted.
 
-    convert.py PATH VERSION JOURNAL    VERSION 1 or 2; JOURNAL none, whole (a store that is not in its places yet) or torn (the same, one byte other)
+    convert.py PATH VERSION JOURNAL    VERSION 1, 2 or 3; JOURNAL none, whole (a store that is not in its places yet) or torn (the same, one byte other)
 
 The sizes are those of examples/weaver.c. Design 101 has pages 0 and 2, design 102 page 5; account 1 is at limit 9, or 4 if the store is not brought
-home; in version 2 its parent is 0, as it must be.
+home; from version 2 on its parent is 0, as it must be; version 3 has 0 for F.
 """
 
 import struct
@@ -30,7 +30,8 @@ def tables(version):
 
 
 def header(version, all_tables):
-    numbers = [version, len(SIZES), len(all_tables), *SIZES.values(), *(width for width, _ in all_tables), *(len(entries) for _, entries in all_tables)]
+    sizes = {**SIZES, "F": 0} if version >= 3 else SIZES
+    numbers = [version, len(sizes), len(all_tables), *sizes.values(), *(width for width, _ in all_tables), *(len(entries) for _, entries in all_tables)]
     block = (b"KEEPDISK" + struct.pack(f"<{len(numbers)}I", *numbers)).ljust(BLOCK - 4, b"\0")
     return block + struct.pack("<I", zlib.crc32(block))
 

@@ -115,13 +115,20 @@ static KeeperAnswer by_function(KeeperRequest r)
     }
 }
 
+/* Mostly a number that can be given, else one that was, or one of 2,147,483,648 or more. */
+static uint32_t any_number(void)
+{
+    const uint32_t way = random_below(8);
+    return way == 0 ? 0x80000000u + random_below(4) : way == 1 ? 1 + random_below(40) : keeper_next_number(&keeper) + random_below(2);
+}
+
 static KeeperRequest any_request(void)
 {
     KeeperRequest r;
     r.kind = 1 + random_below(KEEPER_TURN);
     r.first = random_below(r.kind == KEEPER_PAGE_DONE ? F + 1 : r.kind == KEEPER_LIMIT || r.kind == KEEPER_MOVE ? Q + 1 : S);
     r.second = random_below(r.kind == KEEPER_PAGE_DONE || r.kind == KEEPER_MAP_DONE ? 2 : r.kind == KEEPER_CREATE || r.kind == KEEPER_MOVE ? Q : N + 1);
-    r.third = r.kind != KEEPER_CREATE ? random_below(W) : random_below(8) != 0 ? 1 + random_below(40) : 0x7FFFFFFEu + random_below(4);
+    r.third = r.kind == KEEPER_CREATE ? any_number() : random_below(W);
     r.fourth = random_below(3);
     return r;
 }
@@ -130,7 +137,7 @@ static KeeperRequest any_request(void)
 static int same_tables(void)
 {
     return SAME(disk, records) && SAME(disk, numbers) && SAME(disk, accounts) && SAME(disk, maps) && SAME(disk, limits) && SAME(disk, parents)
-        && SAME(memory, frames) && SAME(memory, frame_words) && SAME(memory, free_queue) && SAME(memory, removal_list)
+        && SAME(disk, highest) && SAME(memory, frames) && SAME(memory, frame_words) && SAME(memory, free_queue) && SAME(memory, removal_list)
         && SAME(memory, addresses) && SAME(memory, states) && SAME(memory, owners) && SAME(memory, free_map)
         && SAME(memory, active) && SAME(memory, updating) && SAME(memory, images) && SAME(memory, line) && SAME(memory, used)
         && memcmp(keeper.pool, &memory.pool, sizeof memory.pool) == 0;
@@ -139,7 +146,7 @@ static int same_tables(void)
 static void test_events(void)
 {
     KeeperSizes sizes = sizes_of(W, R, F, S, N, Q);
-    unsigned done[KEEPER_TURN + 1] = {0}, refused[KEEPER_NUMBER_HIGH + 1] = {0}, different = 0;
+    unsigned done[KEEPER_TURN + 1] = {0}, refused[KEEPER_NUMBER_GIVEN + 1] = {0}, different = 0;
     set_up(sizes);
     CHECK(keeper_format(sizes, KEEPER_LEND(parents), KEEPER_LEND_DISK(disk)).refusal == KEEPER_DONE);
     CHECK(keeper_restart(sizes, EVERYTHING).refusal == KEEPER_DONE);
@@ -158,7 +165,7 @@ static void test_events(void)
     CHECK(different == 0);
     for (unsigned kind = 1; kind <= KEEPER_TURN; kind++)
         CHECK(kind == 16 ? done[kind] == 0 : done[kind] > 20);
-    CHECK(refused[KEEPER_NO_MOVE] > 20 && refused[KEEPER_OVER_LIMIT] > 5 && refused[KEEPER_NUMBER_HIGH] > 20);
+    CHECK(refused[KEEPER_NO_MOVE] > 20 && refused[KEEPER_OVER_LIMIT] > 5 && refused[KEEPER_NUMBER_HIGH] > 20 && refused[KEEPER_NUMBER_GIVEN] > 5);
 }
 
 /* ── the parents of a format ── */
@@ -283,6 +290,26 @@ static void test_high_numbers(void)
     CHECK(imported(0, 0x80000000u, sheet, 0).refusal == KEEPER_NUMBER_HIGH && imported(S, 0x80000000u, sheet, 0).refusal == KEEPER_NO_RANGE);
     CHECK(imported(1, 0x7FFFFFFFu, sheet, length).result == 0xFFFFFFFFu && keeper.numbers[1] == 0x7FFFFFFFu);
     CHECK(keeper_activate(&keeper, 0).refusal == KEEPER_DONE && keeper_fault(&keeper, 0, 1).refusal == KEEPER_DONE);
+}
+
+/* ── no number twice ── */
+static void test_given_numbers(void)
+{
+    uint8_t sheet[SHEET];
+    set_up(sizes_of(W, R, F, S, N, Q));
+    CHECK(keeper_format(keeper.sizes, KEEPER_LEND(parents), KEEPER_LEND_DISK(disk)).refusal == KEEPER_DONE && keeper_next_number(&keeper) == 1);
+    two_pages(); /* design 5, on a pack that has no highest number: restart stores it */
+    CHECK(keeper.highest[0] == 5 && disk.highest[0] == 5 && keeper_next_number(&keeper) == 6);
+    const size_t length = keeper_easy_export(&keeper, 0, sheet, SHEET).result;
+    CHECK(imported(1, 4, sheet, 0).refusal == KEEPER_NUMBER_GIVEN && imported(1, 6, sheet, 0).refusal == KEEPER_SHEET_WRONG && keeper.highest[0] == 5);
+    CHECK(keeper_create(&keeper, 1, 0, 4).refusal == KEEPER_NUMBER_GIVEN && keeper_create(&keeper, 1, 0, 5).refusal == KEEPER_NUMBER_TAKEN);
+    CHECK(keeper_create(&keeper, 1, 0, 9).refusal == KEEPER_DONE && keeper.highest[0] == 9 && keeper_delete(&keeper, 1).refusal == KEEPER_DONE);
+    CHECK(keeper_easy_restart(&keeper).refusal == KEEPER_DONE && keeper.highest[0] == 9 && keeper_create(&keeper, 1, 0, 9).refusal == KEEPER_NUMBER_GIVEN);
+    CHECK(keeper_easy_import(&keeper, 1, 0, 0x7FFFFFFFu, sheet, length).refusal == KEEPER_DONE && keeper_next_number(&keeper) == 0);
+    CHECK(keeper_create(&keeper, 2, 0, 0x7FFFFFFEu).refusal == KEEPER_NUMBER_GIVEN && keeper_create(&keeper, 2, 0, 0).refusal == KEEPER_NO_RANGE);
+    keeper.highest[0] = 0xFFFFFFFFu; /* any value is one for restart */
+    CHECK(keeper_easy_restart(&keeper).refusal == KEEPER_DONE && keeper.highest[0] == 0xFFFFFFFFu && keeper_next_number(&keeper) == 0);
+    CHECK(keeper_easy_format(&keeper, parents).refusal == KEEPER_DONE && keeper.highest[0] == 0);
 }
 
 /* ── many requests in one call ── */
@@ -598,6 +625,7 @@ int main(void)
     test_mend();
     test_sheets();
     test_high_numbers();
+    test_given_numbers();
     test_lists();
     test_transfers();
     test_line();

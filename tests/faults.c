@@ -64,13 +64,14 @@ static void fault_at(int kind, unsigned number)
     fault = kind, at = number, writes = syncs = reads = calls = 0;
 }
 
-/* ── the work: limits and pages, each with its number, then an import of the design as it was at first ── */
-static const KeeperSizes sizes = {.words = 200, .records = 6, .frames = 2, .slots = 2, .pages = 3, .accounts = 2};
-enum { ROUNDS = 4, SETTLED = 9, IMPORTED = 8 };
+/* ── the work: limits and pages, each with its number, then an import of the design as it was at first, and a create; on a pack whose open has the
+ * highest number to store ── */
+static const KeeperSizes sizes = {.words = 200, .records = 6, .frames = 2, .slots = 3, .pages = 3, .accounts = 2};
+enum { ROUNDS = 4, SETTLED = 9, FIRST = 7, IMPORTED = 8, CREATED = 9 };
 static Keeper keeper;
 static FileDisk disk;
 static FileBlocks blocks;
-static uint32_t limit_told, limit_tried, page_told, page_tried, import_told, import_tried;
+static uint32_t limit_told, limit_tried, page_told, page_tried, import_told, import_tried, create_told, create_tried;
 static uint8_t sheet[KEEPER_SHEET_BYTES(3, 200)];
 
 static uint32_t weave(uint32_t value)
@@ -105,19 +106,26 @@ static uint32_t work(void)
     import_tried = IMPORTED;
     refusal = filedisk_import(&disk, &keeper, 1, 0, IMPORTED, sheet, bytes).refusal;
     import_told = refusal == KEEPER_DONE ? IMPORTED : 0;
+    if (refusal != KEEPER_DONE)
+        return refusal;
+    create_tried = CREATED;
+    refusal = filedisk_create(&disk, &keeper, 2, 1, CREATED).refusal;
+    create_told = refusal == KEEPER_DONE ? CREATED : 0;
     return refusal;
 }
 
-/* A new disk with one design and one page. */
+/* A new disk with one design and one page; it has no highest number, as an older one. */
 static void settle(void)
 {
+    static const unsigned char nothing[4];
     fault_at(NO_FAULT, 0);
     CHECK(filedisk_format(&disk, blocks, &keeper, NULL) == FILEDISK_GOOD);
     CHECK(filedisk_limit(&disk, &keeper, 0, 3).refusal == KEEPER_DONE && filedisk_limit(&disk, &keeper, 1, SETTLED).refusal == KEEPER_DONE);
-    CHECK(filedisk_create(&disk, &keeper, 0, 0, 7).refusal == KEEPER_DONE && keeper_activate(&keeper, 0).refusal == KEEPER_DONE);
+    CHECK(filedisk_create(&disk, &keeper, 0, 0, FIRST).refusal == KEEPER_DONE && keeper_activate(&keeper, 0).refusal == KEEPER_DONE);
     CHECK(weave(SETTLED) == KEEPER_DONE);
     limit_told = limit_tried = page_told = page_tried = SETTLED;
-    import_told = import_tried = 0;
+    import_told = import_tried = create_told = create_tried = 0;
+    CHECK(blocks.write(blocks.self, disk.table_at[KEEPER_TABLE_HIGHEST], nothing, sizeof nothing) == 0);
 }
 
 /* The page of a slot reads one value in all its words: that, or no value of this test's. */
@@ -132,6 +140,13 @@ static uint32_t value_of(uint32_t slot)
     return word == sizes.words ? first : UINT32_MAX;
 }
 
+/* The highest number is that of the last design, or one that was skipped. */
+static int is_highest(void)
+{
+    const uint32_t last = keeper.numbers[2] ? keeper.numbers[2] : keeper.numbers[1] ? keeper.numbers[1] : FIRST;
+    return keeper.highest[0] >= last && (keeper.highest[0] == last || keeper.highest[0] == import_tried || keeper.highest[0] == create_tried);
+}
+
 /* What is on the disk is what was told, or what was tried last. */
 static int is_kept(void)
 {
@@ -139,6 +154,8 @@ static int is_kept(void)
     if (filedisk_open(&disk, blocks, &keeper) != FILEDISK_GOOD || (keeper.limits[1] != limit_told && keeper.limits[1] != limit_tried))
         return 0;
     if (keeper.numbers[1] != import_told && keeper.numbers[1] != import_tried)
+        return 0;
+    if ((keeper.numbers[2] != create_told && keeper.numbers[2] != create_tried) || !is_highest())
         return 0;
     if (keeper.numbers[1] != 0 && value_of(1) != SETTLED)
         return 0;
@@ -186,7 +203,7 @@ int main(int count, char **words)
     CHECK(filedisk_file(&disk, &blocks, words[1], FILEDISK_NEW) == FILEDISK_GOOD);
     settle();
     fault_at(NO_FAULT, 0);
-    CHECK(work() == KEEPER_DONE && limit_told == SETTLED + ROUNDS && page_told == SETTLED + ROUNDS && import_told == IMPORTED && is_kept());
+    CHECK(work() == KEEPER_DONE && limit_told == SETTLED + ROUNDS && page_told == SETTLED + ROUNDS && import_told == IMPORTED && create_told == CREATED && is_kept());
     settle();
     fault_at(NO_FAULT, 0);
     CHECK(work() == KEEPER_DONE);

@@ -97,8 +97,10 @@ static void test_sealed(FileBlocks blocks)
     unsigned char old[FILEDISK_BLOCK];
     char line[240];
     CHECK(blocks.read(blocks.self, 0, old, sizeof old) == 0);
-    reseal(blocks, 8, 1); /* version 1, without parents */
-    CHECK(opened_with(blocks, sizes, line) == FILEDISK_OTHER_VERSION && strstr(line, "version 1") && strstr(line, "make convert"));
+    for (uint32_t version = 1; version < FILEDISK_VERSION; version++) { /* without parents; with F; without the highest number */
+        reseal(blocks, 8, version);
+        CHECK(opened_with(blocks, sizes, line) == FILEDISK_OTHER_VERSION && line[21] == (char)('0' + version) && strstr(line, "make convert"));
+    }
     reseal(blocks, 8, FILEDISK_VERSION + 1);
     CHECK(opened_with(blocks, sizes, line) == FILEDISK_OTHER_VERSION && strstr(line, "a later one"));
     reseal(blocks, 8, FILEDISK_VERSION);

@@ -1,6 +1,6 @@
 #!/bin/sh
-# filedisk.sh: not proved; the tests of the file disk: its header, journal and refusals (tests/filedisk.c), and system calls that fail
-# (tests/faults.c), each also with the compiler's own checks of memory and numbers; and its header in C++.
+# filedisk.sh: not proved; the tests of the file disk: its header, journal and refusals (tests/filedisk.c), the highest number (tests/numbers.c), and
+# system calls that fail (tests/faults.c), each also with the compiler's own checks of memory and numbers; and its header in C++.
 set -eu
 cd "$(dirname "$0")/.."
 [ -f target/staticlib/libkeeper.a ] || rt staticlib keeper
@@ -23,6 +23,8 @@ built() {
 }
 built filedisk-test tests/filedisk.c
 built filedisk-checked $checked tests/filedisk.c
+built numbers-test tests/numbers.c
+built numbers-checked $checked tests/numbers.c
 built faults-test $wrapped tests/faults.c
 built faults-checked $checked $wrapped tests/faults.c
 if command -v g++ >/dev/null; then

@@ -61,6 +61,7 @@ static int make(const char *path, const char *kind)
         put(&disk, KEEPER_TABLE_MAPS, 3, keeper.maps[6]);
         put(&disk, KEEPER_TABLE_ACCOUNTS, 2, 9);
         put(&disk, KEEPER_TABLE_ACCOUNTS, 3, 1);
+        put(&disk, KEEPER_TABLE_HIGHEST, 0, 50); /* below both numbers */
         put(&disk, KEEPER_TABLE_MAPS, 8, keeper.maps[7]); /* page 2 of slot 2 names the record of its page 1 */
     }
     if (strcmp(kind, "parents") == 0) { /* account 1 is its own parent, and one entry is wrong too */

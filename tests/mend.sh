@@ -33,8 +33,12 @@ same "the list" "$(target/mend/mend "$folder/hurt" "$folder/mended" 2>"$folder/l
 2 102 2 4 the record stands in another entry too, so it is in none"
 same "the line" "$(cat "$folder/line")" "mend: $folder/hurt: 8 changes; the mended pack is $folder/mended"
 same "the old pack" "$(cmp "$folder/hurt" "$folder/before" && echo alike)" "alike"
-same "the mended pack" "$(target/mend/packs look "$folder/mended")" "design 101 account 1: 10 11 -
+highest() { od -An -tu4 -j 11776 -N 4 "$1" | tr -d ' '; }
+same "the highest number stays" "$(highest "$folder/mended")" "50"
+cp "$folder/mended" "$folder/opened"
+same "the mended pack" "$(target/mend/packs look "$folder/opened")" "design 101 account 1: 10 11 -
 design 102 account 0: 20 - -"
+same "the highest number once it was opened" "$(highest "$folder/opened")" "102"
 same "mended again" "$(target/mend/mend "$folder/mended" "$folder/again")" "$folder/mended is sound: restart takes it as it is, nothing is written"
 
 # a sound pack

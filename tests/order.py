@@ -9,7 +9,7 @@ import struct
 import sys
 import zlib
 
-NAMES = ("records", "numbers", "accounts", "maps", "limits", "parents")
+NAMES = ("records", "numbers", "accounts", "maps", "limits", "parents", "highest")
 BLOCK, JOURNAL = 512, 8192
 
 

@@ -96,7 +96,7 @@ class Export(Case):
         hurt, old = self.folder / "hurt", self.folder / "old"
         self.made("hurt", hurt)
         subprocess.run(["python3", ROOT / "tests" / "convert.py", old, "2", "none"], check=True)
-        for tool, words in (("export", ["0", self.folder / "new"]), ("import", ["1", "1", "7", self.sheet])):
+        for tool, words in (("export", ["0", self.folder / "new"]), ("import", ["1", "1", "107", self.sheet])):
             self.refused(tool, [hurt, *words], f"{hurt}: restart turns it away: make mend PACK=.. makes a mended pack of it", hurt)
             self.refused(tool, [old, *words], f"{old}: it has an older layout: make convert OLD=.. NEW=.. makes a new file of it", old)
 
@@ -143,16 +143,18 @@ class Export(Case):
 
 class Import(Case):
     def test_a_design(self):
-        said = f"{self.sheet} is design 7 in slot 1 of {self.pack}; on the board that it came from it was 101\n"
-        self.assertEqual(self.run_tool("import-checked", self.pack, 1, 2, 7, self.sheet), (0, said))
-        self.assertEqual(self.look(), DESIGN_101 + DESIGN_101.replace("slot 0 design 101 account 1", "slot 1 design 7 account 2") + DESIGN_102)
+        said = f"{self.sheet} is design 107 in slot 1 of {self.pack}; on the board that it came from it was 101\n"
+        self.assertEqual(self.run_tool("import-checked", self.pack, 1, 2, 107, self.sheet), (0, said))
+        self.assertEqual(self.look(), DESIGN_101 + DESIGN_101.replace("slot 0 design 101 account 1", "slot 1 design 107 account 2") + DESIGN_102)
         self.assertEqual(self.run_tool("export-checked", self.pack, 1, self.folder / "new")[0], 0)
-        self.assertEqual((self.folder / "new").read_bytes(), sheet(PAGES_101, 7))
+        self.assertEqual((self.folder / "new").read_bytes(), sheet(PAGES_101, 107))
 
     def test_no_pages(self):
         self.sheet.write_bytes(sheet({}, 4294967295))
         self.assertIn("it was 4294967295", self.run_tool("import-checked", self.pack, 3, 1, 2147483647, self.sheet)[1])
         self.assertEqual(self.look(), DESIGN_101 + DESIGN_102 + "slot 3 design 2147483647 account 1: - - -\n")
+        for number in (103, 2147483646):
+            self.refused("import", [self.pack, 1, 1, number, self.sheet], f"{self.pack}: number {number} was given before, or skipped: no number is left on this pack")
 
     def test_refusals(self):
         def refused(slot, account, number, line):
@@ -166,15 +168,17 @@ class Import(Case):
             refused(0, 1, number, f"number {number} is too high: give the design one of 2147483647 or less")
         refused(0, 1, 7, "slot 0 has design 101: choose an empty one: 1, 3")
         refused(1, 1, 102, "number 102 stands in slot 2: give the design a number of its own")
-        refused(1, 1, 7, "the sheet has 3 pages; account 1, which pays, uses 3 of 5: raise its limit, or take another account")
-        self.assertEqual(self.run_tool("import-checked", self.pack, 1, 2, 7, self.sheet)[0], 0)
-        refused(3, 2, 8, "the sheet has 3 pages, 0 records are free: truncate pages of other designs and update them")
+        for number in (1, 7, 100):
+            refused(1, 1, number, f"number {number} was given before, or skipped: give the design 103 or a higher one")
+        refused(1, 1, 107, "the sheet has 3 pages; account 1, which pays, uses 3 of 5: raise its limit, or take another account")
+        self.assertEqual(self.run_tool("import-checked", self.pack, 1, 2, 107, self.sheet)[0], 0)
+        refused(3, 2, 108, "the sheet has 3 pages, 0 records are free: truncate pages of other designs and update them")
         self.sheet.write_bytes(sheet({}))
-        self.assertEqual(self.run_tool("import-checked", self.pack, 3, 2, 8, self.sheet)[0], 0)
-        refused(3, 2, 9, "slot 3 has design 8: choose an empty one; there is none: a design is to be deleted first")
+        self.assertEqual(self.run_tool("import-checked", self.pack, 3, 2, 108, self.sheet)[0], 0)
+        refused(3, 2, 109, "slot 3 has design 108: choose an empty one; there is none: a design is to be deleted first")
 
     def test_files(self):
-        ask = [1, 2, 7]
+        ask = [1, 2, 107]
         self.refused("import", [self.pack, *ask, self.folder / "none"], f"{self.folder}/none: it cannot be opened: No such file or directory")
         self.refused("import", [self.folder / "none", *ask, self.sheet], f"{self.folder}/none: it cannot be opened: No such file or directory")
         self.refused("import", [self.pack, *ask, self.folder], f"{self.folder}: it cannot be read: Is a directory")
@@ -200,7 +204,7 @@ class Import(Case):
     def one_sheet(self, data):
         self.pack.write_bytes(self.before)
         self.sheet.write_bytes(data)
-        status, said = self.run_tool("import-checked", self.pack, 1, 2, 7, self.sheet)
+        status, said = self.run_tool("import-checked", self.pack, 1, 2, 107, self.sheet)
         shown = self.run_tool("sheet-checked", self.sheet)
         means = read(data)
         self.assertEqual(shown[0], 1 if means is None else 0)
@@ -210,7 +214,7 @@ class Import(Case):
             self.assertNotIn("the keeper refuses it", said)
             return "wrong" if means is None else "other"
         pages = " ".join(",".join(map(str, means[3][page])) if page in means[3] else "-" for page in range(N))
-        self.assertEqual((status, self.look()), (0, f"{DESIGN_101}slot 1 design 7 account 2: {pages}\n{DESIGN_102}"))
+        self.assertEqual((status, self.look()), (0, f"{DESIGN_101}slot 1 design 107 account 2: {pages}\n{DESIGN_102}"))
         self.assertIn(f"it was {means[2]}\n", said)
         return "taken"
 
@@ -226,37 +230,42 @@ class Import(Case):
 
     def test_each_call_fails(self):
         """Each write and sync fails, or does half, or kills: the designs that were there stay, and the new one is there whole or not at all."""
-        calls, results = self.folder / "calls", {"old": 0, "new": 0}
-        self.run_tool("import-failing", self.pack, 1, 2, 7, self.sheet, CALLS=str(calls))
+        calls, results, self.skipped = self.folder / "calls", {"old": 0, "new": 0}, 0
+        self.run_tool("import-failing", self.pack, 1, 2, 107, self.sheet, CALLS=str(calls))
         counts = dict(line.split() for line in calls.read_text().splitlines())
-        self.assertEqual({call: int(count) for call, count in counts.items() if count != "0"}, {"pwrite": 13, "fsync": 10})
+        self.assertEqual({call: int(count) for call, count in counts.items() if count != "0"}, {"pwrite": 15, "fsync": 12})
         for call in ("pwrite", "fsync"):
             for number in range(1, int(counts[call]) + 1):
                 for how in ("fail", "short", "kill"):
                     with self.subTest(f"{call} {number} {how}"):
                         results[self.one_fails(call, number, how)] += 1
         self.assertTrue(results["old"] > 20 and results["new"] > 5, results)
+        self.assertTrue(10 < self.skipped < results["old"], self.skipped)
 
     def one_fails(self, call, number, how):
-        new = DESIGN_101.replace("slot 0 design 101 account 1", "slot 1 design 7 account 2")
+        new = DESIGN_101.replace("slot 0 design 101 account 1", "slot 1 design 107 account 2")
         self.pack.write_bytes(self.before)
-        status, said = self.run_tool("import-failing", self.pack, 1, 2, 7, self.sheet, FAIL=f"{call} {number} {how}")
+        status, said = self.run_tool("import-failing", self.pack, 1, 2, 107, self.sheet, FAIL=f"{call} {number} {how}")
         self.assertEqual((status, said.startswith(f"import: {self.pack}: the device failed")), (-9, False) if how == "kill" else (1, True))
         found = self.look()
         self.assertIn(found, (DESIGN_101 + DESIGN_102, DESIGN_101 + new + DESIGN_102))
         landed = new in found
-        status, said = self.run_tool("import-checked", self.pack, 1, 2, 7, self.sheet)
-        self.assertEqual((status, "slot 1 has design 7" in said), (1, True) if landed else (0, False))
-        self.assertEqual(self.look(), DESIGN_101 + new + DESIGN_102)
+        status, said = self.run_tool("import-checked", self.pack, 1, 2, 107, self.sheet)
+        skipped = "number 107 was given before, or skipped: give the design 108 or a higher one" in said
+        self.assertEqual((status, "slot 1 has design 107" in said), (1, True) if landed else (int(skipped), False))
+        if skipped:
+            self.assertEqual(self.run_tool("import-checked", self.pack, 1, 2, 108, self.sheet)[0], 0)
+        self.skipped += skipped
+        self.assertEqual(self.look(), DESIGN_101 + (new.replace("107", "108") if skipped else new) + DESIGN_102)
         return "new" if landed else "old"
 
     def test_a_store_in_the_journal(self):
         """A pack whose last store is in its journal alone, or half in its place: a refused import and an export leave it so, byte for byte."""
-        for number in range(1, 14):
+        for number in range(1, 16):
             self.pack.write_bytes(self.before)
-            self.run_tool("import-failing", self.pack, 1, 2, 7, self.sheet, FAIL=f"pwrite {number} kill")
-            empty = "3" if number >= 10 else "1, 3"  # half of the block of the tenth, in the journal, has all of the slot's store
-            self.refused("import", [self.pack, 0, 2, 8, self.sheet], f"{self.pack}: slot 0 has design 101: choose an empty one: {empty}")
+            self.run_tool("import-failing", self.pack, 1, 2, 107, self.sheet, FAIL=f"pwrite {number} kill")
+            empty = "3" if number >= 12 else "1, 3"  # half of the block of the twelfth, in the journal, has all of the slot's store
+            self.refused("import", [self.pack, 0, 2, 108, self.sheet], f"{self.pack}: slot 0 has design 101: choose an empty one: {empty}")
             kept = self.pack.read_bytes()
             self.assertEqual(self.run_tool("export-checked", self.pack, 2, self.folder / f"new{number}")[0], 0)
             self.assertEqual(self.pack.read_bytes(), kept)
@@ -265,24 +274,25 @@ class Import(Case):
         """A pack that another program has open is refused, and nothing is written."""
         with self.pack.open("rb") as file:
             fcntl.flock(file, fcntl.LOCK_EX)
-            self.refused("import", [self.pack, 1, 2, 7, self.sheet], f"{self.pack}: it is in use: another program has it open")
+            self.refused("import", [self.pack, 1, 2, 107, self.sheet], f"{self.pack}: it is in use: another program has it open")
             self.refused("export", [self.pack, 0, self.folder / "new"], f"{self.pack}: it is in use: another program has it open")
             fcntl.flock(file, fcntl.LOCK_SH)
-            self.refused("import", [self.pack, 1, 2, 7, self.sheet], f"{self.pack}: it is in use: another program has it open")
+            self.refused("import", [self.pack, 1, 2, 107, self.sheet], f"{self.pack}: it is in use: another program has it open")
             self.assertEqual(self.run_tool("export-checked", self.pack, 0, self.folder / "new")[0], 0)
 
     def test_two_at_once(self):
-        """Two imports into one pack: each is carried out whole, or told that the pack is in use."""
+        """Two imports into one pack: each is carried out whole, or told that the pack is in use, or the lower number that the higher one was given."""
         self.sheet.write_bytes(sheet({1: [1, 2, 3]}))
         for turn in range(10):
             self.pack.write_bytes(self.before)
-            ask = [[TOOLS / "import-checked", self.pack, str(slot), "2", str(70 + slot), self.sheet] for slot in (1, 3)]
+            ask = [[TOOLS / "import-checked", self.pack, str(slot), "2", str(170 + slot), self.sheet] for slot in (1, 3)]
             both = [subprocess.Popen(words, stdout=-1, stderr=-1, env={**os.environ, "ASAN_OPTIONS": "detect_leaks=0"}) for words in ask]
             answers = [(one.communicate()[1].decode(), one.returncode) for one in both]
             wanted = {}
             for slot, (said, status) in zip((1, 3), answers):
-                self.assertTrue(status == 0 or "it is in use" in said, said)
-                wanted[slot] = f"slot {slot} design {70 + slot} account 2: - 1,2,3 -\n" if status == 0 else ""
+                later = slot == 1 and answers[1][1] == 0 and "number 171 was given before, or skipped" in said
+                self.assertTrue(status == 0 or "it is in use" in said or later, said)
+                wanted[slot] = f"slot {slot} design {170 + slot} account 2: - 1,2,3 -\n" if status == 0 else ""
             self.assertEqual(self.look(), DESIGN_101 + wanted[1] + DESIGN_102 + wanted[3])
 
 
@@ -334,8 +344,8 @@ class Show(Case):
         self.assertEqual(make("export", f"PACK={moved}", "SLOT=0", f"SHEET={new}"), [f"design 101 of slot 0 of {moved} is in {new}: 68 bytes"])
         self.assertIn("say REPLACE=1", make("export", f"PACK={moved}", "SLOT=2", f"SHEET={new}")[0])
         self.assertEqual(make("export", f"PACK={moved}", "SLOT=2", f"SHEET={new}", "REPLACE=1"), [f"design 102 of slot 2 of {moved} is in {new}: 51 bytes"])
-        said = make("import", f"PACK={moved}", "SLOT=1", "ACCOUNT=2", "NUMBER=7", f"SHEET={new}")
-        self.assertEqual(said, [f"{new} is design 7 in slot 1 of {moved}; on the board that it came from it was 102"])
+        said = make("import", f"PACK={moved}", "SLOT=1", "ACCOUNT=2", "NUMBER=107", f"SHEET={new}")
+        self.assertEqual(said, [f"{new} is design 107 in slot 1 of {moved}; on the board that it came from it was 102"])
         self.assertEqual(make("sheet", f"SHEET={new}")[:2], ["design 102, 3 pages of 3 words; 2 of them have any; 51 bytes", "pages #.#"])
         for target in ("export", "import", "sheet"):
             self.assertIn(f"make {target} ", make(target)[0])

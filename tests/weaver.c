@@ -166,6 +166,35 @@ static void test_words(void)
     CHECK(run("weave 0 6 1") == 1 && strstr(said, "out of range") && run("weave 2 0 1") == 1 && strstr(said, "out of range"));
 }
 
+/* A cut inside a create has skipped a number, or no number is left: this stands in the place of the highest one. */
+static void put_highest(uint32_t value)
+{
+    static unsigned char bytes[ROOM];
+    enum { PLACE = FILEDISK_BLOCK + FILEDISK_JOURNAL + KEEPER_TABLE_HIGHEST * FILEDISK_BLOCK }; /* each table before it has a block */
+    const size_t count = whole(bytes);
+    for (unsigned byte = 0; byte < 4; byte++)
+        bytes[PLACE + byte] = (unsigned char)(value >> 8 * byte);
+    put_file(bytes, count);
+}
+
+static void test_numbers(void)
+{
+    static unsigned char bytes[ROOM];
+    remove(path);
+    CHECK(run("format") == 0);
+    put_highest(101);
+    CHECK(run("weave 0 0 10") == 0 && run("show") == 0 && strcmp(said, "design 102 page 0: 10 11 12 13\n") == 0);
+    CHECK(run("weave 1 0 20") == 0 && run("show") == 0 && strstr(said, "design 103 page 0: 20 21 22 23\n"));
+    put_highest(0); /* an older pack: the designs are there, and keep their numbers */
+    CHECK(run("show") == 0 && strstr(said, "design 102 page 0") && strstr(said, "design 103 page 0"));
+    put_highest(UINT32_MAX);
+    CHECK(run("weave 1 0 30") == 0 && run("show") == 0 && strstr(said, "design 103 page 0: 30 31 32 33\n"));
+    CHECK(run("format erase") == 0);
+    put_highest(INT32_MAX);
+    CHECK(run("weave 0 0 10") == 1 && strstr(said, "not above the highest ever given") && whole(bytes) > 0 && run("format erase") == 0);
+    CHECK(run("weave 0 0 10") == 0 && run("show") == 0 && strcmp(said, "design 101 page 0: 10 11 12 13\n") == 0);
+}
+
 /* ── two at once ── */
 static void pause_a_while(void)
 {
@@ -272,6 +301,7 @@ int main(int count, char **words)
     test_foreign();
     test_format();
     test_words();
+    test_numbers();
     test_in_use();
     test_side_by_side();
     test_full();

@@ -1,6 +1,6 @@
 /* convert OLD NEW: a pack of an older layout of examples/filedisk.h as a new file of the layout of now. Not proved; tested by tests/convert.sh.
- * Tables that the old layout lacks are zeros: so every account is under account 0, as wish 5 has it of older packs. NEW must not be there; OLD is
- * only read. On a refusal, a pack that has the layout of now, or a file that is no pack: a line, and status 1. */
+ * Tables that the old layout lacks are zeros: so every account is under account 0, as wish 5 has it of older packs, and restart finds the highest
+ * number in the slots, as wish 12 has it. NEW must not be there; OLD is only read. On a refusal, a pack that has the layout of now, or a file that is no pack: a line, and status 1. */
 #define _POSIX_C_SOURCE 200809L
 #include "packs.h"
 

@@ -40,7 +40,9 @@ COMMENTS = {
     ],
     "restart": [
         "Sets up the memory part from the disk part alone: the first call after a format or a cut, made again while it is",
-        "refused. Lent: everything. Answers 0, 1 or 2.",
+        "refused. Carried out, it raises highest to the highest number below 2,147,483,648 in a slot, where it is lower, as on an older",
+        "pack: that is its one store, on the device before the next call. Lent: everything; the memory part and highest are changed.",
+        "Answers 0, 1 or 2.",
     ],
     "apply": ["Every other event, asked for by a request. Lent: everything."],
     "apply_all": [
@@ -55,7 +57,7 @@ COMMENTS = {
     ],
     "mend": [
         "Mends a disk part that restart answers 2, before restart is called again; docs/USING.md says what is lost. Lent: the disk",
-        "part, of which records, limits and parents are only read, and a list for the changes, four numbers a place",
+        "part, of which records, limits, parents and highest are only read, and a list for the changes, four numbers a place",
         "(KEEPER_LEND_CHANGES). A parent that is not lower stays, and restart answers 2 still.",
         "Answers 0, 1 or 24. The result is how many changes are listed; the list's later places are untouched.",
     ],
@@ -66,8 +68,8 @@ COMMENTS = {
     ],
     "import": [
         "Makes a design of a sheet, in an empty slot, for an account, with a number that the caller gives; it is not active. Any",
-        "bytes are a sheet to ask about. Lent: everything; records, numbers, accounts, maps, states, owners, free_map, used and pool",
-        "are changed. Answers 0, 1, 2, 3, 32, 5, 6, 29, 30, 18 or 19. The result is the number that stands in the sheet. It makes",
+        "bytes are a sheet to ask about. Lent: everything; records, numbers, accounts, maps, highest, states, owners, free_map, used and",
+        "pool are changed. Answers 0, 1, 2, 3, 32, 5, 6, 33, 29, 30, 18 or 19. The result is the number that stands in the sheet. It makes",
         "several stores on the disk part; docs/USING.md says in which order they come to the device.",
     ],
 }

@@ -53,6 +53,17 @@ static int number_taken(const Asked *asked, const Keeper *keeper)
     return 1;
 }
 
+static int number_given(const Asked *asked, const Keeper *keeper)
+{
+    const uint32_t next = keeper_next_number(keeper);
+    fprintf(stderr, "import: %s: number %u was given before, or skipped: ", asked->pack, (unsigned)asked->number);
+    if (next != 0)
+        fprintf(stderr, "give the design %u or a higher one\n", (unsigned)next);
+    else
+        fputs("no number is left on this pack\n", stderr);
+    return 1;
+}
+
 /* Who pays for a design of the account: it, or the first on the way up with a limit above 0, or account 0. */
 static size_t payer(const Keeper *keeper, size_t account)
 {
@@ -88,6 +99,7 @@ static int refused(const Asked *asked, const Keeper *keeper, uint32_t refusal)
     case KEEPER_NUMBER_HIGH: return number_high(asked);
     case KEEPER_SLOT_FILLED: return slot_filled(asked, keeper);
     case KEEPER_NUMBER_TAKEN: return number_taken(asked, keeper);
+    case KEEPER_NUMBER_GIVEN: return number_given(asked, keeper);
     case KEEPER_SHEET_WRONG: return no_sheet("import", asked->path, wrong ? wrong : "the keeper refuses it", where);
     case KEEPER_SHEET_OTHER: case KEEPER_AT_LIMIT: case KEEPER_NO_RECORD: return sheet_refused(asked, keeper, &sheet, refusal);
     default: return complain("import", asked->pack, keeper_text(refusal));
@@ -108,7 +120,7 @@ static int imported(const Asked *asked, FileBlocks blocks)
         return complain("import", asked->pack, disk.line);
     answer = filedisk_import(&disk, &keeper, asked->slot, asked->account, asked->number, asked->bytes, asked->count);
     if (answer.refusal == FILEDISK_DIED)
-        return complain("import", asked->pack, "the device failed in a store: the design is there whole or not at all; import it again, and if it is, that is refused");
+        return complain("import", asked->pack, "the device failed in a store: the design is there whole or not at all; import it again, under a higher number if this one is refused; if the slot is, it is there");
     if (answer.refusal != KEEPER_DONE)
         return refused(asked, &keeper, answer.refusal);
     printf("%s is design %u in slot %u of %s; on the board that it came from it was %u\n", asked->path, (unsigned)asked->number, (unsigned)asked->slot,

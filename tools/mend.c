@@ -28,9 +28,10 @@ static void show(const KeeperChange *changes, uint32_t count, const uint32_t *nu
     }
 }
 
-/* Mends the disk part that was read, and makes a new pack of it. */
+/* Mends the disk part that was read, and makes a new pack of it. Restart is only tried: the highest number is its to store, when the pack is opened. */
 static int mend(Keeper *keeper, const char *pack, const char *new, KeeperChange *changes, size_t places)
 {
+    const uint32_t highest = keeper->highest[0];
     uint32_t numbers[KEEPER_MOST_SLOTS];
     memcpy(numbers, keeper->numbers, keeper->sizes.slots * sizeof *numbers);
     const KeeperAnswer answer = keeper_easy_mend(keeper, changes, places);
@@ -38,6 +39,7 @@ static int mend(Keeper *keeper, const char *pack, const char *new, KeeperChange 
         return complain("mend", pack, keeper_text(answer.refusal));
     if (keeper_easy_restart(keeper).refusal != KEEPER_DONE)
         return complain("mend", pack, "restart turns it away still: an account's parent is not a lower account, and mending changes no parent");
+    keeper->highest[0] = highest;
     if (make_pack("mend", new, keeper) != 0)
         return 1;
     show(changes, answer.result, numbers, keeper->sizes.pages);

@@ -12,8 +12,8 @@ import unittest
 import addtable
 
 ROOT = pathlib.Path(__file__).resolve().parent.parent
-PLACE = addtable.Place("serial", "parents", "u32", ["format"])
-DISK = "records numbers accounts maps limits parents"
+PLACE = addtable.Place("serial", "highest", "u32", ["format"])
+DISK = "records numbers accounts maps limits parents highest"
 
 
 class Texts(unittest.TestCase):
@@ -25,8 +25,8 @@ class Texts(unittest.TestCase):
     def test_rows(self):
         self.row(f"diskOf {DISK}", f"diskOf {DISK} serial")
         self.row(f"allGiven fs (last .pool) {DISK} words", f"allGiven fs (last .pool) {DISK} serial words")
-        self.row("given f p (a .r) (a .n) (a .c) (a .m) (a .l)\n  (a .parents .now) w", "given f p (a .r) (a .n) (a .c) (a .m) (a .l)\n  (a .parents .now) (a .serial .now) w")
-        self.row("same-state f p refl refl refl refl refl refl w", "same-state f p refl refl refl refl refl refl refl w")
+        self.row("given f p (a .r) (a .n) (a .c) (a .m) (a .l) (a .p)\n  (a .highest .now) w", "given f p (a .r) (a .n) (a .c) (a .m) (a .l) (a .p)\n  (a .highest .now) (a .serial .now) w")
+        self.row("same-state f p refl refl refl refl refl refl refl w", "same-state f p refl refl refl refl refl refl refl refl w")
 
     def test_what_is_no_row(self):
         for text in ("st .given a b", "given-all a b c d e f g h i", "allGiven a b", "allGiven f p (a b", f"diskOf {DISK} serial"):
@@ -34,29 +34,29 @@ class Texts(unittest.TestCase):
                 self.row(text, text)
 
     def test_by_hand(self):
-        self.row("diskOf r n a m l (f x)", "diskOf r n a m l (f x)", 1)
-        self.row("record { limits = ls; parents = ps }", "record { limits = ls; parents = ps }", 1)
+        self.row("diskOf r n a m l p (f x)", "diskOf r n a m l p (f x)", 1)
+        self.row("record { parents = ps; highest = hs }", "record { parents = ps; highest = hs }", 1)
 
     def test_fields(self):
-        self.row("{ limits = d .limits; parents = d .parents }", "{ limits = d .limits; parents = d .parents; serial = d .serial }")
-        self.row("  parents = c .parents;\n", "  parents = c .parents;\n  serial = c .serial;\n")
-        self.row("{ limits = 5 ∷ []; parents = 0 ∷ 0 ∷ [] }", "{ limits = 5 ∷ []; parents = 0 ∷ 0 ∷ []; serial = 0 ∷ [] }")
+        self.row("{ parents = d .parents; highest = d .highest }", "{ parents = d .parents; highest = d .highest; serial = d .serial }")
+        self.row("  highest = c .highest;\n", "  highest = c .highest;\n  serial = c .serial;\n")
+        self.row("{ parents = 0 ∷ []; highest = 0 ∷ [] }", "{ parents = 0 ∷ []; highest = 0 ∷ []; serial = 0 ∷ [] }")
 
     def test_parameters(self):
-        text = "fn format(\n    limits: &mut [u16],\n    parents: &mut [u16],\n) {\n    f(maps, limits, parents)\n}\n"
-        self.assertIn("    parents: &mut [u16],\n    serial: &mut [u32],\n", addtable.with_parameters(text, PLACE))
-        self.assertIn("f(maps, limits, parents, serial)", addtable.with_parameters(text, PLACE))
-        text = "fn apply(\n    parents: &[u16],\n    frame_words: &mut [u32],\n) {\n    g(\n        parents,\n        frame_words,\n    )\n}\n"
+        text = "fn format(\n    parents: &mut [u16],\n    highest: &mut [u32],\n) {\n    f(limits, parents, highest)\n}\n"
+        self.assertIn("    highest: &mut [u32],\n    serial: &mut [u32],\n", addtable.with_parameters(text, PLACE))
+        self.assertIn("f(limits, parents, highest, serial)", addtable.with_parameters(text, PLACE))
+        text = "fn apply(\n    highest: &[u32],\n    frame_words: &mut [u32],\n) {\n    g(\n        highest,\n        frame_words,\n    )\n}\n"
         made = addtable.with_parameters(text, PLACE)
-        self.assertIn("    parents: &[u16],\n    serial: &[u32],\n", made)
-        self.assertIn("        parents,\n        serial,\n", made)
-        part = "fn part(\n    parents: &[u16],\n    slot: usize,\n) {\n    can_move(limits, parents)\n}\n"
+        self.assertIn("    highest: &[u32],\n    serial: &[u32],\n", made)
+        self.assertIn("        highest,\n        serial,\n", made)
+        part = "fn part(\n    highest: &[u32],\n    slot: usize,\n) {\n    asks(parents, highest)\n}\n"
         self.assertEqual(addtable.with_parameters(part, PLACE), part)
 
     def test_contracts(self):
         for end in (" «frame_words» rest", ""):
             self.assertEqual(addtable.with_parameters(f"(left f p {DISK}{end}", PLACE), f"(left f p {DISK} serial{end}")
-        self.assertEqual(addtable.with_parameters("of limits parents q", PLACE), "of limits parents q")
+        self.assertEqual(addtable.with_parameters("of parents highest q", PLACE), "of parents highest q")
 
     def test_memory_table(self):
         place = addtable.Place("recent", "images", "u16", [])
@@ -73,12 +73,12 @@ class Crates(unittest.TestCase):
             root = pathlib.Path(folder)
             shutil.copytree(ROOT / "crates", root / "crates")
             shutil.copytree(ROOT / "tools", root / "tools", ignore=shutil.ignore_patterns("__pycache__"))
-            run = [sys.executable, root / "tools" / "addtable.py", "serial", "parents", "u32"]
+            run = [sys.executable, root / "tools" / "addtable.py", "serial", "highest", "u32"]
             said = subprocess.run(run, capture_output=True, text=True, check=True).stdout
             text = "".join(path.read_text() for path in sorted((root / "crates").rglob("*.rt")))
         self.assertGreater(said.count("\n"), 60)
-        self.assertNotRegex(text, r"parents: &(?:mut )?\[u16\],\n\s*frame_words:")
-        self.assertNotRegex(text, r"\bparents,\n\s*frame_words,")
+        self.assertNotRegex(text, r"highest: &(?:mut )?\[u32\],\n\s*frame_words:")
+        self.assertNotRegex(text, r"\bhighest,\n\s*frame_words,")
         self.assertGreater(len(re.findall(r"serial: &\[u32\]", text)), 25)
 
     def test_words(self):

@@ -111,7 +111,7 @@ class Header(unittest.TestCase):
         header = re.findall(r"KEEPER_(\w+) = (\d+)", HEADER.read_text().partition("/* The refusals. */")[2])
         source = sorted(source, key=lambda refusal: int(refusal[1]))
         self.assertEqual([("DONE", "0")] + source, header)
-        self.assertEqual([int(number) for _, number in source], list(range(1, 23)) + [24, 25, 26, 27, 29, 30, 31, 32])
+        self.assertEqual([int(number) for _, number in source], list(range(1, 23)) + [24, 25, 26, 27, 29, 30, 31, 32, 33])
 
 
 if __name__ == "__main__":

@@ -117,7 +117,7 @@ class Whole(unittest.TestCase):
 
     def test_claim_from_pack(self):
         text = source("", "FromPack")
-        rules = set(re.search(r"fromPack = (.*)", text).group(1).replace(" z w", "").split(" and "))
+        rules = set(re.search(r"fromPack(?:ed)? = (.*)", text).group(1).replace(" z w", "").split(" and "))
         self.all_said("Demand3", rules - defined(text))
         self.all_said("FromPack", rules & defined(text))
 

@@ -136,11 +136,12 @@ class Line(unittest.TestCase):
 
 class Shown(unittest.TestCase):
     def test_accounts(self):
-        """Each row has the limit and the used count as the library leaves them."""
+        """Each row has the limit, the used count and the highest number as the library leaves them."""
         states = json.loads(timeline.ran(BUSY))
-        shown = re.findall(r">account 0: used (\d+) of limit (\d+)<", timeline.page("busy", BUSY, states))
-        self.assertEqual(shown, [(str(state["used"][0]), str(state["limits"][0])) for state in states])
-        self.assertEqual([shown[0], shown[1], shown[-1]], [("0", "0"), ("0", "6"), ("3", "6")])
+        shown = re.findall(r">account 0: used (\d+) of limit (\d+); highest number (\d+)<", timeline.page("busy", BUSY, states))
+        self.assertEqual(shown, [(str(state["used"][0]), str(state["limits"][0]), str(state["highest"][0])) for state in states])
+        self.assertEqual([shown[0][:2], shown[1][:2], shown[-1][:2]], [("0", "0"), ("0", "6"), ("3", "6")])
+        self.assertGreater(int(shown[-1][2]), 0)
         more = timeline.picture({**states[-1], "used": [1, 2], "limits": [3, 4]})
         self.assertIn("account 0: used 1 of limit 3, account 1: used 2 of limit 4", more)
 

@@ -53,8 +53,8 @@ class Walks(unittest.TestCase):
     def test_groups(self):
         """The paths to the last lists: those of a group start from its name."""
         after = walks.Change("restart", 1, 1).marks()["AFTER"]
-        self.assertIn("let m = ms .1 .1 .1 .1 .1 .1 .1 .1 .1 .1 in\n", after)
-        self.assertIn("(now (xt .1 .1 .1 .1 .1 .0)) (m .0)", after)
+        self.assertIn("let d = ms .1 .1 .1 .1 in\n      let m = d .1 .1 .1 .1 .1 .1 .1 in\n", after)
+        self.assertIn("(now (xt .1 .1 .1 .1 .1 .0)) (d .1 .1 .1 .1 .1 .1 .0) (m .0)", after)
         with with_one_more():
             self.assertTrue(walks.Change("restart", 1, 1).marks()["AFTER"].endswith("(s .1 .1 .1 .1 .0) (s .1 .1 .1 .1 .1 .0)"))
 

@@ -109,9 +109,10 @@ def maps(state, left):
 
 
 def accounts(state, left):
-    """What each account has used, and its limit, below the records."""
+    """What each account has used, and its limit, below the records; and the highest number that was given."""
     pairs = zip(state["used"], state["limits"])
-    return [label(left, 74, ", ".join(f"account {at}: used {used} of limit {limit}" for at, (used, limit) in enumerate(pairs)), 10)]
+    used = ", ".join(f"account {at}: used {used} of limit {limit}" for at, (used, limit) in enumerate(pairs))
+    return [label(left, 74, f"{used}; highest number {state['highest'][0]}", 10)]
 
 
 def picture(state):

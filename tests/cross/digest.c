@@ -4,7 +4,7 @@
 #include <stdlib.h>
 #include "lists.h"
 
-enum { KINDS = 33, REFUSALS = KEEPER_NUMBER_HIGH + 1, LIST = 20, OFTEN = 400 };
+enum { KINDS = 34, REFUSALS = KEEPER_NUMBER_GIVEN + 1, LIST = 20, OFTEN = 400 };
 /* counted as kinds, behind those of the requests */
 enum { EXPORTED = KINDS - 2, IMPORTED = KINDS - 1 };
 
@@ -115,7 +115,7 @@ static void import_one(void)
 {
     const size_t count = below(8) != 0 ? sheet_bytes : below((uint32_t)sheet_bytes + 1), hurt = below(60);
     const uint8_t was = sheet[hurt];
-    const uint32_t slot = near(keeper.sizes.slots), account = near(keeper.sizes.accounts), number = some_number();
+    const uint32_t slot = near(keeper.sizes.slots), account = near(keeper.sizes.accounts), number = some_number(&keeper);
     if (below(6) == 0)
         sheet[hurt] ^= (uint8_t)(1 << below(8));
     add_answer(IMPORTED, keeper_easy_import(&keeper, slot, account, number, sheet, count));
@@ -151,13 +151,14 @@ static void damaged(void)
         set_entry(table, at, was);
 }
 
-/* A pack as another program left it, mended, now and then with a list that is too short first; then a restart. */
+/* A pack as another program left it, without the highest number too, mended, now and then with a list that is too short first; then a restart. */
 static void mend(void)
 {
     const size_t places = keeper.sizes.slots * (keeper.sizes.pages + 2);
     const KeeperTable table = keeper_table(&keeper, KEEPER_TABLE_NUMBERS + below(3));
     const uint32_t at = below((uint32_t)table.count), value = below(6);
     set_entry(table, at, value);
+    keeper.highest[0] = below(6);
     if (below(4) == 0)
         add_answer(0, keeper_easy_mend(&keeper, changes, places - 1));
     const KeeperAnswer answer = keeper_easy_mend(&keeper, changes, places);

@@ -57,16 +57,19 @@ static uint32_t second_of(const Keeper *keeper, uint32_t kind, uint32_t first)
     }
 }
 
-/* A design's: mostly small, now and then near the highest that is taken. */
-static uint32_t some_number(void)
+/* A design's: mostly one that can be given, else a small one, of 2,147,483,648 or more, or, seldom, near the last that is taken. */
+static uint32_t some_number(const Keeper *keeper)
 {
-    return below(12) != 0 ? below(30) : 0x7FFFFFFDu + below(6);
+    const uint32_t way = below(120);
+    if (way < 2)
+        return 0x7FFFFFFDu + below(6);
+    return way < 12 ? 0x80000000u + below(4) : way < 30 ? below(30) : keeper_next_number(keeper) + below(2);
 }
 
 static uint32_t third_of(const Keeper *keeper, uint32_t kind)
 {
     switch (kind) {
-    case KEEPER_CREATE: return some_number();
+    case KEEPER_CREATE: return some_number(keeper);
     case KEEPER_MOVE: return below(6);
     default: return near(keeper->sizes.words);
     }

@@ -24,6 +24,7 @@ Books *books_new(KeeperSizes sizes)
 void books_free(Books *books)
 {
     free(books->version);
+    free(books->given);
     free(books);
 }
 
@@ -131,6 +132,7 @@ static void judge_limits(Books *books)
 static void opened(Books *books)
 {
     books->formatted = 1;
+    judge_highest(books);
     for (uint32_t at = 0; at < books->sizes.slots; at++) {
         Slot *slot = books->slots + at;
         judge_slot(books, slot, at);
@@ -221,6 +223,7 @@ static void stored_slot(Books *books, Slot *slot)
     slot->number = slot->next_number;
     slot->account = slot->next_account;
     slot->storing = 0;
+    gave(books, slot->number);
     totals.imports += (unsigned long)slot->importing;
     fill(books, slot);
     if (slot->number >= books->numbers)
@@ -256,6 +259,7 @@ void books_note(Books *books, const Note *note)
     switch (note->type) {
     case NOTE_FORMATTED: books->formatted = 1; break;
     case NOTE_LOST: broken("the disk does not open", note->a, 0, 0); break;
+    case NOTE_FOUND_HIGHEST: books->found_highest = note->b; break;
     case NOTE_FOUND_LIMIT: limit->found = note->b, limit->parent = note->c; break;
     case NOTE_FOUND_SLOT:
         slot->found_number = note->b, slot->found_account = note->c;
@@ -270,6 +274,7 @@ void books_note(Books *books, const Note *note)
     case NOTE_MOVE_END: moved(books, (int)note->a); break;
     case NOTE_SLOT:
         slot->next_number = note->b, slot->next_account = note->c, slot->storing = 1;
+        gives(books, note->b);
         if (note->b >= books->numbers)
             books->numbers = note->b + 1;
         break;

@@ -38,6 +38,9 @@ typedef struct {
 struct Books {
     KeeperSizes sizes;
     uint32_t formatted, versions, room, numbers;
+    uint32_t highest, found_highest; /* the highest number that was given or found */
+    uint8_t *given;                  /* by number: whether a design had it, or has */
+    uint32_t given_room;
     Version *version;
     Slot slots[PLUG_MOST_SLOTS];
     Limit limits[PLUG_MOST_ACCOUNTS];
@@ -50,6 +53,11 @@ void broken(const char *promise, uint32_t slot, uint32_t page, uint32_t found);
 
 /* A version is that page's of that design. */
 void enter(Books *books, uint32_t number, uint32_t page, uint32_t version);
+
+/* A number is to be given; a number was; the highest as an open found it. */
+void gives(Books *books, uint32_t number);
+void gave(Books *books, uint32_t number);
+void judge_highest(Books *books);
 
 /* What is told of a sheet, and what a slot has that got a design of it, or an empty one. */
 void sheet_begins(Books *books, const Note *note);

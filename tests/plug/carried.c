@@ -1,5 +1,42 @@
-/* Not proved: the books of design sheets: what a sheet must have, and what a design has that came by one. */
+/* Not proved: the books of numbers, none of which is given twice, and of design sheets: what a sheet must have, and what a design has that came by one. */
+#include <stdlib.h>
 #include "books.h"
+
+/* 0 is the number of a delete. */
+void gives(Books *books, uint32_t number)
+{
+    if (number < books->given_room && books->given[number])
+        broken("a number is given twice", 0, 0, number);
+}
+
+void gave(Books *books, uint32_t number)
+{
+    const uint32_t old = books->given_room;
+    if (number == 0)
+        return;
+    if (number >= old) {
+        books->given_room = 2 * number + 64;
+        books->given = realloc(books->given, books->given_room);
+        memset(books->given + old, 0, books->given_room - old);
+    }
+    books->given[number] = 1;
+    books->highest = number > books->highest ? number : books->highest;
+}
+
+/* It never falls, and nothing is in it that was not told. Of a create or import that was cut between its stores the number is skipped. */
+void judge_highest(Books *books)
+{
+    if (books->found_highest < books->highest)
+        broken("the highest number has fallen: a number can be given twice", 0, 0, books->found_highest);
+    if (books->found_highest >= books->numbers)
+        broken("the highest number is one that nobody gave", 0, 0, books->found_highest);
+    for (uint32_t at = 0; at < books->sizes.slots; at++) {
+        const Slot *slot = books->slots + at;
+        totals.skipped += (slot->storing || slot->importing) && slot->found_number == 0 && slot->next_number != 0 && slot->next_number > books->highest
+                          && slot->next_number <= books->found_highest;
+    }
+    books->highest = books->found_highest;
+}
 
 void sheet_begins(Books *books, const Note *note)
 {

@@ -11,6 +11,7 @@ enum { PLUG_MOST_WORDS = 256, PLUG_MOST_SLOTS = 4, PLUG_MOST_PAGES = 16, PLUG_MO
 enum {
     NOTE_FORMATTED = 1,
     NOTE_LOST,        /* the disk was formatted, and does not open */
+    NOTE_FOUND_HIGHEST, /* at an open: 0, the highest number */
     NOTE_FOUND_LIMIT, /* at an open: account, limit, parent */
     NOTE_FOUND_SLOT,  /* at an open: slot, number, account */
     NOTE_FOUND_PAGE,  /* at an open: slot, page, and the words that it reads */
@@ -60,7 +61,7 @@ typedef struct {
     uint64_t random;
     uint32_t formatted;    /* whether the books know of a format */
     uint32_t next_version; /* above all that were woven */
-    uint32_t next_number;  /* the same of the designs */
+    uint32_t next_number;  /* the same of the designs that were told of */
     int wrong;
     void (*tell)(void *to, const Note *note);
     void *to;
@@ -80,7 +81,7 @@ uint32_t books_next_version(const Books *books);
 uint32_t books_next_number(const Books *books);
 
 typedef struct {
-    unsigned long kills, resets, calls, reads, moves, imports, cut_imports, exports, broken;
+    unsigned long kills, resets, calls, reads, moves, imports, cut_imports, exports, skipped, broken;
     int quiet; /* print no broken promise */
 } Totals;
 extern Totals totals;

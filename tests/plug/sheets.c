@@ -25,15 +25,19 @@ static uint64_t next_record(const Run *run)
     return page == keeper->sizes.pages ? 0 : run->disk.table_at[KEEPER_TABLE_RECORDS] + 4 * (map[page] - 1u) * keeper->sizes.words;
 }
 
-/* A write to the journal's start is a store. One with several places is the slot's: it is told before it begins. The others are of records, in order. */
+/* A write to the journal's start is a store. One with several places is the slot's: it is told before it begins. The others are of the highest number,
+ * first, and of records, in order. */
 static int watched_write(void *self, uint64_t at, const void *from, size_t bytes)
 {
     enum { PIECES = 12, PLACE = 24 }; /* where an entry of the journal has their number, and the place of the first */
     Run *run = self;
     const unsigned char *entry = from;
-    if (run->importing && at == FILEDISK_BLOCK && filedisk_get(entry + PIECES, 4) > 1) {
+    const int store = run->numbering && at == FILEDISK_BLOCK, highest = store && is_highest(run, filedisk_get(entry + PLACE, 8));
+    if (is_left_out(run, at, entry))
+        return 0;
+    if (run->importing && store && filedisk_get(entry + PIECES, 4) > 1) {
         tell(run, NOTE_SLOT, run->slot, run->number, run->account);
-    } else if (run->importing && at == FILEDISK_BLOCK) {
+    } else if (run->importing && store && !highest) {
         if (filedisk_get(entry + PLACE, 8) != next_record(run) && run->own->wrong == WRONG_NONE)
             tell(run, NOTE_REFUSED, run->slot, run->record_stores, 0);
         run->record_stores++;
@@ -166,15 +170,15 @@ void import_design(Run *run, uint32_t slot)
         made_sheet(run, &sheet);
     else if (exported(run, &sheet, from - 1) != 0)
         return;
-    run->slot = slot, run->number = run->own->next_number++, run->account = chance(run, (uint32_t)keeper->sizes.accounts);
+    run->slot = slot, run->number = new_number(run), run->account = chance(run, (uint32_t)keeper->sizes.accounts);
     tell_sheet(run, &sheet, slot, run->number, from);
     tell(run, NOTE_SHEET_END, slot, 1, 0);
-    run->importing = 1, run->record_stores = 0;
+    run->importing = run->numbering = 1, run->record_stores = run->highest_stores = 0;
     const KeeperAnswer answer = without_import(&run->disk, keeper, run->own->wrong, slot, run->account, run->number, sheet.bytes, sheet.length);
-    run->importing = 0;
+    run->importing = run->numbering = 0;
     if (answer.refusal != KEEPER_AT_LIMIT && answer.refusal != KEEPER_NO_RECORD)
         must_be_done(run, answer, slot, run->number);
-    if (answer.refusal == KEEPER_DONE && !wrong && (answer.result != sheet.number || run->record_stores != sheet.pages))
+    if (answer.refusal == KEEPER_DONE && !wrong && (answer.result != sheet.number || run->record_stores != sheet.pages || run->highest_stores != 1))
         tell(run, NOTE_REFUSED, slot, run->number, answer.result);
     if (!run->disk.dead)
         tell(run, NOTE_IMPORT_END, slot, answer.refusal == KEEPER_DONE, 0);

@@ -261,14 +261,17 @@ static void set_active(Run *run, uint32_t slot, int active)
     remember(run);
 }
 
-/* An empty slot gets a design, under a number that no design had. */
+/* An empty slot gets a design. */
 static void create(Run *run, uint32_t slot)
 {
     Keeper *keeper = run->own->keeper;
-    const uint32_t account = chance(run, (uint32_t)keeper->sizes.accounts), number = run->own->next_number++;
+    const uint32_t account = chance(run, (uint32_t)keeper->sizes.accounts), number = new_number(run);
     tell(run, NOTE_SLOT, slot, number, account);
-    KeeperAnswer answer = run->own->wrong == WRONG_NO_SLOT ? keeper_create(keeper, slot, account, number)
-                                                           : filedisk_create(&run->disk, keeper, slot, account, number);
+    run->slot = slot, run->numbering = 1, run->highest_stores = 0;
+    KeeperAnswer answer = run->own->wrong == WRONG_NO_SLOT      ? keeper_create(keeper, slot, account, number)
+                          : run->own->wrong == WRONG_NO_HIGHEST ? create_slot_alone(run, slot, account, number)
+                                                                : filedisk_create(&run->disk, keeper, slot, account, number);
+    run->numbering = 0;
     must_be_done(run, answer, slot, number);
     if (!run->disk.dead)
         tell(run, NOTE_SLOT_END, slot, 0, 0);
@@ -352,7 +355,9 @@ static void one_act(Run *run)
 static int opens(Run *run)
 {
     Weaver *own = run->own;
+    run->opening = 1;
     int answer = filedisk_open(&run->disk, own->blocks, own->keeper);
+    run->opening = 0;
     if ((answer == FILEDISK_NO_DISK || answer == FILEDISK_DAMAGED) && !own->formatted) { /* a cut in a format can leave half a header */
         uint16_t parents[KEEPER_MOST_ACCOUNTS];
         for (size_t account = 0; account < KEEPER_MOST_ACCOUNTS; account++)
@@ -384,6 +389,7 @@ static void tell_found(Run *run, uint32_t slot, uint32_t page)
 static void tell_disk(Run *run)
 {
     Keeper *keeper = run->own->keeper;
+    tell(run, NOTE_FOUND_HIGHEST, 0, keeper->highest[0], 0);
     for (uint32_t account = 0; account < keeper->sizes.accounts; account++)
         tell(run, NOTE_FOUND_LIMIT, account, keeper->limits[account], keeper->parents[account]);
     for (uint32_t slot = 0; slot < keeper->sizes.slots; slot++)
@@ -405,9 +411,13 @@ void weaver_run(Weaver *weaver)
     if (!opens(&run))
         return;
     tell_disk(&run);
+    const uint32_t slot = chance(&run, (uint32_t)weaver->keeper->sizes.slots);
+    const int goes = !run.disk.dead && older_board(&run, slot);
     /* opened again: nothing of the reading stays */
     if (run.disk.dead || !opens(&run))
         return;
+    if (goes)
+        delete(&run, slot);
     /* account 0 pays for all that have none */
     for (uint32_t account = 0; account < weaver->keeper->sizes.accounts && !run.disk.dead; account++)
         if (weaver->keeper->limits[account] == 0 && (account == 0 || chance(&run, 3) == 0))

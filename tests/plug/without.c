@@ -68,10 +68,11 @@ static int store_records(FileDisk *disk, const Keeper *keeper, uint32_t slot)
     return bad;
 }
 
-/* The slot first, then the records; or the records, then number and account, then the map. */
+/* The highest number, and then: the slot first, then the records; or the records, then number and account, then the map. */
 KeeperAnswer without_import(FileDisk *disk, Keeper *keeper, int wrong, uint32_t slot, uint32_t account, uint32_t number, const uint8_t *sheet, size_t bytes)
 {
     const size_t pages = keeper->sizes.pages;
+    const FilePiece highest = {KEEPER_TABLE_HIGHEST, 0, 1, keeper->highest};
     const FilePiece pieces[3] = {
         {KEEPER_TABLE_NUMBERS, slot, 1, keeper->numbers + slot},
         {KEEPER_TABLE_ACCOUNTS, slot, 1, keeper->accounts + slot},
@@ -82,8 +83,9 @@ KeeperAnswer without_import(FileDisk *disk, Keeper *keeper, int wrong, uint32_t 
     KeeperAnswer answer = keeper_easy_import(keeper, slot, account, number, sheet, bytes);
     if (answer.refusal != KEEPER_DONE)
         return answer;
-    const int bad = wrong == WRONG_SLOT_FIRST ? filedisk_store(disk, pieces, 3) != 0 || store_records(disk, keeper, slot)
-                                              : store_records(disk, keeper, slot) || filedisk_store(disk, pieces, 2) != 0 || filedisk_store(disk, pieces + 2, 1) != 0;
+    const int bad = filedisk_store(disk, &highest, 1) != 0 ? 1
+                    : wrong == WRONG_SLOT_FIRST ? filedisk_store(disk, pieces, 3) != 0 || store_records(disk, keeper, slot)
+                                                : store_records(disk, keeper, slot) || filedisk_store(disk, pieces, 2) != 0 || filedisk_store(disk, pieces + 2, 1) != 0;
     answer.refusal = bad ? FILEDISK_DIED : KEEPER_DONE;
     return answer;
 }

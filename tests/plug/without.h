@@ -14,11 +14,13 @@ enum {
     WRONG_TWO_STORES = 6, /* a move */
     WRONG_SLOT_FIRST = 7,  /* an import's slot is stored before its records */
     WRONG_SLOT_IN_TWO = 8, /* .. or its number and account before its map */
-    WRONG_HOME_FIRST = 9, /* open brings the journal's store to its places before it is safe in the journal */
-    WRONG_SYNC_ALONE = 10, /* .. or syncs the journal, and does not write it again */
-    WRONG_TORN_STAYS = 11, /* open leaves a journal that is not whole as it is */
-    WRONG_HEADER_STAYS = 12, /* open does not write the header again */
-    WRONG_COUNT = 13
+    WRONG_NO_HIGHEST = 9,  /* the store of the highest number is left out of a create */
+    WRONG_HIGHEST_STAYS = 10, /* .. or of an open */
+    WRONG_HOME_FIRST = 11, /* open brings the journal's store to its places before it is safe in the journal */
+    WRONG_SYNC_ALONE = 12, /* .. or syncs the journal, and does not write it again */
+    WRONG_TORN_STAYS = 13, /* open leaves a journal that is not whole as it is */
+    WRONG_HEADER_STAYS = 14, /* open does not write the header again */
+    WRONG_COUNT = 15
 };
 
 /* A device that passes over what a driver leaves out that has no journal, no sync, or an open that is wrong. */

@@ -5,9 +5,9 @@
 
 enum { OTHER = 3, OTHER_PAGES = 1, NEW = 5, NEW_PAGES = 2, NEW_SLOT = 1, ACCOUNT = 1, MOST_WORDS = 256 };
 
-/* The most operations of an import: for each record a write and a sync of the journal and of its place, for the slot the same with three places; and one
- * more, so that the end comes at rest. An open writes the header, the journal and three places, and syncs twice. */
-enum { IMPORT_OPERATIONS = NEW_PAGES * 4 + 6 + 1, OPEN_OPERATIONS = 7 };
+/* The most operations of an import: for the highest number and each record a write and a sync of the journal and of its place, for the slot the same
+ * with three places; and one more, so that the end comes at rest. An open writes the header, the journal and three places, and syncs twice. */
+enum { IMPORT_OPERATIONS = (1 + NEW_PAGES) * 4 + 6 + 1, OPEN_OPERATIONS = 7 };
 
 /* No two words of two designs are alike. */
 static uint32_t word_of(uint32_t number, size_t page, size_t word)
@@ -79,7 +79,7 @@ static int import_path(Board *board, int record, unsigned ends)
     (void)record;
     if (board_open(board, 0) != FILEDISK_GOOD) /* the tables in memory too are as at the start */
         abort();
-    board->disk.blocks = without_on(&board->without, device_on(board->device, 1 + choose(IMPORT_OPERATIONS)), board->wrong);
+    board->disk.blocks = without_on(&board->without, device_on(board->device, 1 + path_choose(IMPORT_OPERATIONS)), board->wrong);
     const int known = import(board, NEW_SLOT, NEW, NEW_PAGES).refusal == KEEPER_DONE ? 1 : -1;
     return opens_agree(board, known, ends, OPEN_OPERATIONS, import_found);
 }
@@ -87,7 +87,7 @@ static int import_path(Board *board, int record, unsigned ends)
 Found paths_of_import(int wrong, unsigned ends)
 {
     Board board;
-    board_new(&board, WRONG_NONE, FILEDISK_BLOCK, choose);
+    board_new(&board, WRONG_NONE, FILEDISK_BLOCK, path_choose);
     if (board_open(&board, 0) != FILEDISK_GOOD || filedisk_limit(&board.disk, &board.keeper, 0, OTHER_PAGES + NEW_PAGES).refusal != KEEPER_DONE
         || import(&board, 0, OTHER, OTHER_PAGES).refusal != KEEPER_DONE || import_found(&board) != 0)
         abort();

@@ -27,6 +27,9 @@ static void every_path(void)
     judge("a slot, ends three times; the driver is right", paths_of_store(WRONG_NONE, 0, 3), WRONG_NONE);
     judge("two records, the second like the first behind its first sector; the driver is right", paths_of_two(WRONG_NONE), WRONG_NONE);
     judge("two records; the driver is wrong, a torn journal stays", paths_of_two(WRONG_TORN_STAYS), WRONG_TORN_STAYS);
+    judge("a create, ends twice; the driver is right", paths_of_create(WRONG_NONE, 2), WRONG_NONE);
+    judge("a create; the driver is wrong, it brings home what is not safe", paths_of_create(WRONG_HOME_FIRST, 2), WRONG_HOME_FIRST);
+    judge("opens of an older pack, two end; the driver is right", paths_of_older(WRONG_NONE, 3), WRONG_NONE);
     judge("a format over a disk; the driver is right", paths_of_format(WRONG_NONE), WRONG_NONE);
     judge("a format over a disk; the driver is wrong, the header is not written again", paths_of_format(WRONG_HEADER_STAYS), WRONG_HEADER_STAYS);
 }

@@ -7,7 +7,7 @@ enum { MOST_CHOICES = 256 };
 static unsigned choice[MOST_CHOICES], options[MOST_CHOICES];
 static size_t made, taken;
 
-unsigned choose(unsigned below)
+unsigned path_choose(unsigned below)
 {
     if (taken == made) {
         if (made == MOST_CHOICES)
@@ -37,7 +37,7 @@ void board_new(Board *board, int wrong, size_t grain, unsigned (*chooses)(unsign
     const size_t bytes = keeper_workspace(sizes);
     memset(board, 0, sizeof *board);
     keeper_place(&board->keeper, sizes, malloc(bytes), bytes);
-    board->device = device_new(FILEDISK_BLOCK + FILEDISK_JOURNAL + 11 * FILEDISK_BLOCK, grain, chooses);
+    board->device = device_new(FILEDISK_BLOCK + FILEDISK_JOURNAL + 12 * FILEDISK_BLOCK, grain, chooses);
     board->wrong = wrong;
     if (filedisk_format(&board->disk, device_on(board->device, 0), &board->keeper, NULL) != FILEDISK_GOOD || board->disk.end != board->device->bytes)
         abort();
@@ -93,15 +93,16 @@ static int slot_found(const Board *board)
 
 /* ── one store ── */
 
-/* The most operations of a store: a write and a sync of the journal, two writes and a sync of its places. An open writes the header first. A format
- * writes and syncs the header, the journal block by block, six tables, and the header. */
-enum { STORE_OPERATIONS = 5, OPEN_OPERATIONS = 6, FORMAT_OPERATIONS = 2 + 17 + 7 + 2 };
+/* The most operations of a store: a write and a sync of the journal, two writes and a sync of its places; of one with one place, as that of the highest
+ * number, one less. An open writes the header first, and that of the highest last. A format writes and syncs the header, the journal block by block,
+ * seven tables, and the header. */
+enum { STORE_OPERATIONS = 5, HIGHEST_OPERATIONS = 4, OPEN_OPERATIONS = 1 + STORE_OPERATIONS + HIGHEST_OPERATIONS, FORMAT_OPERATIONS = 2 + 17 + 8 + 2 };
 
 int opens_agree(Board *board, int known, unsigned ends, unsigned operations, int (*found_by)(const Board *))
 {
     for (unsigned end = 1; end <= ends; end++) {
         device_end(board->device);
-        const int answer = board_open(board, end < ends ? choose(operations + 1) : 0);
+        const int answer = board_open(board, end < ends ? path_choose(operations + 1) : 0);
         if (answer == FILEDISK_DEVICE && board->device->ended)
             continue;
         const int found = answer != FILEDISK_GOOD ? -1 : found_by(board);
@@ -115,7 +116,7 @@ int opens_agree(Board *board, int known, unsigned ends, unsigned operations, int
 /* The store ends somewhere; so do some opens behind it. */
 static int one_path(Board *board, int record, unsigned ends)
 {
-    board->disk.blocks = without_on(&board->without, device_on(board->device, 1 + choose(STORE_OPERATIONS)), board->wrong);
+    board->disk.blocks = without_on(&board->without, device_on(board->device, 1 + path_choose(STORE_OPERATIONS)), board->wrong);
     const int known = (record ? store_record(board, 1) : store_slot(board)) == 0 ? 1 : -1;
     return opens_agree(board, known, ends, OPEN_OPERATIONS, record ? record_found : slot_found);
 }
@@ -140,7 +141,7 @@ Found all_paths(Board *board, int (*path)(Board *, int, unsigned), int record, u
 Found paths_of_store(int wrong, int record, unsigned ends)
 {
     Board board;
-    board_new(&board, wrong, FILEDISK_BLOCK, choose);
+    board_new(&board, wrong, FILEDISK_BLOCK, path_choose);
     const Found found = all_paths(&board, one_path, record, ends);
     board_free(&board);
     return found;
@@ -152,13 +153,13 @@ Found paths_of_store(int wrong, int record, unsigned ends)
 static int two_path(Board *board, int record, unsigned ends)
 {
     (void)record, (void)ends;
-    board->disk.blocks = without_on(&board->without, device_on(board->device, 1 + choose(STORE_OPERATIONS - 1)), board->wrong);
+    board->disk.blocks = without_on(&board->without, device_on(board->device, 1 + path_choose(STORE_OPERATIONS - 1)), board->wrong);
     store_record(board, 1);
     device_end(board->device);
     if (board_open(board, 0) != FILEDISK_GOOD)
         return 0;
     const int known = record_found(board);
-    board->disk.blocks = without_on(&board->without, device_on(board->device, 1 + choose(STORE_OPERATIONS - 1)), board->wrong);
+    board->disk.blocks = without_on(&board->without, device_on(board->device, 1 + path_choose(STORE_OPERATIONS - 1)), board->wrong);
     store_record(board, 2);
     device_end(board->device);
     if (board_open(board, 0) != FILEDISK_GOOD)
@@ -170,7 +171,7 @@ static int two_path(Board *board, int record, unsigned ends)
 Found paths_of_two(int wrong)
 {
     Board board;
-    board_new(&board, wrong, FILEDISK_BLOCK, choose);
+    board_new(&board, wrong, FILEDISK_BLOCK, path_choose);
     const Found found = all_paths(&board, two_path, 1, 0);
     board_free(&board);
     return found;
@@ -182,7 +183,7 @@ Found paths_of_two(int wrong)
 static int format_path(Board *board, int record, unsigned ends)
 {
     int known = -1;
-    const FileBlocks blocks = without_on(&board->without, device_on(board->device, 1 + choose(FORMAT_OPERATIONS)), board->wrong);
+    const FileBlocks blocks = without_on(&board->without, device_on(board->device, 1 + path_choose(FORMAT_OPERATIONS)), board->wrong);
     if (filedisk_format(&board->disk, blocks, &board->keeper, NULL) == FILEDISK_GOOD)
         known = 0;
     for (unsigned end = 0; end < ends; end++) {
@@ -199,7 +200,7 @@ Found paths_of_format(int wrong)
 {
     Board board;
     enum { NO_RECORD = 9 }; /* what is found where there is no disk */
-    board_new(&board, WRONG_NONE, FILEDISK_BLOCK, choose);
+    board_new(&board, WRONG_NONE, FILEDISK_BLOCK, path_choose);
     if (board_open(&board, 0) != FILEDISK_GOOD || store_record(&board, 1) != 0)
         abort();
     board.wrong = wrong;

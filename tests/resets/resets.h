@@ -1,5 +1,5 @@
 /* Not proved: what the parts of the test of resets share. A device whose every choice is made by `choose` (device.c): all of them, path by path
- * (paths.c, imports.c), or by chance (torn.c). */
+ * (paths.c, numbers.c, imports.c), or by chance (torn.c). */
 #ifndef RESETS_H
 #define RESETS_H
 
@@ -42,7 +42,7 @@ int board_open(Board *board, unsigned countdown); /* filedisk_open's answer */
 typedef struct {
     unsigned long paths, broken;
 } Found;
-unsigned choose(unsigned below);
+unsigned path_choose(unsigned below);
 Found all_paths(Board *board, int (*path)(Board *, int, unsigned), int record, unsigned ends);
 
 /* So many opens, each of which but the last ends at one of its operations or at rest. What `found_by` says of the disk is 0 or more, and stays: -1 is
@@ -54,6 +54,10 @@ Found paths_of_store(int wrong, int record, unsigned ends);
 Found paths_of_two(int wrong);
 Found paths_of_format(int wrong);
 Found paths_of_import(int wrong, unsigned ends);
+
+/* The same of a create, whose stores are two, and of opens of an older pack that has no highest number. */
+Found paths_of_create(int wrong, unsigned ends);
+Found paths_of_older(int wrong, unsigned ends);
 
 /* So many stores, torn by chance at that grain: whether each is found whole or not at all, and stays so. */
 Found torn_stores(int wrong, size_t grain, unsigned long stores, uint64_t seed);

@@ -29,6 +29,7 @@ pub fn apply_all(
     maps: &mut [u16],
     limits: &mut [u16],
     parents: &[u16],
+    highest: &mut [u32],
     frame_words: &mut [u32],
     free_queue: &mut [u16],
     removal_list: &mut [u16],
@@ -45,11 +46,11 @@ pub fn apply_all(
     ensures { λ r. ⌜ record {
       answer = r .answer;
       answers = now (answers .exit);
-      left = allLeft (framesOf (r .frames) lent) (r .pool) records numbers accounts maps limits parents
+      left = allLeft (framesOf (r .frames) lent) (r .pool) records numbers accounts maps limits parents highest
           «frame_words» «free_queue» «removal_list» addresses states owners «free_map» active updating images line used;
     }
         ≡ applyAll sizes (now (requests .entry)) (now (answers .entry))
-        (allEntered (framesOf frames lent) pool records numbers accounts maps limits parents
+        (allEntered (framesOf frames lent) pool records numbers accounts maps limits parents highest
         «frame_words» «free_queue» «removal_list» addresses states owners «free_map» active updating images line used) ⌝ }
 {
     let n = request_count(requests.len(), answers.len());
@@ -65,6 +66,7 @@ pub fn apply_all(
         maps,
         limits,
         parents,
+        highest,
         frame_words,
         free_queue,
         removal_list,
@@ -99,6 +101,7 @@ pub fn apply_all(
         maps,
         limits,
         parents,
+        highest,
         frame_words,
         free_queue,
         removal_list,

@@ -29,6 +29,7 @@ pub fn apply_one(
     maps: &mut [u16],
     limits: &mut [u16],
     parents: &[u16],
+    highest: &mut [u32],
     frame_words: &mut [u32],
     free_queue: &mut [u16],
     removal_list: &mut [u16],
@@ -43,10 +44,10 @@ pub fn apply_one(
     used: &mut [u16],
 ) -> Applied
     ensures { λ r. ⌜ leaves (r .answer)
-        (allLeft (framesOf (r .frames) lent) (deposited (r .deposited) (taken sizes (r .taken) pool)) records numbers accounts maps limits parents
+        (allLeft (framesOf (r .frames) lent) (deposited (r .deposited) (taken sizes (r .taken) pool)) records numbers accounts maps limits parents highest
         «frame_words» «free_queue» «removal_list» addresses states owners «free_map» active updating images line used)
         ≡ apply sizes
-        (allEntered (framesOf frames lent) pool records numbers accounts maps limits parents
+        (allEntered (framesOf frames lent) pool records numbers accounts maps limits parents highest
         «frame_words» «free_queue» «removal_list» addresses states owners «free_map» active updating images line used) request ⌝ }
 {
     let mut packed = pack_all(frames);
@@ -61,6 +62,7 @@ pub fn apply_one(
         maps,
         limits,
         parents,
+        highest,
         frame_words,
         free_queue,
         removal_list,
@@ -97,6 +99,7 @@ pub fn apply_one(
         maps,
         limits,
         parents,
+        highest,
         frame_words,
         free_queue,
         removal_list,

@@ -40,6 +40,7 @@ pub fn turn(
     maps: &mut [u16],
     limits: &mut [u16],
     parents: &[u16],
+    highest: &mut [u32],
     frame_words: &mut [u32],
     free_queue: &mut [u16],
     removal_list: &mut [u16],
@@ -54,18 +55,18 @@ pub fn turn(
     used: &mut [u16],
 ) -> Last
     requires { ⌜ (5 * k + 4 < length (now requests)) × (2 * k + 1 < length (now answers)) × Kept sizes
-        (allGiven (framesGiven sizes frames) (last .pool) records numbers accounts maps limits parents
+        (allGiven (framesGiven sizes frames) (last .pool) records numbers accounts maps limits parents highest
         «frame_words» «free_queue» «removal_list» addresses states owners «free_map» active updating images line used) ⌝ }
     ensures turned { λ r. ⌜ record {
       answer = r .answer;
       answers = now (answers .exit);
-      left = allLeft (framesLeft sizes frames) (r .pool) records numbers accounts maps limits parents
+      left = allLeft (framesLeft sizes frames) (r .pool) records numbers accounts maps limits parents highest
           «frame_words» «free_queue» «removal_list» addresses states owners «free_map» active updating images line used;
     }
         ≡ turned sizes (now (requests .entry)) k (record {
           answer = last .answer;
           answers = now (answers .entry);
-          left = allEntered (framesEntered sizes frames) (last .pool) records numbers accounts maps limits parents
+          left = allEntered (framesEntered sizes frames) (last .pool) records numbers accounts maps limits parents highest
               «frame_words» «free_queue» «removal_list» addresses states owners «free_map» active updating images line used;
         }) ⌝ }
     ensures pool { λ r. ⌜ r .pool ≡ deposited (r .deposited) (taken sizes (r .taken) (last .pool)) ⌝ }
@@ -96,6 +97,7 @@ pub fn turn(
         maps,
         limits,
         parents,
+        highest,
         frame_words,
         free_queue,
         removal_list,

@@ -28,6 +28,7 @@ pub fn turns(
     maps: &mut [u16],
     limits: &mut [u16],
     parents: &[u16],
+    highest: &mut [u32],
     frame_words: &mut [u32],
     free_queue: &mut [u16],
     removal_list: &mut [u16],
@@ -42,16 +43,16 @@ pub fn turns(
     used: &mut [u16],
 ) -> Last
     requires { ⌜ (5 * n ≤ length (now requests)) × (2 * n ≤ length (now answers)) × Kept sizes
-        (allGiven (framesGiven sizes frames) pool records numbers accounts maps limits parents
+        (allGiven (framesGiven sizes frames) pool records numbers accounts maps limits parents highest
         «frame_words» «free_queue» «removal_list» addresses states owners «free_map» active updating images line used) ⌝ }
     ensures listed { λ r. ⌜ record {
       answer = r .answer;
       answers = now (answers .exit);
-      left = allLeft (framesLeft sizes frames) (r .pool) records numbers accounts maps limits parents
+      left = allLeft (framesLeft sizes frames) (r .pool) records numbers accounts maps limits parents highest
           «frame_words» «free_queue» «removal_list» addresses states owners «free_map» active updating images line used;
     }
         ≡ after sizes (now (requests .entry)) (now (answers .entry))
-        (allEntered (framesEntered sizes frames) pool records numbers accounts maps limits parents
+        (allEntered (framesEntered sizes frames) pool records numbers accounts maps limits parents highest
         «frame_words» «free_queue» «removal_list» addresses states owners «free_map» active updating images line used) n ⌝ }
     ensures one { λ r. ⌜ (n ≡ 1 → r .pool ≡ deposited (r .deposited) (taken sizes (r .taken) pool)) ⌝ }
 {
@@ -80,6 +81,7 @@ pub fn turns(
             maps,
             limits,
             parents,
+            highest,
             frame_words,
             free_queue,
             removal_list,

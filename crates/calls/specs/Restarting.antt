@@ -13,7 +13,7 @@ use Rattle.model.specs.Rules.{diskRules}
 use Rattle.model.specs.Setters.{setLine}
 use Rattle.model.specs.Laws.Own.{leaves}
 use Rattle.model.specs.Step.{allFit, restart}
-use Rattle.model.specs.Restart.{restarted}
+use Rattle.model.specs.Restart.{raised, restarted}
 use Rattle.model.specs.Calls.{framesOf}
 use Rattle.restarts.specs.Restarts.{restarted-frames}
 use Rattle.restarts.specs.Answers.{restart-done}
@@ -25,6 +25,6 @@ module _ (z : Sizes) where
   restarted-lent d fs lent e t = lent-back fs (restarted z d .memory .core .frames) lent (z .frames) e t (ap length (restarted-frames z d) ∙ length-replicate (z .frames) _)
 
   -- answered 0, with the restarted state left: its other tables, and nobody waiting
-  pub restart-left : (st left : State) (line : List ℕ) (answer : Answer) → answer ≡ record { refusal = 0; result = 0 } → left ≡ restarted z (st .disk) → line ≡ left .memory .line
+  pub restart-left : (st left : State) (line : List ℕ) (answer : Answer) → answer ≡ record { refusal = 0; result = 0 } → left ≡ restarted z (raised z (st .disk)) → line ≡ left .memory .line
       → true ≡ test (allFit z st) → true ≡ test (diskRules z st) → leaves answer (setLine line left) ≡ restart z st
   restart-left st left line answer a l n f r = ap (λ (x : List ℕ). leaves answer (setLine x left)) n ∙ (λ x. leaves (a x) (l x)) ∙ restart-done z st f r

@@ -27,6 +27,7 @@ pub fn carry(
     maps: &mut [u16],
     limits: &mut [u16],
     parents: &[u16],
+    highest: &mut [u32],
     frame_words: &mut [u32],
     free_queue: &mut [u16],
     removal_list: &mut [u16],
@@ -41,13 +42,13 @@ pub fn carry(
     used: &mut [u16],
 ) -> Worked
     requires { ⌜ Kept sizes
-        (allGiven (framesGiven sizes frames) pool records numbers accounts maps limits parents
+        (allGiven (framesGiven sizes frames) pool records numbers accounts maps limits parents highest
         «frame_words» «free_queue» «removal_list» addresses states owners «free_map» active updating images line used) ⌝ }
     ensures { λ r. ⌜ leaves (r .answer)
-        (allLeft (framesLeft sizes frames) (deposited (r .deposited) (taken sizes (r .taken) pool)) records numbers accounts maps limits parents
+        (allLeft (framesLeft sizes frames) (deposited (r .deposited) (taken sizes (r .taken) pool)) records numbers accounts maps limits parents highest
         «frame_words» «free_queue» «removal_list» addresses states owners «free_map» active updating images line used)
         ≡ own sizes
-        (allEntered (framesEntered sizes frames) pool records numbers accounts maps limits parents
+        (allEntered (framesEntered sizes frames) pool records numbers accounts maps limits parents highest
         «frame_words» «free_queue» «removal_list» addresses states owners «free_map» active updating images line used) event ⌝ }
 {
     match event {
@@ -63,6 +64,7 @@ pub fn carry(
                 maps,
                 limits,
                 parents,
+                highest,
                 frame_words,
                 free_queue,
                 removal_list,
@@ -93,6 +95,7 @@ pub fn carry(
                 maps,
                 limits,
                 parents,
+                highest,
                 frame_words,
                 free_queue,
                 removal_list,
@@ -122,6 +125,7 @@ pub fn carry(
             maps,
             limits,
             parents,
+            highest,
             frame_words,
             free_queue,
             removal_list,
@@ -145,6 +149,7 @@ pub fn carry(
             maps,
             limits,
             parents,
+            highest,
             frame_words,
             free_queue,
             removal_list,
@@ -168,6 +173,7 @@ pub fn carry(
             maps,
             limits,
             parents,
+            highest,
             frame_words,
             free_queue,
             removal_list,

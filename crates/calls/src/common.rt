@@ -22,6 +22,7 @@ pub fn common(
     maps: &[u16],
     limits: &[u16],
     parents: &[u16],
+    highest: &[u32],
     frame_words: &[u32],
     free_queue: &[u16],
     removal_list: &[u16],
@@ -37,7 +38,7 @@ pub fn common(
 ) -> u32
     requires { ⌜ length (now frames) ≡ 64 ⌝ }
     ensures { λ r. ⌜ r ≡ common sizes
-        (allEntered (framesOf (unpacked (now (frames .entry))) lent) pool records numbers accounts maps limits parents
+        (allEntered (framesOf (unpacked (now (frames .entry))) lent) pool records numbers accounts maps limits parents highest
         «frame_words» «free_queue» «removal_list» addresses states owners «free_map» active updating images line used) ⌝ }
 {
     if lent_fit(
@@ -49,6 +50,7 @@ pub fn common(
         maps,
         limits,
         parents,
+        highest,
         frame_words,
         free_queue,
         removal_list,
@@ -75,6 +77,7 @@ pub fn common(
         maps,
         limits,
         parents,
+        highest,
         frame_words,
         free_queue,
         removal_list,

@@ -26,6 +26,7 @@ pub fn lent_fit(
     maps: &[u16],
     limits: &[u16],
     parents: &[u16],
+    highest: &[u32],
     frame_words: &[u32],
     free_queue: &[u16],
     removal_list: &[u16],
@@ -40,7 +41,7 @@ pub fn lent_fit(
     used: &[u16],
 ) -> bool
     ensures { λ r. ⌜ ((frames : List Frame) (pool : Pool) → length frames ≡ lent → r ≡ test (allFit sizes
-        (allEntered frames pool records numbers accounts maps limits parents
+        (allEntered frames pool records numbers accounts maps limits parents highest
         «frame_words» «free_queue» «removal_list» addresses states owners «free_map» active updating images line used))) ⌝ }
 {
     all_fit(
@@ -52,6 +53,7 @@ pub fn lent_fit(
         maps,
         limits,
         parents,
+        highest,
         frame_words,
         free_queue,
         removal_list,
@@ -79,6 +81,7 @@ pub fn lent_rules(
     maps: &[u16],
     limits: &[u16],
     parents: &[u16],
+    highest: &[u32],
     frame_words: &[u32],
     free_queue: &[u16],
     removal_list: &[u16],
@@ -93,10 +96,10 @@ pub fn lent_rules(
     used: &[u16],
 ) -> bool
     requires { ⌜ Holds (allFit sizes
-        (allGiven (take lent (unpacked (now frames))) pool records numbers accounts maps limits parents
+        (allGiven (take lent (unpacked (now frames))) pool records numbers accounts maps limits parents highest
         «frame_words» «free_queue» «removal_list» addresses states owners «free_map» active updating images line used)) ⌝ }
     ensures { λ r. ⌜ r ≡ test (allRules sizes
-        (allEntered (take lent (unpacked (now (frames .entry)))) pool records numbers accounts maps limits parents
+        (allEntered (take lent (unpacked (now (frames .entry)))) pool records numbers accounts maps limits parents highest
         «frame_words» «free_queue» «removal_list» addresses states owners «free_map» active updating images line used)) ⌝ }
 {
     let pages = sizes.slots * sizes.pages;
@@ -111,6 +114,7 @@ pub fn lent_rules(
         maps,
         limits,
         parents,
+        highest,
         frame_words,
         free_queue,
         removal_list,

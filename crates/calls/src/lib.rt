@@ -14,6 +14,7 @@ use model::sizes::Sizes;
 use questions::question1::disk_fit;
 use questions::question2::disk_rules;
 use restarts::format::format_tables;
+use restarts::numbers::raise_highest;
 use restarts::restart::restart_tables;
 use restarts::zero::zero16;
 use rules::slots::parents_ok;
@@ -24,7 +25,7 @@ pub mod carry; // an event handed on to its family
 pub mod looks; // a page look
 pub mod packing; // the frames, packed and back
 
-// Questions 1 and 2 (the disk rules only), then every table of the memory part set anew.
+// Questions 1 and 2 (the disk rules only), then the highest number raised, its own one store, and every table of the memory part set anew.
 pub fn restart_core(
     sizes: Sizes,
     lent: usize,
@@ -36,6 +37,7 @@ pub fn restart_core(
     maps: &[u16],
     limits: &[u16],
     parents: &[u16],
+    highest: &mut [u32],
     frame_words: &mut [u32],
     free_queue: &mut [u16],
     removal_list: &mut [u16],
@@ -50,10 +52,10 @@ pub fn restart_core(
     used: &mut [u16],
 ) -> Pooled
     ensures { λ r. ⌜ leaves (r .answer)
-        (allLeft (framesOf (r .frames) lent) (r .pool) records numbers accounts maps limits parents
+        (allLeft (framesOf (r .frames) lent) (r .pool) records numbers accounts maps limits parents highest
         «frame_words» «free_queue» «removal_list» addresses states owners «free_map» active updating images line used)
         ≡ restart sizes
-        (allEntered (framesOf frames lent) pool records numbers accounts maps limits parents
+        (allEntered (framesOf frames lent) pool records numbers accounts maps limits parents highest
         «frame_words» «free_queue» «removal_list» addresses states owners «free_map» active updating images line used) ⌝ }
 {
     if lent_fit(
@@ -65,6 +67,7 @@ pub fn restart_core(
         maps,
         limits,
         parents,
+        highest,
         frame_words,
         free_queue,
         removal_list,
@@ -88,7 +91,16 @@ pub fn restart_core(
             answer,
         };
     }
-    if disk_rules(sizes, records, numbers, accounts, maps, limits, parents) {} else {
+    if disk_rules(
+        sizes,
+        records,
+        numbers,
+        accounts,
+        maps,
+        limits,
+        parents,
+        highest,
+    ) {} else {
         let answer = Answer {
             refusal: 2,
             result: 0,
@@ -99,6 +111,7 @@ pub fn restart_core(
             answer,
         };
     }
+    raise_highest(sizes, numbers, highest);
     zero16(line);
     restart_tables(
         sizes,
@@ -130,11 +143,21 @@ pub fn format(
     maps: &mut [u16],
     limits: &mut [u16],
     parents: &mut [u16],
+    highest: &mut [u32],
 ) -> Answer
-    ensures { λ r. ⌜ record { answer = r; left = diskOf (now (records .exit)) (now (numbers .exit)) (now (accounts .exit)) (now (maps .exit)) (now (limits .exit)) (now (parents .exit)) }
-        ≡ format sizes (now (wanted .entry)) (diskOf (now (records .entry)) (now (numbers .entry)) (now (accounts .entry)) (now (maps .entry)) (now (limits .entry)) (now (parents .entry))) ⌝ }
+    ensures { λ r. ⌜ record { answer = r; left = diskOf (now (records .exit)) (now (numbers .exit)) (now (accounts .exit)) (now (maps .exit)) (now (limits .exit)) (now (parents .exit)) (now (highest .exit)) }
+        ≡ format sizes (now (wanted .entry)) (diskOf (now (records .entry)) (now (numbers .entry)) (now (accounts .entry)) (now (maps .entry)) (now (limits .entry)) (now (parents .entry)) (now (highest .entry))) ⌝ }
 {
-    if disk_fit(sizes, records, numbers, accounts, maps, limits, parents)
+    if disk_fit(
+        sizes,
+        records,
+        numbers,
+        accounts,
+        maps,
+        limits,
+        parents,
+        highest,
+    )
         & (wanted.len() == sizes.accounts)
     {} else {
         return Answer {
@@ -148,7 +171,16 @@ pub fn format(
             result: 0,
         };
     }
-    format_tables(records, numbers, accounts, maps, limits, wanted, parents);
+    format_tables(
+        records,
+        numbers,
+        accounts,
+        maps,
+        limits,
+        wanted,
+        parents,
+        highest,
+    );
     Answer {
         refusal: 0,
         result: 0,

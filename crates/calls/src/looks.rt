@@ -29,6 +29,7 @@ pub fn place_core(
     maps: &[u16],
     limits: &[u16],
     parents: &[u16],
+    highest: &[u32],
     frame_words: &[u32],
     free_queue: &[u16],
     removal_list: &[u16],
@@ -43,7 +44,7 @@ pub fn place_core(
     used: &[u16],
 ) -> Part
     ensures { λ r. ⌜ (r ≡ partOf sizes
-        (allEntered (framesOf frames lent) pool records numbers accounts maps limits parents
+        (allEntered (framesOf frames lent) pool records numbers accounts maps limits parents highest
         «frame_words» «free_queue» «removal_list» addresses states owners «free_map» active updating images line used) slot page)
         × (r .start + r .count ≤ length (now («frame_words» .entry))) ⌝ }
 {
@@ -59,6 +60,7 @@ pub fn place_core(
         maps,
         limits,
         parents,
+        highest,
         frame_words,
         free_queue,
         removal_list,
@@ -97,6 +99,7 @@ pub fn look_core<'a>(
     maps: &[u16],
     limits: &[u16],
     parents: &[u16],
+    highest: &[u32],
     frame_words: &'a [u32],
     free_queue: &[u16],
     removal_list: &[u16],
@@ -110,7 +113,7 @@ pub fn look_core<'a>(
     line: &[u16],
     used: &[u16],
 ) -> &'a [u32]
-    ensures { λ r. ⌜ (let st = allEntered (framesOf frames lent) pool records numbers accounts maps limits parents
+    ensures { λ r. ⌜ (let st = allEntered (framesOf frames lent) pool records numbers accounts maps limits parents highest
         «frame_words» «free_queue» «removal_list» addresses states owners «free_map» active updating images line used in
         (now r ≡ look sizes st slot page .left)
         × ((now (refusal .exit) ≡ look sizes st slot page .answer .refusal)
@@ -129,6 +132,7 @@ pub fn look_core<'a>(
         maps,
         limits,
         parents,
+        highest,
         frame_words,
         free_queue,
         removal_list,

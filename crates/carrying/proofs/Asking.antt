@@ -93,7 +93,7 @@ module _ (z : Sizes) (account w n count free : ℕ) (limits parents used : List 
 -- ── the whole sheet ──
 module _ (z : Sizes) (account : ℕ) (s : List ℕ) (free : ℕ) (limits parents used : List ℕ) where
   abbrev Said : ℕ → ℕ → ℕ → Type 0
-  Said = Says (sheetQuestions z (seenAsked free [] limits parents used) account s) s
+  Said = Says (sheetQuestions z (seenAsked free [] limits parents [] used) account s) s
 
   pub says-29 : Wrong ≡ parsed s → Said 29 0 0
   says-29 e = record { asked = sym (first-no 29 _ _ (no-form s e)); number-is = λ h. absurd (omega (arith, h)); count-is = λ h. absurd (omega (arith, h)) }

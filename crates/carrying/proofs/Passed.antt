@@ -25,7 +25,7 @@ use Rattle.carrying.specs.Imports.{Tables, tablesOf, Importing, Affords,
 
 module _ (z : Sizes) (s q n : ℕ) (b limits parents : List ℕ) (t : Tables) where
   abbrev asked : ℕ
-  asked = firstNo (importQuestions z (seenAsked (t .pool .free) (t .numbers) limits parents (t .used)) s q n b)
+  asked = firstNo (importQuestions z (seenAsked (t .pool .free) (t .numbers) limits parents (t .highest) (t .used)) s q n b)
 
   -- refused
   pub import-no : (m : ℕ) → m ≡ asked → ¬ (m ≡ 0) → answered (record { refusal = m; result = 0 }) t ≡ importOf z s q n b limits parents t
@@ -45,8 +45,8 @@ module _ (z : Sizes) (s q n : ℕ) (b limits parents : List ℕ) (t : Tables) wh
 
     pub passed : Passed
     passed =
-        let y : Asked (importQuestions z (seenAsked (t .pool .free) (t .numbers) limits parents (t .used)) s q n b) = all-yes 0 _ tt (sym e) in
-        let ((slot, (account, number)), (small, (empty, (fresh, (form, ((words, pages), (affords, (room, none)))))))) = y in
+        let y : Asked (importQuestions z (seenAsked (t .pool .free) (t .numbers) limits parents (t .highest) (t .used)) s q n b) = all-yes 0 _ tt (sym e) in
+        let ((slot, (account, number)), (small, (empty, (fresh, (above, (form, ((words, pages), (affords, (room, none))))))))) = y in
         record { slot = slot; account = account; form = formed b form; words = words; pages = pages; affords = affords; room = room }
 
     pub few : countIn b ≤ t .pool .free
@@ -86,7 +86,7 @@ module _ (z : Sizes) (s q n : ℕ) (b limits parents : List ℕ) (t : Tables) wh
     p = payer (at parents) (at limits) q
 
     -- carried out: the tables, after so many pages
-    pub import-yes : (count number last : ℕ) {pool : Pool} {records numbers accounts maps states owners map used : List ℕ}
+    pub import-yes : (count number last : ℕ) {pool : Pool} {records numbers accounts maps highest states owners map used : List ℕ}
         → count ≡ countIn b
         → number ≡ numberIn b
         → last ≡ taking z st s count .last
@@ -95,14 +95,15 @@ module _ (z : Sizes) (s q n : ℕ) (b limits parents : List ℕ) (t : Tables) wh
         → numbers ≡ set (t .numbers) s n
         → accounts ≡ set (t .accounts) s q
         → maps ≡ store (t .maps) (ofSlot z s) (λ i. entry z st s q n h (i % z .pages))
+        → highest ≡ set (t .highest) 0 n
         → states ≡ taking z st s count .states
         → owners ≡ taking z st s count .owners
         → map ≡ freeMap z (at (taking z st s count .states))
         → used ≡ usedMore (t .used) p count
-        → answered (record { refusal = 0; result = number }) (tablesOf pool records numbers accounts maps states owners map used) ≡ importOf z s q n b limits parents t
+        → answered (record { refusal = 0; result = number }) (tablesOf pool records numbers accounts maps highest states owners map used) ≡ importOf z s q n b limits parents t
     unfolding importOf importedTables
-    import-yes count number last ec en el ep er eu ea em es eo ef ex =
-        (λ i. answered (record { refusal = 0; result = en i }) (tablesOf (ep i) (er i) (eu i) (ea i) (em i) (es i) (eo i) (ef i) (ex i)))
+    import-yes count number last ec en el ep er eu ea em eh es eo ef ex =
+        (λ i. answered (record { refusal = 0; result = en i }) (tablesOf (ep i) (er i) (eu i) (ea i) (em i) (eh i) (es i) (eo i) (ef i) (ex i)))
         ∙ (λ i. answered (record { refusal = 0; result = numberIn b }) (after count (el i)))
         ∙ ap (λ (c : ℕ). answered (record { refusal = 0; result = numberIn b }) (after c (taking z st s c .last))) ec
         ∙ ap (λ (m : ℕ). outcome m (numberIn b) t (importedTables z s q n b limits parents t)) e
@@ -110,4 +111,4 @@ module _ (z : Sizes) (s q n : ℕ) (b limits parents : List ℕ) (t : Tables) wh
         after : ℕ → ℕ → Tables
         after c last = tablesOf (record { hand = taken z last (t .pool) .hand; free = t .pool .free - c })
             (recordsAfter z st s h c (t .records)) (set (t .numbers) s n) (set (t .accounts) s q) (store (t .maps) (ofSlot z s) (λ i. entry z st s q n h (i % z .pages)))
-            (taking z st s c .states) (taking z st s c .owners) (freeMap z (at (taking z st s c .states))) (usedMore (t .used) p c)
+            (set (t .highest) 0 n) (taking z st s c .states) (taking z st s c .owners) (freeMap z (at (taking z st s c .states))) (usedMore (t .used) p c)

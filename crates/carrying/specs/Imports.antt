@@ -28,18 +28,20 @@ pub record Tables : Type 0 where
   pub numbers : List ℕ
   pub accounts : List ℕ
   pub maps : List ℕ
+  pub highest : List ℕ
   pub states : List ℕ
   pub owners : List ℕ
   pub free-map : List ℕ
   pub used : List ℕ
 
-abbrev pub tablesOf : Pool → List ℕ → List ℕ → List ℕ → List ℕ → List ℕ → List ℕ → List ℕ → List ℕ → Tables
-tablesOf pool records numbers accounts maps states owners free-map used = record {
+abbrev pub tablesOf : Pool → List ℕ → List ℕ → List ℕ → List ℕ → List ℕ → List ℕ → List ℕ → List ℕ → List ℕ → Tables
+tablesOf pool records numbers accounts maps highest states owners free-map used = record {
   pool = pool;
   records = records;
   numbers = numbers;
   accounts = accounts;
   maps = maps;
+  highest = highest;
   states = states;
   owners = owners;
   free-map = free-map;
@@ -47,13 +49,13 @@ tablesOf pool records numbers accounts maps states owners free-map used = record
 }
 
 -- ── by bare names: as they were passed, and as they are left ──
-abbrev pub enteredTables : Pool → Table → Table → Table → Table → Table → Table → Table → Table → Tables
-enteredTables pool records numbers accounts maps states owners free-map used =
-    tablesOf pool (records .entry .now) (numbers .entry .now) (accounts .entry .now) (maps .entry .now) (states .entry .now) (owners .entry .now) (free-map .entry .now) (used .entry .now)
+abbrev pub enteredTables : Pool → Table → Table → Table → Table → Table → Table → Table → Table → Table → Tables
+enteredTables pool records numbers accounts maps highest states owners free-map used =
+    tablesOf pool (records .entry .now) (numbers .entry .now) (accounts .entry .now) (maps .entry .now) (highest .entry .now) (states .entry .now) (owners .entry .now) (free-map .entry .now) (used .entry .now)
 
-abbrev pub leftTables : Pool → Table → Table → Table → Table → Table → Table → Table → Table → Tables
-leftTables pool records numbers accounts maps states owners free-map used =
-    tablesOf pool (records .exit .now) (numbers .exit .now) (accounts .exit .now) (maps .exit .now) (states .exit .now) (owners .exit .now) (free-map .exit .now) (used .exit .now)
+abbrev pub leftTables : Pool → Table → Table → Table → Table → Table → Table → Table → Table → Table → Tables
+leftTables pool records numbers accounts maps highest states owners free-map used =
+    tablesOf pool (records .exit .now) (numbers .exit .now) (accounts .exit .now) (maps .exit .now) (highest .exit .now) (states .exit .now) (owners .exit .now) (free-map .exit .now) (used .exit .now)
 
 abbrev pub answered : Answer → Tables → Outcome Tables
 answered answer left = record { answer = answer; left = left }
@@ -89,10 +91,11 @@ module _ (z : Sizes) (s q n : ℕ) (b limits parents : List ℕ) (t : Tables) wh
       (set (t .numbers) s n)
       (set (t .accounts) s q)
       (store (t .maps) (ofSlot z s) (λ i. entry z st s q n h (i % z .pages)))
+      (set (t .highest) 0 n)
       (k .states)
       (k .owners)
       (freeMap z (at (k .states)))
       (usedMore (t .used) (payer (at parents) (at limits) q) (countIn b))
 
   unfoldable pub importOf : Outcome Tables
-  importOf = outcome (firstNo (importQuestions z (seenAsked (t .pool .free) (t .numbers) limits parents (t .used)) s q n b)) (numberIn b) t importedTables
+  importOf = outcome (firstNo (importQuestions z (seenAsked (t .pool .free) (t .numbers) limits parents (t .highest) (t .used)) s q n b)) (numberIn b) t importedTables

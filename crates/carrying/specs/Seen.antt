@@ -6,7 +6,7 @@ use lib.ListN.{length, set}
 use Rattle.tables.specs.Base.{at}
 use Rattle.model.specs.declared.sizes.Sizes.{Sizes}
 use Rattle.model.specs.State.{State, freeCount, allPages}
-use Rattle.model.specs.Setters.{onDisk, onHeld, setNumbers, setLimits, setParents, setStates, setOwners, setHand, setFree, setUsed}
+use Rattle.model.specs.Setters.{onDisk, onHeld, setNumbers, setLimits, setParents, setHighest, setStates, setOwners, setHand, setFree, setUsed}
 use Rattle.model.specs.Parts.{setPart}
 use Rattle.model.specs.Lent.{noState}
 use Rattle.model.specs.Laws.Fit.{Within}
@@ -20,9 +20,9 @@ abbrev pub seen : ℕ → List ℕ → List ℕ → State
 seen hand states owners = onHeld (λ h. setHand hand (setStates states (setOwners owners h))) noState
 
 -- what the questions look at
-abbrev pub seenAsked : ℕ → List ℕ → List ℕ → List ℕ → List ℕ → State
-seenAsked free numbers limits parents used =
-    onDisk (λ d. setNumbers numbers (setLimits limits (setParents parents d))) (onHeld (setFree free) (setUsed used noState))
+abbrev pub seenAsked : ℕ → List ℕ → List ℕ → List ℕ → List ℕ → List ℕ → State
+seenAsked free numbers limits parents highest used =
+    onDisk (λ d. setNumbers numbers (setLimits limits (setParents parents (setHighest highest d)))) (onHeld (setFree free) (setUsed used noState))
 
 module _ (z : Sizes) (st : State) (s : ℕ) (h : Sheet) where
   -- the records once the first k pages are stored, one store each

@@ -78,7 +78,7 @@ fn ask_sheet(
     parents: &[u16],
     used: &[u16],
 ) -> Asked
-    ensures { λ r. ⌜ Says (sheetQuestions sizes (seenAsked free [] (now (limits .entry)) (now (parents .entry)) (now (used .entry))) account (now (sheet .entry))) (now (sheet .entry)) (r .refusal) (r .number) (r .count) ⌝ }
+    ensures { λ r. ⌜ Says (sheetQuestions sizes (seenAsked free [] (now (limits .entry)) (now (parents .entry)) [] (now (used .entry))) account (now (sheet .entry))) (now (sheet .entry)) (r .refusal) (r .number) (r .count) ⌝ }
 {
     let said = parse(sheet);
     match said {
@@ -113,7 +113,7 @@ fn ask_sheet(
     }
 }
 
-// Import's, in order: 3, 32, 5 and 6, as create asks them, then those about the sheet.
+// Import's, in order: 3, 32, 5, 6 and 33, as create asks them, then those about the sheet.
 pub fn ask_import(
     sizes: Sizes,
     slot: usize,
@@ -124,11 +124,12 @@ pub fn ask_import(
     numbers: &[u32],
     limits: &[u16],
     parents: &[u16],
+    highest: &[u32],
     used: &[u16],
 ) -> Asked
-    ensures { λ r. ⌜ Says (importQuestions sizes (seenAsked free (now (numbers .entry)) (now (limits .entry)) (now (parents .entry)) (now (used .entry))) slot account number (now (sheet .entry))) (now (sheet .entry)) (r .refusal) (r .number) (r .count) ⌝ }
+    ensures { λ r. ⌜ Says (importQuestions sizes (seenAsked free (now (numbers .entry)) (now (limits .entry)) (now (parents .entry)) (now (highest .entry)) (now (used .entry))) slot account number (now (sheet .entry))) (now (sheet .entry)) (r .refusal) (r .number) (r .count) ⌝ }
 {
-    let refusal = ask_create(sizes, slot, account, number, numbers);
+    let refusal = ask_create(sizes, slot, account, number, numbers, highest);
     if refusal != 0 {
         return Asked {
             refusal,

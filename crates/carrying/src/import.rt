@@ -16,6 +16,7 @@ use crate::pages::carry_pages;
 use crate::steps::store_slot;
 use leaves::cells::at16;
 use leaves::cells::put16;
+use leaves::numbers::store_highest;
 use leaves::payer::payer_of;
 use leaves::payer::wide;
 use leaves::pool::take;
@@ -26,7 +27,7 @@ use model::sizes::Sizes;
 // The most pages that a design has.
 const PAGES: usize = 256;
 
-// The stores, in order: the records', pages rising, then the slot's, the last. The result is the last record taken + 1.
+// The stores, in order: the highest number first of all, then the records', pages rising, then the slot's, the last. The result is the last record taken + 1.
 fn import_design(
     sizes: Sizes,
     slot: usize,
@@ -39,6 +40,7 @@ fn import_design(
     numbers: &mut [u32],
     accounts: &mut [u16],
     maps: &mut [u16],
+    highest: &mut [u32],
     states: &mut [u8],
     owners: &mut [u8],
     map: &mut [u32],
@@ -49,10 +51,12 @@ fn import_design(
     ensures numbers { λ _. ⌜ now (numbers .exit) ≡ set (now (numbers .entry)) slot number ⌝ }
     ensures accounts { λ _. ⌜ now (accounts .exit) ≡ set (now (accounts .entry)) slot account ⌝ }
     ensures maps { λ _. ⌜ now (maps .exit) ≡ store (now (maps .entry)) (ofSlot sizes slot) (λ i. entry sizes (seen hand (now (states .entry)) (now (owners .entry))) slot account number (sheetOf (now (sheet .entry))) (i % sizes .pages)) ⌝ }
+    ensures highest { λ _. ⌜ now (highest .exit) ≡ set (now (highest .entry)) 0 number ⌝ }
     ensures states { λ _. ⌜ now (states .exit) ≡ taking sizes (seen hand (now (states .entry)) (now (owners .entry))) slot count .states ⌝ }
     ensures owners { λ _. ⌜ now (owners .exit) ≡ taking sizes (seen hand (now (states .entry)) (now (owners .entry))) slot count .owners ⌝ }
     ensures map { λ _. ⌜ now (map .exit) ≡ freeMap sizes (at (taking sizes (seen hand (now (states .entry)) (now (owners .entry))) slot count .states)) ⌝ }
 {
+    store_highest(highest, number);
     let mut entries: [u16; PAGES] = [0; PAGES];
     let last = carry_pages(
         sizes,
@@ -124,15 +128,16 @@ pub fn import(
     maps: &mut [u16],
     limits: &[u16],
     parents: &[u16],
+    highest: &mut [u32],
     states: &mut [u8],
     owners: &mut [u8],
     free_map: &mut [u32],
     used: &mut [u16],
 ) -> Imported
     requires { ⌜ Importing sizes pool (now records) (now maps) (now states) (now owners) (now «free_map») ⌝ }
-    ensures { λ r. ⌜ answered (r .answer) (leftTables (r .pool) records numbers accounts maps states owners «free_map» used)
+    ensures { λ r. ⌜ answered (r .answer) (leftTables (r .pool) records numbers accounts maps highest states owners «free_map» used)
         ≡ importOf sizes slot account number (now (sheet .entry)) (now (limits .entry)) (now (parents .entry))
-        (enteredTables pool records numbers accounts maps states owners «free_map» used) ⌝ }
+        (enteredTables pool records numbers accounts maps highest states owners «free_map» used) ⌝ }
 {
     let asked = ask_import(
         sizes,
@@ -144,6 +149,7 @@ pub fn import(
         numbers,
         limits,
         parents,
+        highest,
         used,
     );
     if asked.refusal != 0 {
@@ -165,6 +171,7 @@ pub fn import(
         numbers,
         accounts,
         maps,
+        highest,
         states,
         owners,
         free_map,

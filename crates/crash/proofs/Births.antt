@@ -23,7 +23,7 @@ use Rattle.model.specs.Stores.{Call}
 use Rattle.model.specs.Ledger as L
 use Rattle.model.specs.Ledger.{Ledger, Fed, Pending, note, lose, finishWrite, finishWrites, finishUpdates, strikeWrite, strikeUpdate, spent, carriedIn, placed, voided}
 use Rattle.model.specs.Acts.{Act, event, looking, importing, exporting, restarting, cutting, cuttingIn, World, fed, noted, partly, wholly, fedPart, part, cutOff, act, allowed, legal, run}
-use Rattle.invariant.proofs.Stores.{Inside, inside, part-same}
+use Rattle.invariant.proofs.Midst.{Inside, inside}
 use Rattle.crash.proofs.Steps.{Good, Before, before}
 use Rattle.crash.proofs.Demand3.{act-keeps}
 use Rattle.crash.proofs.Origins.{Each, Open, OfText, Beside, Aside, beside-finish, beside-all, aside-finish, aside-all, each-note, fed-each, all-open, partly-births, partly-pending, partly-each}
@@ -40,7 +40,7 @@ note-grows : (z : Sizes) (l : Ledger) (f : Fed) → Grows l (note z l f)
 unfolding note lose strikeWrite strikeUpdate spent carriedIn placed
 note-grows z l L.nothing = omega arith
 note-grows z l (L.restarted d) = omega arith
-note-grows z l (L.created s) = omega arith
+note-grows z l (L.created s n) = omega arith
 note-grows z l (L.deleted s) = omega arith
 note-grows z l (L.activated s d) = omega arith
 note-grows z l (L.deactivated s) = omega arith
@@ -52,26 +52,27 @@ note-grows z l (L.truncated s k) = omega arith
 note-grows z l (L.began s) = omega arith
 note-grows z l (L.pageEnd f good) = if-elim (Grows l) (eqb good 1) _ _ (λ u. omega (arith, beside-finish f l .births)) (λ u. omega arith)
 note-grows z l (L.mapEnd s good) = if-elim (Grows l) (eqb good 1) _ _ (λ u. omega (arith, aside-finish s l .births)) (λ u. omega arith)
-note-grows z l L.importBegun = omega arith
+note-grows z l (L.importBegun n) = omega arith
 note-grows z l (L.importedPage p r words) = omega arith
 note-grows z l (L.importedSlot s h t) = omega arith
 note-grows z l (L.cut writes updates) = omega (arith, cut-births z l writes updates)
 
-pub wholly-births : (z : Sizes) (w : World) (s : ℕ) (b : List ℕ) → wholly z (w .state) s (sheetOf b) (w .ledger) .births ≡ suc (w .ledger .births)
+pub wholly-births : (z : Sizes) (w : World) (s n : ℕ) (b : List ℕ) → wholly z (w .state) s n (sheetOf b) (w .ledger) .births ≡ suc (w .ledger .births)
 unfolding wholly note placed
-wholly-births z w s b = partly-births z (w .state) s (sheetOf b) (w .ledger) (sheetOf b .count)
+wholly-births z w s n b = partly-births z (w .state) s n (sheetOf b) (w .ledger) (sheetOf b .count)
 
 part-births : (z : Sizes) (w : World) (c : Call) (k : ℕ) → Grows (w .ledger) (part z w c k .ledger)
 unfolding part fedPart
 part-births z w (S.event e) k = omega arith
-part-births z w (S.importing s q n b) k = omega (arith, partly-births z (w .state) s (sheetOf b) (w .ledger) k)
+part-births z w (S.importing s q n b) zero = omega arith
+part-births z w (S.importing s q n b) (suc k) = omega (arith, partly-births z (w .state) s n (sheetOf b) (w .ledger) k)
 
 pub act-grows : (z : Sizes) (w : World) (a : Act) → Grows (w .ledger) (act z w a .ledger)
 unfolding act noted
 act-grows z w (event e) = if-elim (Grows (w .ledger)) (eqb (step z (w .state) e .answer .refusal) 0) _ (w .ledger) (λ u. note-grows z (w .ledger) (fed z (w .state) e)) (λ u. omega arith)
 act-grows z w (looking s p) = omega arith
 act-grows z w (importing s q n b) =
-    if-elim (Grows (w .ledger)) (eqb (import z (w .state) s q n b .answer .refusal) 0) _ (w .ledger) (λ u. omega (arith, wholly-births z w s b)) (λ u. omega arith)
+    if-elim (Grows (w .ledger)) (eqb (import z (w .state) s q n b .answer .refusal) 0) _ (w .ledger) (λ u. omega (arith, wholly-births z w s n b)) (λ u. omega arith)
 act-grows z w (exporting s buffer) = omega arith
 act-grows z w restarting = if-elim (Grows (w .ledger)) (eqb (restart z (w .state) .answer .refusal) 0) _ (w .ledger) (λ u. note-grows z (w .ledger) (L.restarted (w .state .disk))) (λ u. omega arith)
 act-grows z w (cutting writes updates junk) = note-grows z (w .ledger) (L.cut writes updates)
@@ -94,14 +95,16 @@ module _ (z : Sizes) (P : ℕ → ℕ → (ℕ → ℕ) → Type 0) where
   part-each : (w : World) (c : Call) (n : ℕ) → Own (w .ledger) (part z w c n .ledger) → Each P (w .ledger .finished) → Each P (part z w c n .ledger .finished)
   unfolding part fedPart
   part-each w (S.event e) n own p = p
-  part-each w (S.importing s q m b) n own p = partly-each z (w .state) s (sheetOf b) (w .ledger) P (own (omega (arith, partly-births z (w .state) s (sheetOf b) (w .ledger) n))) p n
+  part-each w (S.importing s q m b) zero own p = p
+  part-each w (S.importing s q m b) (suc n) own p = partly-each z (w .state) s m (sheetOf b) (w .ledger) P (own (omega (arith, partly-births z (w .state) s m (sheetOf b) (w .ledger) n))) p n
 
   -- what is open in the midst of a call is what was open before it
   part-open : (w : World) (c : Call) (n : ℕ) (f : ℕ) → Open P (w .ledger) f → Open P (part z w c n .ledger) f
   unfolding part fedPart
   part-open w (S.event e) n f o = o
-  part-open w (S.importing s q m b) n f o =
-      subst (λ (x : Pending). T (x .writing f) → P (x .write f .design) (x .write f .page) (x .write f .words)) (sym (partly-pending z (w .state) s (sheetOf b) (w .ledger) n)) o
+  part-open w (S.importing s q m b) zero f o = o
+  part-open w (S.importing s q m b) (suc n) f o =
+      subst (λ (x : Pending). T (x .writing f) → P (x .write f .design) (x .write f .page) (x .write f .words)) (sym (partly-pending z (w .state) s m (sheetOf b) (w .ledger) n)) o
 
   pub act-each : (w : World) (a : Act) → T (allowed z w a) → Good z w → OfText z P (w .ledger) → Own (w .ledger) (act z w a .ledger) → Each P (w .ledger .finished) → Each P (act z w a .ledger .finished)
   unfolding allowed act noted wholly
@@ -109,11 +112,11 @@ module _ (z : Sizes) (P : ℕ → ℕ → (ℕ → ℕ) → Type 0) where
   act-each w (looking s q) t k o own p = p
   act-each w (importing s q n b) t k o own p = go (import z (w .state) s q n b .answer .refusal) own
     where
-      go : (m : ℕ) → Own (w .ledger) (if (eqb m 0) (wholly z (w .state) s (sheetOf b) (w .ledger)) (w .ledger)) → Each P ((if (eqb m 0) (wholly z (w .state) s (sheetOf b) (w .ledger)) (w .ledger)) .finished)
+      go : (m : ℕ) → Own (w .ledger) (if (eqb m 0) (wholly z (w .state) s n (sheetOf b) (w .ledger)) (w .ledger)) → Each P ((if (eqb m 0) (wholly z (w .state) s n (sheetOf b) (w .ledger)) (w .ledger)) .finished)
       go zero x =
           let l = w .ledger in
-          each-note P z (partly z (w .state) s (sheetOf b) (sheetOf b .count) l) (L.importedSlot s (has (sheetOf b)) (said (sheetOf b))) tt
-          (partly-each z (w .state) s (sheetOf b) l P (x (omega (arith, wholly-births z w s b))) p (sheetOf b .count))
+          each-note P z (partly z (w .state) s n (sheetOf b) (sheetOf b .count) l) (L.importedSlot s (has (sheetOf b)) (said (sheetOf b))) tt
+          (partly-each z (w .state) s n (sheetOf b) l P (x (omega (arith, wholly-births z w s n b))) p (sheetOf b .count))
       go (suc m) x = rw (ne-eqb (suc m) 0 (λ e. omega (arith, e))) p
   act-each w (exporting s buffer) t k o own p = p
   act-each w restarting t k o own p = if-elim (λ (l : Ledger). Each P (l .finished)) (eqb (restart z (w .state) .answer .refusal) 0) _ (w .ledger) (λ u. each-note P z (w .ledger) (L.restarted (w .state .disk)) tt p) (λ u. p)

@@ -17,18 +17,20 @@ use Rattle.model.specs.declared.event.Event.the-variants as Event
 use Rattle.model.specs.State.{State, frameAt, allPages, slotOf}
 use Rattle.model.specs.Laws.Creating.{Creating, creating}
 use Rattle.model.specs.Laws.Ruled.{Ruled}
-use Rattle.model.specs.Setters.{onDisk, setNumbers, setAccounts, counted}
+use Rattle.model.specs.Setters.{onDisk, setNumbers, setAccounts, raise, counted}
 use Rattle.model.specs.Parts.{ofSlot}
 use Rattle.model.specs.Designs as Designs
 use Rattle.model.specs.Step.{carried}
 use Rattle.model.specs.Laws.Fit.{Fit}
-use Rattle.model.specs.Ledger.{Ledger, Write, packDesign, note, put, over, setText, setDesign}
+use Rattle.model.specs.Ledger.{Ledger, Write, packDesign, note, put, over, setText, setDesign, setNumber}
 use Rattle.model.specs.Acts.{fed}
 use Rattle.model.specs.Demand3.{lastUpdate}
 use Rattle.model.specs.Laws.Index.{split-set, slot-below, page-again}
 use Rattle.crash.proofs.Writes.{split-put, put-other, split-over, none-updated}
 use Rattle.crash.proofs.Link.{Owned, OfPage, Designs, Newborn, Tied}
+use Rattle.invariant.proofs.Raised.{raise-fit, raise-ruled}
 use Rattle.crash.proofs.Steps.{Step}
+use Rattle.crash.proofs.Raised.{raise-tied, number-tied}
 use Rattle.crash.proofs.OneFrame.{in-frame-same, alike-same}
 
 module _ (z : Sizes) (st : State) (l : Ledger) (fit : Fit z st) (rules : Ruled z st) (k : Tied z st l) (s d : ℕ) (off : ¬ (at (st .memory .slots .active) s ≡ 1)) (bare : (i : ℕ) → i < allPages z → slotOf z i ≡ s → at (st .disk .maps) i ≡ 0) where
@@ -127,7 +129,8 @@ module _ (z : Sizes) (st : State) (l : Ledger) (fit : Fit z st) (rules : Ruled z
 
 pub create : (z : Sizes) (s q n : ℕ) → Step z (Event.Design (Create s q n))
 unfolding carried fed note Designs.create
-create z s q n st l b = redesigned z st l (b .fit) (b .ruled) (b .tied) s new off (λ i h e. b .ruled .disk .empty-map i h (ap (at (st .disk .numbers)) e ∙ asked .empty)) _ _ new (over (l .pages .text) (ofSlot z s) (λ w. 0)) (over (l .pages .kept) (ofSlot z s) false)
+create z s q n st l b = redesigned z (onDisk (raise n) st) (setNumber (put (l .number) new n) l) (raise-fit z st n (b .fit)) (raise-ruled z st n (b .ruled)) (number-tied z (onDisk (raise n) st) l _ (raise-tied z st l n (b .tied))) s new off
+    (λ i h e. b .ruled .disk .empty-map i h (ap (at (st .disk .numbers)) e ∙ asked .empty)) _ _ new (over (l .pages .text) (ofSlot z s) (λ w. 0)) (over (l .pages .kept) (ofSlot z s) false)
     (record {
       born = λ t h e. elim (split-put (l .design) s new t) [
         | inl x ↦ omega (arith, x .1)

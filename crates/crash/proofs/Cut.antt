@@ -115,7 +115,7 @@ module _ (z : Sizes) (st₀ : State) where
       record {
         state = carried z (k .state) (Event.Writeback (MapDone s 1));
         led = led (k .state) l (Event.Writeback (MapDone s 1)) (may-end s h (k .state) l (k .led) e′) (k .led);
-        disk = subst (λ (x : Disk). Writeback.storeImage z (k .state) s (k .state .disk) ≡ Writeback.storeImage z st₀ s x) (k .disk) (ap (λ (x : List ℕ). record { records = k .state .disk .records; numbers = k .state .disk .numbers; accounts = k .state .disk .accounts; maps = x; limits = k .state .disk .limits; parents = k .state .disk .parents })
+        disk = subst (λ (x : Disk). Writeback.storeImage z (k .state) s (k .state .disk) ≡ Writeback.storeImage z st₀ s x) (k .disk) (ap (λ (x : List ℕ). record { records = k .state .disk .records; numbers = k .state .disk .numbers; accounts = k .state .disk .accounts; maps = x; limits = k .state .disk .limits; parents = k .state .disk .parents; highest = k .state .disk .highest })
             (store-same (k .state .disk .maps) (ofSlot z s) (files (k .state) .image) (files st₀ .image) (λ i g o. k .image i (rw (← k .led .fit .disk .maps) g) (omega (arith, o)))));
         updating = λ t g. getD-set-other (k .state .memory .slots .updating) s t 0 0 (λ x. omega (arith, x, g)) ∙ k .updating t (omega arith);
         image = λ i g n. elim (at-store (k .state .memory .slots .images) (ofSlot z s) (λ j. 0) i (rw (k .led .fit .memory .images) g)) [ inl x ↦ absurd (omega (arith, x .0, n)) | inr x ↦ x .1 ∙ k .image i g (omega arith) ];

@@ -3,20 +3,22 @@ use mathlib.Core.Path.{_≡_, refl, ap, sym, _∙_}
 use mathlib.Core.Bool.{Bool, _&&_}
 use mathlib.Core.List.{List, [], _∷_, _++_}
 use Prim.Native.Nat.{ℕ, zero, suc, _<_}
+use native.Mathlib.Omega.{arith}
 use lib.Dec.{T, eqb}
+use lib.ListN.{length}
 use Rattle.tables.specs.Base.{at}
 use Rattle.tables.specs.Laws.{if-elim, and-left}
 use Rattle.model.specs.declared.sizes.Sizes.{Sizes}
 use Rattle.model.specs.State.{Disk, Memory, State, files, frames, WRITING, pageOf}
 use Rattle.model.specs.Laws.Index.{slot-of-page, page-below}
 use Rattle.model.specs.Writeback.{storeFrame, storeImage}
-use Rattle.model.specs.Import.{sheetOf}
+use Rattle.model.specs.Import.{sheetOf, importAnswer}
 use Rattle.model.specs.Stores as S
 use Rattle.model.specs.Acts.{Act, cuttingIn, World, run, landWrites, landUpdates, landed, part, cutOff, act, allowed, legal, start}
 use Rattle.model.specs.Carried.{Board, mayRun, from}
-use Rattle.invariant.proofs.Imports.{slot-empty}
+use Rattle.invariant.proofs.Imports.{Before, slot-empty}
 use Rattle.invariant.proofs.Imported.{import-before}
-use Rattle.invariant.proofs.Stores.{Inside, inside, part-import}
+use Rattle.invariant.proofs.Midst.{Inside, inside, part-none, part-import}
 use Rattle.crash.proofs.Steps.{Good}
 use Rattle.crash.proofs.Demand3.{act-keeps}
 use Rattle.crash.proofs.Carried.{run-append, legal-append, kept}
@@ -43,6 +45,20 @@ pub record Empty (z : Sizes) (d : Disk) (s : ℕ) : Type 0 where
   pub account : at (d .accounts) s ≡ 0
   pub map : (p : ℕ) → p < z .pages → at (d .maps) (pageOf z s p) ≡ 0
 
+-- in the midst of an import it was not refused, and the slot is empty
+midst-before : (z : Sizes) (w : World) (s q n : ℕ) (sheet : List ℕ) (k : ℕ) (junk : Memory) → Inside z w (S.importing s q n sheet) k junk → Before z (w .state) s q n (sheetOf sheet)
+unfolding S.made S.answered
+midst-before z w s q n sheet k junk i = import-before z (w .state) s q n sheet (go (importAnswer z (w .state) s q n sheet) refl (i .before))
+  where
+    go : (m : ℕ) → importAnswer z (w .state) s q n sheet ≡ m → k < length (S.byAnswer m (S.stores z (w .state) (S.importing s q n sheet))) → importAnswer z (w .state) s q n sheet ≡ 0
+    go zero e l = e
+    go (suc m) e l = absurd (omega (arith, l))
+
+midst-empty : (z : Sizes) (w : World) (s q n : ℕ) (sheet : List ℕ) (k : ℕ) (junk : Memory) (i : Inside z w (S.importing s q n sheet) k junk) → at (part z w (S.importing s q n sheet) k .state .disk .numbers) s ≡ 0
+midst-empty z w s q n sheet zero junk i = ap (λ (x : World). at (x .state .disk .numbers) s) (part-none z w (S.importing s q n sheet)) ∙ midst-before z w s q n sheet 0 junk i .empty
+midst-empty z w s q n sheet (suc k) junk i =
+    ap (λ (x : State). at (x .disk .numbers) s) (part-import z w s q n sheet k junk i .2) ∙ slot-empty z (w .state) s q n (sheetOf sheet) (midst-before z w s q n sheet (suc k) junk i) k
+
 module _ (z : Sizes) (w : World) (s q n : ℕ) (sheet : List ℕ) (k : ℕ) (writes updates : ℕ → Bool) (junk : Memory) where
   abbrev cut : Act
   cut = cuttingIn (S.importing s q n sheet) k writes updates junk
@@ -51,11 +67,10 @@ module _ (z : Sizes) (w : World) (s q n : ℕ) (sheet : List ℕ) (k : ℕ) (wri
   unfolding act
   cut-empty t g =
       let i = inside z w (S.importing s q n sheet) k writes updates junk t in
-      let p = part-import z w s q n sheet k junk i in
-      let b = import-before z (w .state) s q n sheet (p .0) in
+      let b = midst-before z w s q n sheet k junk i in
       let w₁ = part z w (S.importing s q n sheet) k in
       let e : at (cutOff z w₁ writes updates junk .state .disk .numbers) s ≡ 0 = ap (λ (l : List ℕ). at l s) (cut-numbers z w₁ writes updates junk)
-      ∙ ap (λ (x : State). at (x .disk .numbers) s) (p .2) ∙ slot-empty z (w .state) s q n (sheetOf sheet) b k in
+      ∙ midst-empty z w s q n sheet k junk i in
       let r = act-keeps z w cut t g .rules in
       let pos = g .fit .sizes .pages in
       record {

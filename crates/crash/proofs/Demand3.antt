@@ -2,6 +2,7 @@
 use mathlib.Core.Path.{_≡_, refl, ap, sym, _∙_, subst}
 use mathlib.Core.Bool.{Bool, true, false}
 use mathlib.Core.List.{List, [], _∷_}
+use mathlib.Core.Logic.{inl, inr}
 use Prim.Native.Nat.{ℕ, zero, suc, _<_}
 use native.Mathlib.Omega.{arith}
 use lib.Dec.{T, eqb}
@@ -17,7 +18,7 @@ use Rattle.model.specs.Rules.{diskRules}
 use Rattle.model.specs.Laws.Ruled as R
 use Rattle.model.specs.Step.{outcome, answer, carried, result, step, restart, allFit, memoryLengths}
 use Rattle.model.specs.Laws.Fit.{Fit, disk-fit, memory-fit}
-use Rattle.model.specs.Restart.{formatted, restarted}
+use Rattle.model.specs.Restart.{formatted, raised, restarted}
 use Rattle.model.specs.Ledger as L
 use Rattle.model.specs.Ledger.{Ledger, unwritten, note, lose, finishWrite, finishUpdate, finishWrites, finishUpdates}
 use Rattle.model.specs.Acts.{Act, event, looking, importing, exporting, restarting, cutting, cuttingIn, World, fed, landed, noted, partly, wholly, fedPart, part, act, allowed, legal, run, start}
@@ -27,25 +28,26 @@ use Rattle.sheets.specs.Sheet.{numberIn}
 use Rattle.model.specs.Import.{sheetOf, imported, importAnswer, import}
 use Rattle.model.specs.Stores as S
 use Rattle.model.specs.Stores.{Call}
-use Rattle.invariant.proofs.Kept.{carried-kept, restarted-good}
+use Rattle.invariant.proofs.Kept.{carried-kept, raised-good}
 use Rattle.invariant.proofs.Imports.{midway, import-kept}
 use Rattle.invariant.proofs.Imported.{import-before}
-use Rattle.invariant.proofs.Stores.{Inside, inside, part-same, part-import}
+use Rattle.invariant.proofs.Midst.{Inside, inside, part-none, part-event, part-import}
 use Rattle.crash.proofs.Partly.{mid-tied}
 use Rattle.crash.proofs.ImportTied.{import-tied}
 use Rattle.invariant.proofs.RestartedRecords.{zero-at}
 use Rattle.crash.proofs.Writes.{no-write, no-update}
 use Rattle.crash.proofs.Link.{OnDisk, Tied}
 use Rattle.crash.proofs.Steps.{Good, before}
+use Rattle.crash.proofs.Raised.{raise-good}
 use Rattle.crash.proofs.Events.{steps}
 use Rattle.crash.proofs.Says.{says, says-from-pack, listed-live}
 use Rattle.crash.proofs.Start.{start-good, format-good}
-use Rattle.crash.proofs.Restarted.{restart-tied}
+use Rattle.crash.proofs.Restarted.{raised-tied}
 use Rattle.crash.proofs.Cut.{all-landed}
 use Rattle.crash.proofs.Pack.{same-pack}
 
 -- nothing open, nothing finished at a cut
-none-written : (n : ℕ) (lands : ℕ → Bool) (l : Ledger) → ((f : ℕ) → f < n → ¬ (T (l .pending .writing f))) → finishWrites n lands l ≡ l
+pub none-written : (n : ℕ) (lands : ℕ → Bool) (l : Ledger) → ((f : ℕ) → f < n → ¬ (T (l .pending .writing f))) → finishWrites n lands l ≡ l
 unfolding finishWrites
 none-written zero lands l c = refl
 none-written (suc f) lands l c = go (lands f) (none-written f lands l (λ g h. c g (omega arith)))
@@ -95,10 +97,10 @@ module _ (z : Sizes) where
   unfolding act restart noted
   restart-keeps w k = go (firstNo (ask 1 (allFit z (w .state)) (ask 2 (diskRules z (w .state)) none)))
     where
-      go : (n : ℕ) → (let o = outcome n 0 (w .state) (restarted z (w .state .disk)) in Good z (record { up = if (eqb (o .answer .refusal) 0) true (w .up); state = o .left; ledger = noted z o (L.restarted (w .state .disk)) (w .ledger) }))
+      go : (n : ℕ) → (let o = outcome n 0 (w .state) (restarted z (raised z (w .state .disk))) in Good z (record { up = if (eqb (o .answer .refusal) 0) true (w .up); state = o .left; ledger = noted z o (L.restarted (w .state .disk)) (w .ledger) }))
       go zero =
-          let b = restarted-good z (w .state) (k .fit) (k .rules) in
-          up-good z true (restarted z (w .state .disk)) (note z (w .ledger) (L.restarted (w .state .disk))) tt (b .0) (b .1) (restart-tied z (w .state) (w .ledger) (k .fit .sizes .pages) (k .rules) (k .disk))
+          let b = raised-good z (w .state) (k .fit) (k .rules) in
+          up-good z true (restarted z (raised z (w .state .disk))) (note z (w .ledger) (L.restarted (w .state .disk))) tt (b .0) (b .1) (raised-tied z (w .state) (w .ledger) (k .fit .sizes .pages) (k .rules) (k .disk))
       go (suc n) = rw (ne-eqb (suc n) 0 (λ x. omega (arith, x))) k
 
   cut-keeps : (w : World) (writes updates : ℕ → Bool) (junk : Memory) → Holds (memoryLengths z junk) → Good z w → Good z (act z w (cutting writes updates junk))
@@ -125,12 +127,13 @@ module _ (z : Sizes) where
   -- in the midst of a call
   pub part-keeps : (w : World) (c : Call) (n : ℕ) (junk : Memory) → Inside z w c n junk → Good z w → Good z (part z w c n)
   unfolding part fedPart
-  part-keeps w (S.event e) n junk i k = subst (Good z) (sym (part-same z w e n junk i)) k
-  part-keeps w (S.importing s q m b) n junk i k =
+  part-keeps w (S.event e) n junk i k = elim (part-event z w e n junk i) [ inl same ↦ subst (Good z) (sym same) k | inr b ↦ subst (Good z) (sym (b .world)) (raise-good z w (b .number) k) ]
+  part-keeps w (S.importing s q m b) zero junk i k = subst (Good z) (sym (part-none z w (S.importing s q m b))) k
+  part-keeps w (S.importing s q m b) (suc n) junk i k =
       let p = part-import z w s q m b n junk i in
       let x = import-before z (w .state) s q m b (p .0) in
       let y = midway z (w .state) s q m (sheetOf b) x n (p .1) in
-      let l : Ledger = partly z (w .state) s (sheetOf b) n (w .ledger) in
+      let l : Ledger = partly z (w .state) s m (sheetOf b) n (w .ledger) in
       subst (λ (st : State). Good z (record { up = w .up; state = st; ledger = l })) (sym (p .2))
       (up-good z (w .up) _ l (i .up) (y .fit) (y .ruled) (mid-tied z (w .state) s q m (sheetOf b) (w .ledger) x (tied-of w (i .up) k) n (p .1)))
 
@@ -139,7 +142,7 @@ module _ (z : Sizes) where
   import-keeps w s q n b u k = go (importAnswer z (w .state) s q n b) refl
     where
       go : (m : ℕ) → importAnswer z (w .state) s q n b ≡ m → (let o = outcome m (numberIn b) (w .state) (imported z (w .state) s q n (sheetOf b)) in
-          Good z (record { up = w .up; state = o .left; ledger = if (eqb (o .answer .refusal) 0) (wholly z (w .state) s (sheetOf b) (w .ledger)) (w .ledger) }))
+          Good z (record { up = w .up; state = o .left; ledger = if (eqb (o .answer .refusal) 0) (wholly z (w .state) s n (sheetOf b) (w .ledger)) (w .ledger) }))
       go zero a =
           let c = import-before z (w .state) s q n b a in
           let x = import-kept z (w .state) s q n (sheetOf b) c in

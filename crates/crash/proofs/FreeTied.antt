@@ -120,9 +120,9 @@ module _ (z : Sizes) (st : State) (fit : Fit z st) (rules : Ruled z st) (r₀ : 
     }
 
 -- ── a birth that is spent ──
-pub spent-tied : (z : Sizes) (st : State) (l : Ledger) → Tied z st l → Tied z st (spent l)
+pub spent-tied : (z : Sizes) (st : State) (l : Ledger) (n : ℕ) → Tied z st l → Tied z st (spent n l)
 unfolding spent
-spent-tied z st l k = let d = k .disk .designs in record {
+spent-tied z st l n k = let d = k .disk .designs in record {
   disk = record {
     designs = record {
       born = d .born;

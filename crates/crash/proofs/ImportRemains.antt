@@ -78,22 +78,22 @@ module _ (z : Sizes) (w : World) (s q n : ℕ) (b : List ℕ) (u : T (w .up)) (k
       let at-p : said h (h .page j) v ≡ h .word j v = said-some h (h .page j) (has-at h (c .once) j g) v ∙ ap (λ (a : ℕ). h .word a v) (field-at h (c .once) j g) in
       sym at-p ∙ ap (λ (a : ℕ). said h a v) e ∙ said-text b p v
 
-  its : (m : ℕ) → m ≤ h .count → Each (Its z pos i d x) (partly z (w .state) s h m l .finished)
+  its : (m : ℕ) → m ≤ h .count → Each (Its z pos i d x) (partly z (w .state) s n h m l .finished)
   unfolding partly
-  its zero g = each-note (Its z pos i d x) z l L.importBegun tt (λ y j e. absurd (omega (arith, e, born y j)))
+  its zero g = each-note (Its z pos i d x) z l (L.importBegun n) tt (λ y j e. absurd (omega (arith, e, born y j)))
   its (suc m) g =
-      each-note (Its z pos i d x) z (partly z (w .state) s h m l) (L.importedPage (h .page m) (taken z (w .state) s m) (h .word m)) (λ e f v hv. field-words m g (f ∙ page-is) v) (its m (omega (arith, g)))
+      each-note (Its z pos i d x) z (partly z (w .state) s n h m l) (L.importedPage (h .page m) (taken z (w .state) s m) (h .word m)) (λ e f v hv. field-words m g (f ∙ page-is) v) (its m (omega (arith, g)))
 
-  partly-pack : (m : ℕ) → partly z (w .state) s h m l .pack ≡ l .pack
+  partly-pack : (m : ℕ) → partly z (w .state) s n h m l .pack ≡ l .pack
   unfolding partly note spent carriedIn
   partly-pack zero = refl
   partly-pack (suc m) = partly-pack m
 
   abbrev l₁ : Ledger
-  l₁ = partly z (w .state) s h (h .count) l
+  l₁ = partly z (w .state) s n h (h .count) l
 
   births-are : l₁ .births ≡ d
-  births-are = partly-births z (w .state) s h l (h .count)
+  births-are = partly-births z (w .state) s n h l (h .count)
 
   -- unless its words are all zero, the sheet has the page
   has-it : Some z pos i d x → T (has h (i % z .pages))
@@ -108,7 +108,7 @@ module _ (z : Sizes) (w : World) (s q n : ℕ) (b : List ℕ) (u : T (w .up)) (k
       let t′ : T (l .pending .updating s) = subst (λ (a : ℕ). T (l .pending .updating a)) slot-is t in
       I.off z (w .state) s q n h c (c .ruled .records .update-active s (c .slot) (k .memory u .begun .only s (c .slot) t′))
 
-  known : Known z pos i d x (wholly z (w .state) s h l)
+  known : Known z pos i d x (wholly z (w .state) s n h l)
   unfolding wholly note placed
   known = record {
     design = ap (put (l₁ .design) s (l₁ .births)) slot-is ∙ put-same (l₁ .design) s (l₁ .births) ∙ births-are;
@@ -119,12 +119,12 @@ module _ (z : Sizes) (w : World) (s q n : ℕ) (b : List ℕ) (u : T (w .up)) (k
       | inl y ↦ subst (λ (v : L.Update). T (v .live (i % z .pages))) (sym (y .1)) (has-it some)
       | inr y ↦ absurd (y .0 births-are)
     ];
-    begun = λ some t. absurd (not-open (subst (λ (g : Pending). T (g .updating (slotOf z i))) (partly-pending z (w .state) s h l (h .count)) t));
+    begun = λ some t. absurd (not-open (subst (λ (g : Pending). T (g .updating (slotOf z i))) (partly-pending z (w .state) s n h l (h .count)) t));
   }
 
   -- the world after the import
   abbrev after : World
-  after = record { up = w .up; state = imported z (w .state) s q n h; ledger = wholly z (w .state) s h l }
+  after = record { up = w .up; state = imported z (w .state) s q n h; ledger = wholly z (w .state) s n h l }
 
   pub remaining : Remaining z pos i (page-below z pos s p (c .slot) hp) d x after
   remaining = record {
@@ -145,7 +145,7 @@ module _ (z : Sizes) (w : World) (s q n : ℕ) (b : List ℕ) (e : import z (w .
   pub import-asked : Before z (w .state) s q n (sheetOf b)
   import-asked = import-before z (w .state) s q n b carried-out
 
-  pub after-import : act z w (importing s q n b) ≡ record { up = w .up; state = imported z (w .state) s q n (sheetOf b); ledger = wholly z (w .state) s (sheetOf b) (w .ledger) }
+  pub after-import : act z w (importing s q n b) ≡ record { up = w .up; state = imported z (w .state) s q n (sheetOf b); ledger = wholly z (w .state) s n (sheetOf b) (w .ledger) }
   unfolding act import
   after-import = rw carried-out
 
@@ -153,6 +153,6 @@ module _ (z : Sizes) (w : World) (s q n : ℕ) (b : List ℕ) (e : import z (w .
   pub has-some : (p : ℕ) → T (has (sheetOf b) p) → ¬ ((j : ℕ) → j < z .words → textIn b p j ≡ 0)
   unfolding importAnswer
   has-some p t all-zero =
-      let (fits, (keeps, (range, (low, (empty, (fresh, (form, ((words, pages), others)))))))) = all-yes 0 (asked z (w .state) (importQuestions z (w .state) s q n b)) tt carried-out in
+      let (fits, (keeps, (range, (low, (empty, (fresh, (above, (form, ((words, pages), others))))))))) = all-yes 0 (asked z (w .state) (importQuestions z (w .state) s q n b)) tt carried-out in
       let f = field-of (sheetOf b) (import-asked .once) p t in
       page-of b (formed b form) (fieldOf (sheetOf b) p) (f .0) .some (λ j g. sym (said-some (sheetOf b) p t j) ∙ said-text b p j ∙ all-zero j (omega (arith, g, words)))

@@ -39,7 +39,7 @@ module _ (z : Sizes) (st : State) (l : Ledger) (s q n : ℕ) (h : Sheet) (b : Be
   st₁ = I.mid z st s q n h b c
 
   abbrev l₁ : Ledger
-  l₁ = partly z st s h c l
+  l₁ = partly z st s n h c l
 
   abbrev t : Taking
   t = taking z st s c
@@ -68,7 +68,7 @@ module _ (z : Sizes) (st : State) (l : Ledger) (s q n : ℕ) (h : Sheet) (b : Be
   mine : (j : ℕ) → j < c → lastInto (nth j) (l₁ .finished) ≡ write z st s q n h l b tied j
   mine j i = last-is z st s q n h l b tied c (omega arith) j i
 
-  births-same : (j : ℕ) → partly z st s h j l .births ≡ l₁ .births
+  births-same : (j : ℕ) → partly z st s n h j l .births ≡ l₁ .births
   births-same j = births-are z st s q n h l b tied j ∙ sym births
 
   words : (j : ℕ) → j < c → (w : ℕ) → w < z .words → at (st₁ .disk .records) (nth j * z .words + w) ≡ h .word j w
@@ -97,7 +97,7 @@ module _ (z : Sizes) (st : State) (l : Ledger) (s q n : ℕ) (h : Sheet) (b : Be
         rw (x .record′, mine (x .field) (x .within)) (elim (older z st s q n h l b tied c y j) [
           | inl a ↦ omega (arith, a, finished-long z st s q n h l b tied (x .field))
           | inr a ↦ let f : a .0 ≡ x .field = b .once (a .0) (x .field) (a .1) (x .within) (sym (ap (λ (v : Write). v .page) (a .2)) ∙ o .1 .0 ∙ sym (x .page)) in
-              omega (arith, ap (λ (v : Write). v .serial) (a .2), ap (λ (m : ℕ). length (partly z st s h m l .finished)) f)
+              omega (arith, ap (λ (v : Write). v .serial) (a .2), ap (λ (m : ℕ). length (partly z st s n h m l .finished)) f)
         ]);
     listed = λ i g e t. (nth (fieldOf h (i % z .pages)), (I.map-here z st s q n h b) i g e ∙ (I.entry-has z st s q n h b) (i % z .pages) t);
     shown = λ i g e r p. I.entry-some z st s q n h b (i % z .pages) r (sym ((I.map-here z st s q n h b) i g e) ∙ p) .0;
@@ -110,6 +110,6 @@ module _ (z : Sizes) (st : State) (l : Ledger) (s q n : ℕ) (h : Sheet) (b : Be
   }
 
   -- the import, carried out and noted, keeps the invariant
-  pub import-tied : Tied z (imported z st s q n h) (wholly z st s h l)
+  pub import-tied : Tied z (imported z st s q n h) (wholly z st s n h l)
   unfolding imported wholly note placed
   import-tied = placed-tied z st₁ l₁ (I.middle z st s q n h b .fit) (I.middle z st s q n h b .ruled) (mid-tied z st s q n h l b tied c (omega arith)) s (I.Taken z st s q n h b) disk′ (t .states) (t .owners) (P.taken z (t .last) (st .memory .held .pool) .hand) _ (has h) (I.same-records z st s q n h b) placing

@@ -2,6 +2,7 @@
 pub mod Writes
 pub mod Link
 pub mod Steps
+pub mod Raised
 pub mod Says
 pub mod Start
 pub mod Restarted
@@ -31,6 +32,13 @@ pub mod Demand3
 pub mod ListCall
 pub mod Origins
 pub mod Births
+pub mod Given
+pub mod GivenQuiet
+pub mod GivenAlong
+pub mod GivenStart
+pub mod Updates
+pub mod ByNumber
+pub mod OneNumber
 pub mod ActiveStays
 pub mod Remains
 pub mod RemainsAlong

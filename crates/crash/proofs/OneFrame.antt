@@ -78,6 +78,7 @@ module _ (z : Sizes) (st : State) (l : Ledger) (f : ℕ) (new : Frame) (core′ 
     pack = l .pack;
     births = l .births;
     design = l .design;
+    number = l .number;
     pages = pages′;
     pending = record { noted = noted′; writing = flag′; write = write′; updating = l .pending .updating; update = l .pending .update };
     finished = l .finished;

@@ -33,7 +33,7 @@ use Rattle.model.specs.Ledger as L
 use Rattle.model.specs.Ledger.{Ledger, Fed, ended, note, lose, finishWrite, finishUpdate, finishWrites, finishUpdates, strikeWrite, strikeUpdate, spent, carriedIn, placed, recount, voided}
 use Rattle.model.specs.Acts.{Act, event, looking, importing, exporting, restarting, cutting, cuttingIn, World, fed, fedTurn, noted, partly, wholly, fedPart, part, cutOff, act, allowed}
 use Rattle.invariant.proofs.Stands.{seat-at, moving-place}
-use Rattle.invariant.proofs.Stores.{Inside, inside, part-same, part-import}
+use Rattle.invariant.proofs.Midst.{Inside, inside, part-import}
 use Rattle.crash.proofs.Writes.{In, again, in-again, split-put}
 use Rattle.crash.proofs.Link.{InMemory}
 use Rattle.crash.proofs.Steps.{Good, Before, before}
@@ -49,6 +49,7 @@ pub record Beside (l l′ : Ledger) : Type 0 where
   pub pack : l′ .pack ≡ l .pack
   pub births : l′ .births ≡ l .births
   pub design : l′ .design ≡ l .design
+  pub number : l′ .number ≡ l .number
   pub text : l′ .pages .text ≡ l .pages .text
   pub stored : l′ .stored ≡ l .stored
   pub updating : l′ .pending .updating ≡ l .pending .updating
@@ -57,7 +58,7 @@ pub record Beside (l l′ : Ledger) : Type 0 where
   pub writing : (f : ℕ) → T (l′ .pending .writing f) → T (l .pending .writing f)
 
 beside-same : (l : Ledger) → Beside l l
-beside-same l = record { pack = refl; births = refl; design = refl; text = refl; stored = refl; updating = refl; update = refl; write = refl; writing = λ f t. t }
+beside-same l = record { pack = refl; births = refl; design = refl; number = refl; text = refl; stored = refl; updating = refl; update = refl; write = refl; writing = λ f t. t }
 
 pub beside-finish : (f : ℕ) (l : Ledger) → Beside l (finishWrite f l)
 unfolding finishWrite
@@ -65,6 +66,7 @@ beside-finish f l = if-elim (Beside l) (l .pending .writing f) _ l (λ u. record
   pack = refl;
   births = refl;
   design = refl;
+  number = refl;
   text = refl;
   stored = refl;
   updating = refl;
@@ -78,6 +80,7 @@ beside-more a b c x y = record {
   pack = y .pack ∙ x .pack;
   births = y .births ∙ x .births;
   design = y .design ∙ x .design;
+  number = y .number ∙ x .number;
   text = y .text ∙ x .text;
   stored = y .stored ∙ x .stored;
   updating = y .updating ∙ x .updating;
@@ -96,13 +99,14 @@ pub record Aside (l l′ : Ledger) : Type 0 where
   pub pack : l′ .pack ≡ l .pack
   pub births : l′ .births ≡ l .births
   pub design : l′ .design ≡ l .design
+  pub number : l′ .number ≡ l .number
   pub text : l′ .pages .text ≡ l .pages .text
   pub finished : l′ .finished ≡ l .finished
   pub update : l′ .pending .update ≡ l .pending .update
   pub updating : (s : ℕ) → T (l′ .pending .updating s) → T (l .pending .updating s)
 
 aside-same : (l : Ledger) → Aside l l
-aside-same l = record { pack = refl; births = refl; design = refl; text = refl; finished = refl; update = refl; updating = λ s t. t }
+aside-same l = record { pack = refl; births = refl; design = refl; number = refl; text = refl; finished = refl; update = refl; updating = λ s t. t }
 
 pub aside-finish : (s : ℕ) (l : Ledger) → Aside l (finishUpdate s l)
 unfolding finishUpdate
@@ -110,6 +114,7 @@ aside-finish s l = if-elim (Aside l) (l .pending .updating s) _ l (λ u. record 
   pack = refl;
   births = refl;
   design = refl;
+  number = refl;
   text = refl;
   finished = refl;
   update = refl;
@@ -121,6 +126,7 @@ aside-more a b c x y = record {
   pack = y .pack ∙ x .pack;
   births = y .births ∙ x .births;
   design = y .design ∙ x .design;
+  number = y .number ∙ x .number;
   text = y .text ∙ x .text;
   finished = y .finished ∙ x .finished;
   update = y .update ∙ x .update;
@@ -155,7 +161,7 @@ module _ (P : ℕ → ℕ → (ℕ → ℕ) → Type 0) where
   abbrev pub Ready : Sizes → Ledger → Fed → Type 0
   Ready z l L.nothing = Unit {0}
   Ready z l (L.restarted d) = Unit {0}
-  Ready z l (L.created s) = Unit {0}
+  Ready z l (L.created s n) = Unit {0}
   Ready z l (L.deleted s) = Unit {0}
   Ready z l (L.activated s d) = Unit {0}
   Ready z l (L.deactivated s) = Unit {0}
@@ -166,7 +172,7 @@ module _ (P : ℕ → ℕ → (ℕ → ℕ) → Type 0) where
   Ready z l (L.began s) = Unit {0}
   Ready z l (L.pageEnd f good) = Open l f
   Ready z l (L.mapEnd s good) = Unit {0}
-  Ready z l L.importBegun = Unit {0}
+  Ready z l (L.importBegun n) = Unit {0}
   Ready z l (L.importedPage p r words) = P (l .births) p words
   Ready z l (L.importedSlot s h t) = Unit {0}
   Ready z l (L.cut writes updates) = (f : ℕ) → f < z .frames → Open l f
@@ -175,7 +181,7 @@ module _ (P : ℕ → ℕ → (ℕ → ℕ) → Type 0) where
   unfolding note lose strikeWrite strikeUpdate finishUpdate spent carriedIn placed In again
   each-note z l L.nothing t e = e
   each-note z l (L.restarted d) t e = λ y i. let x = in-again z d (l .design) (l .finished) y i in subst (λ (v : L.Write). P (v .design) (v .page) (v .words)) (sym (x .2)) (e (x .0) (x .1))
-  each-note z l (L.created s) t e = e
+  each-note z l (L.created s n) t e = e
   each-note z l (L.deleted s) t e = e
   each-note z l (L.activated s d) t e = e
   each-note z l (L.deactivated s) t e = e
@@ -188,27 +194,27 @@ module _ (P : ℕ → ℕ → (ℕ → ℕ) → Type 0) where
   each-note z l (L.pageEnd f good) t e = if-elim (λ (x : Ledger). Each P (x .finished)) (eqb good 1) _ _ (λ u. each-finish f l t e) (λ u. e)
   each-note z l (L.mapEnd s good) t e =
       if-elim (λ (x : Ledger). Each P (x .finished)) (eqb good 1) _ _ (λ u. if-elim (λ (x : Ledger). Each P (x .finished)) (l .pending .updating s) _ l (λ v. e) (λ v. e)) (λ u. e)
-  each-note z l L.importBegun t e = e
+  each-note z l (L.importBegun n) t e = e
   each-note z l (L.importedPage p r words) t e = λ y i. elim i [ inl j ↦ subst (λ (v : L.Write). P (v .design) (v .page) (v .words)) (sym j) t | inr j ↦ e y j ]
   each-note z l (L.importedSlot s h x) t e = e
   each-note z l (L.cut writes updates) t e = rw (aside-all (z .slots) updates (finishWrites (z .frames) writes l) .finished) (each-finishes (z .frames) writes l t e)
 
 -- ── the first stores of an import ──
-module _ (z : Sizes) (st : State) (s : ℕ) (h : Sheet) (l : Ledger) where
-  pub partly-births : (k : ℕ) → partly z st s h k l .births ≡ suc (l .births)
+module _ (z : Sizes) (st : State) (s n : ℕ) (h : Sheet) (l : Ledger) where
+  pub partly-births : (k : ℕ) → partly z st s n h k l .births ≡ suc (l .births)
   unfolding partly note spent carriedIn
   partly-births zero = refl
   partly-births (suc k) = partly-births k
 
-  pub partly-pending : (k : ℕ) → partly z st s h k l .pending ≡ l .pending
+  pub partly-pending : (k : ℕ) → partly z st s n h k l .pending ≡ l .pending
   unfolding partly note spent carriedIn
   partly-pending zero = refl
   partly-pending (suc k) = partly-pending k
 
-  pub partly-each : (P : ℕ → ℕ → (ℕ → ℕ) → Type 0) → ((p : ℕ) (words : ℕ → ℕ) → P (suc (l .births)) p words) → Each P (l .finished) → (k : ℕ) → Each P (partly z st s h k l .finished)
+  pub partly-each : (P : ℕ → ℕ → (ℕ → ℕ) → Type 0) → ((p : ℕ) (words : ℕ → ℕ) → P (suc (l .births)) p words) → Each P (l .finished) → (k : ℕ) → Each P (partly z st s n h k l .finished)
   unfolding partly
-  partly-each P own e zero = each-note P z l L.importBegun tt e
-  partly-each P own e (suc k) = each-note P z (partly z st s h k l) (L.importedPage (h .page k) (taken z st s k) (h .word k)) (rw (partly-births k) (own (h .page k) (h .word k))) (partly-each P own e k)
+  partly-each P own e zero = each-note P z l (L.importBegun n) tt e
+  partly-each P own e (suc k) = each-note P z (partly z st s n h k l) (L.importedPage (h .page k) (taken z st s k) (h .word k)) (rw (partly-births k) (own (h .page k) (h .word k))) (partly-each P own e k)
 
 -- ── acts ──
 module _ (z : Sizes) (P : ℕ → ℕ → (ℕ → ℕ) → Type 0) where

@@ -43,7 +43,7 @@ module _ (z : Sizes) where
   unfolding note lose strikeWrite strikeUpdate spent carriedIn placed
   note-pack l nothing = refl
   note-pack l (restarted d) = refl
-  note-pack l (created s) = refl
+  note-pack l (created s n) = refl
   note-pack l (deleted s) = refl
   note-pack l (activated s d) = refl
   note-pack l (deactivated s) = refl
@@ -55,7 +55,7 @@ module _ (z : Sizes) where
   note-pack l (began s) = refl
   note-pack l (pageEnd f good) = either (eqb good 1) _ _ (l .pack) (write-pack f l) refl
   note-pack l (mapEnd s good) = either (eqb good 1) _ _ (l .pack) (update-pack s l) refl
-  note-pack l importBegun = refl
+  note-pack l (importBegun n) = refl
   note-pack l (importedPage p r words) = refl
   note-pack l (importedSlot s has said) = refl
   note-pack l (cut writes updates) = updates-pack (z .slots) updates (finishWrites (z .frames) writes l) ∙ writes-pack (z .frames) writes l
@@ -64,25 +64,26 @@ module _ (z : Sizes) where
   unfolding noted
   noted-pack o f l = either (eqb (o .answer .refusal) 0) _ l (l .pack) (note-pack l f) refl
 
-  partly-pack : (st : State) (s : ℕ) (h : Sheet) (k : ℕ) (l : Ledger) → partly z st s h k l .pack ≡ l .pack
+  partly-pack : (st : State) (s n : ℕ) (h : Sheet) (k : ℕ) (l : Ledger) → partly z st s n h k l .pack ≡ l .pack
   unfolding partly
-  partly-pack st s h zero l = note-pack l importBegun
-  partly-pack st s h (suc k) l = note-pack (partly z st s h k l) (importedPage (h .page k) (taken z st s k) (h .word k)) ∙ partly-pack st s h k l
+  partly-pack st s n h zero l = note-pack l (importBegun n)
+  partly-pack st s n h (suc k) l = note-pack (partly z st s n h k l) (importedPage (h .page k) (taken z st s k) (h .word k)) ∙ partly-pack st s n h k l
 
-  wholly-pack : (st : State) (s : ℕ) (h : Sheet) (l : Ledger) → wholly z st s h l .pack ≡ l .pack
+  wholly-pack : (st : State) (s n : ℕ) (h : Sheet) (l : Ledger) → wholly z st s n h l .pack ≡ l .pack
   unfolding wholly
-  wholly-pack st s h l = note-pack (partly z st s h (h .count) l) (importedSlot s (has h) (said h)) ∙ partly-pack st s h (h .count) l
+  wholly-pack st s n h l = note-pack (partly z st s n h (h .count) l) (importedSlot s (has h) (said h)) ∙ partly-pack st s n h (h .count) l
 
   part-pack : (st : State) (c : Call) (k : ℕ) (l : Ledger) → fedPart z st c k l .pack ≡ l .pack
   unfolding fedPart
   part-pack st (S.event e) k l = refl
-  part-pack st (S.importing s q n b) k l = partly-pack st s (sheetOf b) k l
+  part-pack st (S.importing s q n b) zero l = refl
+  part-pack st (S.importing s q n b) (suc k) l = partly-pack st s n (sheetOf b) k l
 
   act-pack : (w : World) (a : Act) → act z w a .ledger .pack ≡ w .ledger .pack
   unfolding act part
   act-pack w (event e) = noted-pack (step z (w .state) e) (fed z (w .state) e) (w .ledger)
   act-pack w (looking s p) = refl
-  act-pack w (importing s q n b) = either (eqb (import z (w .state) s q n b .answer .refusal) 0) _ (w .ledger) (w .ledger .pack) (wholly-pack (w .state) s (sheetOf b) (w .ledger)) refl
+  act-pack w (importing s q n b) = either (eqb (import z (w .state) s q n b .answer .refusal) 0) _ (w .ledger) (w .ledger .pack) (wholly-pack (w .state) s n (sheetOf b) (w .ledger)) refl
   act-pack w (exporting s buffer) = refl
   act-pack w restarting = noted-pack (restart z (w .state)) (restarted (w .state .disk)) (w .ledger)
   act-pack w (cutting writes updates junk) = note-pack (w .ledger) (cut writes updates)

@@ -15,10 +15,12 @@ use Rattle.model.specs.Ledger.{Ledger, Write, ended, note, spent, carriedIn, pa
 use Rattle.model.specs.Acts.{partly}
 use Rattle.model.specs.Demand3.{lastInto}
 use Rattle.invariant.proofs.FreeStore.{word-split}
+use Rattle.model.specs.Setters.{onDisk, raise}
 use Rattle.invariant.proofs.Imports.{Before, mid, midway, nth-below, nth-free, nth-once}
 use Rattle.crash.proofs.Writes.{In, bounded, last-here, last-there}
 use Rattle.crash.proofs.Link.{Tied}
 use Rattle.crash.proofs.FreeTied.{free-tied, spent-tied}
+use Rattle.crash.proofs.Raised.{raise-tied}
 
 module _ (z : Sizes) (st : State) (s q n : ℕ) (h : Sheet) (l : Ledger) (b : Before z st s q n h) (tied : Tied z st l) where
   abbrev nth : ℕ → ℕ
@@ -35,7 +37,7 @@ module _ (z : Sizes) (st : State) (s q n : ℕ) (h : Sheet) (l : Ledger) (b : Be
 
   -- the ledger after k stores
   abbrev pub led : ℕ → Ledger
-  led k = partly z st s h k l
+  led k = partly z st s n h k l
 
   pub births-are : (k : ℕ) → led k .births ≡ suc (l .births)
   unfolding partly note spent carriedIn
@@ -52,7 +54,7 @@ module _ (z : Sizes) (st : State) (s q n : ℕ) (h : Sheet) (l : Ledger) (b : Be
 
   pub mid-tied : (k : ℕ) → k ≤ h .count → Tied z (at-mid k) (led k)
   unfolding made partly note storeRecord
-  mid-tied zero i = spent-tied z st l tied
+  mid-tied zero i = spent-tied z (onDisk (raise n) st) l n (raise-tied z st l n tied)
   mid-tied (suc k) i =
       let m = midway z st s q n h b k (omega (arith, i)) in
       free-tied z (at-mid k) (m .fit) (m .ruled) (nth k) (below k) (nth-free z st s q n h b k i) (h .word k) (led k) (mid-tied k (omega (arith, i))) (h .page k) (fresh k)

@@ -98,7 +98,7 @@ module _ (z : Sizes) (pos : 0 < z .pages) (i d : ℕ) (x : ℕ → ℕ) where
   abbrev pub Fits : Ledger → Fed → Type 0
   Fits l L.nothing = Unit {0}
   Fits l (L.restarted disk) = (k : ℕ) → k < z .words → found z disk i k ≡ x k
-  Fits l (L.created s) = ¬ (slot ≡ s)
+  Fits l (L.created s n) = ¬ (slot ≡ s)
   Fits l (L.deleted s) = ¬ (slot ≡ s)
   Fits l (L.activated s disk) = Unit {0}
   Fits l (L.deactivated s) = Unit {0}
@@ -109,7 +109,7 @@ module _ (z : Sizes) (pos : 0 < z .pages) (i d : ℕ) (x : ℕ → ℕ) where
   Fits l (L.began s) = Some → slot ≡ s → T (l .pages .live i)
   Fits l (L.pageEnd f good) = Open Its l f
   Fits l (L.mapEnd s good) = Only l s
-  Fits l L.importBegun = Unit {0}
+  Fits l (L.importBegun n) = Unit {0}
   Fits l (L.importedPage p r words) = ¬ (l .births ≡ d)
   Fits l (L.importedSlot s h t) = ¬ (slot ≡ s) × ¬ (l .births ≡ d)
   Fits l (L.cut writes updates) = ((f : ℕ) → f < z .frames → Open Its l f) × ((s : ℕ) → s < z .slots → Only l s)
@@ -119,7 +119,7 @@ module _ (z : Sizes) (pos : 0 < z .pages) (i d : ℕ) (x : ℕ → ℕ) where
   note-known l L.nothing t k = k
   note-known l (L.restarted disk) t k =
       let m = lost l k in record { design = m .design; elder = m .elder; text = t; finished = each-note Its z l (L.restarted disk) tt (k .finished); stored = m .stored; begun = m .begun }
-  note-known l (L.created s) t k =
+  note-known l (L.created s n) t k =
       keep l _ (put-other (l .design) s (suc (l .births)) slot t) refl (elim (split-over (l .pages .text) (ofSlot z s) (λ w. 0) i) [ inl y ↦ absurd (t (y .0)) | inr y ↦ y .1 ]) refl (λ u. u) refl (k .finished) k
   note-known l (L.deleted s) t k = keep l _ (put-other (l .design) s 0 slot t) refl refl refl (λ u. u) refl (k .finished) k
   note-known l (L.activated s disk) t k = keep l _ refl refl refl refl (λ u. u) refl (k .finished) k
@@ -147,7 +147,7 @@ module _ (z : Sizes) (pos : 0 < z .pages) (i d : ℕ) (x : ℕ → ℕ) where
       (each-finish Its f l t (k .finished)) k) (λ u. keep l _ refl refl refl refl (λ v. v) refl (k .finished) k)
   note-known l (L.mapEnd s good) t k = if-elim Known (eqb good 1) _ _ (λ u. one-update s l t k)
       (λ u. keep l _ refl refl refl refl (λ v. elim (split-put (l .pending .updating) s false slot) [ inl y ↦ absurd (subst T (y .1) v) | inr y ↦ subst T (y .1) v ]) refl (k .finished) k)
-  note-known l L.importBegun t k = keep l _ refl refl refl refl (λ u. u) refl (k .finished) k
+  note-known l (L.importBegun n) t k = keep l _ refl refl refl refl (λ u. u) refl (k .finished) k
   note-known l (L.importedPage p r words) t k = keep l _ refl refl refl refl (λ u. u) refl (each-note Its z l (L.importedPage p r words) (λ e. absurd (t e)) (k .finished)) k
   note-known l (L.importedSlot s h v) t k = record {
     design = put-other (l .design) s (l .births) slot (t .0) ∙ k .design;
@@ -167,7 +167,7 @@ module _ (z : Sizes) (pos : 0 < z .pages) (i d : ℕ) (x : ℕ → ℕ) where
   abbrev pub Lively : Fed → Type 0
   Lively L.nothing = Unit {0}
   Lively (L.restarted disk) = ⊥
-  Lively (L.created s) = Unit {0}
+  Lively (L.created s n) = Unit {0}
   Lively (L.deleted s) = Unit {0}
   Lively (L.activated s disk) = Unit {0}
   Lively (L.deactivated s) = ¬ (slot ≡ s)
@@ -178,7 +178,7 @@ module _ (z : Sizes) (pos : 0 < z .pages) (i d : ℕ) (x : ℕ → ℕ) where
   Lively (L.began s) = Unit {0}
   Lively (L.pageEnd f good) = Unit {0}
   Lively (L.mapEnd s good) = Unit {0}
-  Lively L.importBegun = Unit {0}
+  Lively (L.importBegun n) = Unit {0}
   Lively (L.importedPage p r words) = Unit {0}
   Lively (L.importedSlot s h t) = Unit {0}
   Lively (L.cut writes updates) = ⊥
@@ -191,7 +191,7 @@ module _ (z : Sizes) (pos : 0 < z .pages) (i d : ℕ) (x : ℕ → ℕ) where
   unfolding note strikeWrite strikeUpdate finishWrite finishUpdate spent carriedIn placed
   note-live l L.nothing t k some v = v
   note-live l (L.restarted disk) t k some v = absurd t
-  note-live l (L.created s) t k some v = v
+  note-live l (L.created s n) t k some v = v
   note-live l (L.deleted s) t k some v = v
   note-live l (L.activated s disk) t k some v = elim (split-over (l .pages .live) (λ j. ofSlot z s j and non (same (at (disk .maps) j) 0)) true i) [ inl y ↦ subst T (sym (y .1)) tt | inr y ↦ subst T (sym (y .1)) v ]
   note-live l (L.deactivated s) t k some v = elim (split-over (l .pages .live) (ofSlot z s) false i) [ inl y ↦ absurd (t (y .0)) | inr y ↦ subst T (sym (y .1)) v ]
@@ -205,7 +205,7 @@ module _ (z : Sizes) (pos : 0 < z .pages) (i d : ℕ) (x : ℕ → ℕ) where
   note-live l (L.pageEnd f good) t k some v = if-elim (λ (a : Ledger). T (a .pages .live i)) (eqb good 1) _ _ (λ u. if-elim (λ (a : Ledger). T (a .pages .live i)) (l .pending .writing f) _ l
       (λ q. elim (split-put (l .pages .live) (l .pending .noted f .place) true i) [ inl y ↦ subst T (sym (y .1)) tt | inr y ↦ subst T (sym (y .1)) v ]) (λ q. v)) (λ u. v)
   note-live l (L.mapEnd s good) t k some v = if-elim (λ (a : Ledger). T (a .pages .live i)) (eqb good 1) _ _ (λ u. if-elim (λ (a : Ledger). T (a .pages .live i)) (l .pending .updating s) _ l (λ q. v) (λ q. v)) (λ u. v)
-  note-live l L.importBegun t k some v = v
+  note-live l (L.importBegun n) t k some v = v
   note-live l (L.importedPage p r words) t k some v = v
   note-live l (L.importedSlot s h y) t k some v = v
   note-live l (L.cut writes updates) t k some v = absurd t

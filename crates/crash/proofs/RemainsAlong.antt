@@ -27,7 +27,7 @@ use Rattle.model.specs.Setters.{counted}
 use Rattle.model.specs.Questions.{Turning, nobody, serves, goesBack, faults, claims, sendsAway, turning}
 use Rattle.model.specs.Laws.Index.{split-set, slot-below}
 use Rattle.model.specs.Designs
-use Rattle.model.specs.Restart.{restarted}
+use Rattle.model.specs.Restart.{raised, restarted}
 use Rattle.model.specs.Step.{outcome, allFit, answer, carried, result, step, restart}
 use Rattle.model.specs.Import.{Sheet, sheetOf, taken, has, said, imported, importAnswer, import}
 use Rattle.model.specs.Stores as S
@@ -39,7 +39,7 @@ use Rattle.model.specs.Acts.{Act, event, looking, importing, exporting, restart
 use Rattle.model.specs.Carried.{sparesEvent, sparesCall, spares, allSpare}
 use Rattle.invariant.proofs.RestartedRecords.{zero-at}
 use Rattle.invariant.proofs.Parts.{same-page}
-use Rattle.invariant.proofs.Stores.{Inside, inside}
+use Rattle.invariant.proofs.Midst.{Inside, inside}
 use Rattle.crash.proofs.Writes.{last-in, split-over}
 use Rattle.crash.proofs.Link.{InMemory}
 use Rattle.crash.proofs.Steps.{Good, Before, before}
@@ -199,37 +199,37 @@ module _ (z : Sizes) (pos : 0 < z .pages) (i : ℕ) (within : i < allPages z) (d
       go (suc n) a = rw (ne-eqb (suc n) 0 (λ q. omega (arith, q))) m
 
   -- an import elsewhere: its design is a new one
-  module _ (w : World) (s : ℕ) (h : Sheet) (k : Good z w) (t : ¬ (slot ≡ s)) (m : Knows (w .ledger)) where
-    another : (n : ℕ) → ¬ (partly z (w .state) s h n (w .ledger) .births ≡ d)
-    another n e = omega (arith, e, partly-births z (w .state) s h (w .ledger) n, k .disk .designs .young slot slot-in, m .design)
+  module _ (w : World) (s v : ℕ) (h : Sheet) (k : Good z w) (t : ¬ (slot ≡ s)) (m : Knows (w .ledger)) where
+    another : (n : ℕ) → ¬ (partly z (w .state) s v h n (w .ledger) .births ≡ d)
+    another n e = omega (arith, e, partly-births z (w .state) s v h (w .ledger) n, k .disk .designs .young slot slot-in, m .design)
 
-    partly-known : (n : ℕ) → Knows (partly z (w .state) s h n (w .ledger))
+    partly-known : (n : ℕ) → Knows (partly z (w .state) s v h n (w .ledger))
     unfolding partly
-    partly-known zero = note-known z pos i d x (w .ledger) L.importBegun tt m
-    partly-known (suc n) = note-known z pos i d x (partly z (w .state) s h n (w .ledger)) (L.importedPage (h .page n) (taken z (w .state) s n) (h .word n)) (another n) (partly-known n)
+    partly-known zero = note-known z pos i d x (w .ledger) (L.importBegun v) tt m
+    partly-known (suc n) = note-known z pos i d x (partly z (w .state) s v h n (w .ledger)) (L.importedPage (h .page n) (taken z (w .state) s n) (h .word n)) (another n) (partly-known n)
 
-    wholly-known : Knows (wholly z (w .state) s h (w .ledger))
+    wholly-known : Knows (wholly z (w .state) s v h (w .ledger))
     unfolding wholly
-    wholly-known = note-known z pos i d x (partly z (w .state) s h (h .count) (w .ledger)) (L.importedSlot s (has h) (said h)) (t, another (h .count)) (partly-known (h .count))
+    wholly-known = note-known z pos i d x (partly z (w .state) s v h (h .count) (w .ledger)) (L.importedSlot s (has h) (said h)) (t, another (h .count)) (partly-known (h .count))
 
-    partly-live : (n : ℕ) → partly z (w .state) s h n (w .ledger) .pages ≡ w .ledger .pages
+    partly-live : (n : ℕ) → partly z (w .state) s v h n (w .ledger) .pages ≡ w .ledger .pages
     unfolding partly note spent carriedIn
     partly-live zero = refl
     partly-live (suc n) = partly-live n
 
-    wholly-live : T (w .ledger .pages .live i) → T (wholly z (w .state) s h (w .ledger) .pages .live i)
+    wholly-live : T (w .ledger .pages .live i) → T (wholly z (w .state) s v h (w .ledger) .pages .live i)
     unfolding wholly note placed
-    wholly-live v = subst (λ (q : L.Pages). T (q .live i)) (sym (partly-live (h .count))) v
+    wholly-live u = subst (λ (q : L.Pages). T (q .live i)) (sym (partly-live (h .count))) u
 
   import-remains : (w : World) (s q n : ℕ) (b : List ℕ) → Good z w → ¬ (slot ≡ s) → Remaining w → Remaining (act z w (importing s q n b))
   unfolding act import
   import-remains w s q n b k t m = go (importAnswer z (w .state) s q n b)
     where
       go : (e : ℕ) → (let o = outcome e (numberIn b) (w .state) (imported z (w .state) s q n (sheetOf b)) in
-          Remaining (record { up = w .up; state = o .left; ledger = if (eqb (o .answer .refusal) 0) (wholly z (w .state) s (sheetOf b) (w .ledger)) (w .ledger) }))
+          Remaining (record { up = w .up; state = o .left; ledger = if (eqb (o .answer .refusal) 0) (wholly z (w .state) s n (sheetOf b) (w .ledger)) (w .ledger) }))
       go zero = record {
-        known = wholly-known w s (sheetOf b) k t (m .known);
-        live = λ some u on. wholly-live w s (sheetOf b) k t (m .known) (m .live some u (sym (ap (λ (l : List ℕ). at l slot) (import-stays z (w .state) s q n (sheetOf b))) ∙ on));
+        known = wholly-known w s n (sheetOf b) k t (m .known);
+        live = λ some u on. wholly-live w s n (sheetOf b) k t (m .known) (m .live some u (sym (ap (λ (l : List ℕ). at l slot) (import-stays z (w .state) s q n (sheetOf b))) ∙ on));
       }
       go (suc e) = rw (ne-eqb (suc e) 0 (λ c. omega (arith, c))) m
 
@@ -241,9 +241,9 @@ module _ (z : Sizes) (pos : 0 < z .pages) (i : ℕ) (within : i < allPages z) (d
   unfolding act restart noted
   restart-remains w k m = go (firstNo (ask 1 (allFit z (w .state)) (ask 2 (diskRules z (w .state)) none)))
     where
-      go : (n : ℕ) → (let o = outcome n 0 (w .state) (restarted z (w .state .disk)) in
+      go : (n : ℕ) → (let o = outcome n 0 (w .state) (restarted z (raised z (w .state .disk))) in
           Remaining (record { up = if (eqb (o .answer .refusal) 0) true (w .up); state = o .left; ledger = noted z o (L.restarted (w .state .disk)) (w .ledger) }))
-      go zero = record { known = note-known z pos i d x (w .ledger) (L.restarted (w .state .disk)) (is-found w k (m .known)) (m .known); live = λ some u on. absurd (asleep (w .state .disk) on) }
+      go zero = record { known = note-known z pos i d x (w .ledger) (L.restarted (w .state .disk)) (is-found w k (m .known)) (m .known); live = λ some u on. absurd (asleep (raised z (w .state .disk)) on) }
       go (suc n) = rw (ne-eqb (suc n) 0 (λ c. omega (arith, c))) m
 
   cut-remains : (w : World) (writes updates : ℕ → Bool) (junk : Memory) → Good z w → Knows (w .ledger) → Remaining (cutOff z w writes updates junk)
@@ -253,7 +253,8 @@ module _ (z : Sizes) (pos : 0 < z .pages) (i : ℕ) (within : i < allPages z) (d
   part-known : (w : World) (c : Call) (n : ℕ) → Good z w → Holds (sparesCall z i c) → Knows (w .ledger) → Knows (part z w c n .ledger)
   unfolding part fedPart
   part-known w (S.event e) n k t m = m
-  part-known w (S.importing s q v b) n k t m = partly-known w s (sheetOf b) k t m n
+  part-known w (S.importing s q v b) zero k t m = m
+  part-known w (S.importing s q v b) (suc n) k t m = partly-known w s v (sheetOf b) k t m n
 
   act-remains : (w : World) (a : Act) → T (allowed z w a) → Good z w → Holds (spares z i a) → Remaining w → Remaining (act z w a)
   unfolding allowed act

@@ -11,7 +11,7 @@ use Rattle.model.specs.declared.sizes.Sizes.{Sizes}
 use Rattle.model.specs.declared.frame.Frame.{Frame}
 use Rattle.model.specs.State.{Disk, State, files, noFrame, frameAt, allPages, slotOf}
 use Rattle.model.specs.Laws.Ruled as R
-use Rattle.model.specs.Setters.{counted}
+use Rattle.model.specs.Setters.{raise, counted}
 use Rattle.model.specs.Restart as Restart
 use Rattle.model.specs.Ledger.{Ledger, Write, note, restarted, lose, found, recount}
 use Rattle.model.specs.Demand3.{lastInto}
@@ -95,15 +95,16 @@ module _ (z : Sizes) (st : State) (l : Ledger) (pos : 0 < z .pages) (rules : R.O
   found-some i k r p = let e : pred (at (disk .maps) i) ≡ r = omega (arith, p) in
       if-no (at (disk .maps) i) 0 0 (at (disk .records) (pred (at (disk .maps) i) * z .words + k)) (λ q. omega (arith, p, q)) ∙ ap (λ (x : ℕ). at (disk .records) (x * z .words + k)) e
 
-  pub restart-tied : Tied z (Restart.restarted z (st .disk)) (note z l (restarted (st .disk)))
+  -- whatever number is stored as the highest
+  restart-tied : (n : ℕ) → Tied z (Restart.restarted z (raise n (st .disk))) (note z l (restarted (st .disk)))
   unfolding Restart.restarted counted note lose
-  restart-tied = record {
+  restart-tied n = record {
     disk = record {
       designs = d .designs;
       listing = record {
         owned = own-again;
         numbered = numbered-again z disk of (l .finished) (d .listing .numbered);
-        after = λ n. rw (length-again z disk of (l .finished)) (d .listing .after n);
+        after = λ u. rw (length-again z disk of (l .finished)) (d .listing .after u);
         listed = λ i h t. let b = d .listing .listed i h t in (b .0, b .1, newest-again i _ (b .0) (b .2));
         newborn = d .listing .newborn;
         promised = d .listing .promised;
@@ -132,3 +133,7 @@ module _ (z : Sizes) (st : State) (l : Ledger) (pos : 0 < z .pages) (rules : R.O
 
       free : (f : ℕ) → frameAt (replicate (z .frames) noFrame) f ≡ noFrame
       free f = one-value (z .frames) f noFrame
+
+  pub raised-tied : Tied z (Restart.restarted z (Restart.raised z (st .disk))) (note z l (restarted (st .disk)))
+  unfolding Restart.raised
+  raised-tied = restart-tied (Restart.highestOf (st .disk) (z .slots))

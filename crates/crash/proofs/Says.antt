@@ -25,7 +25,7 @@ use Rattle.model.specs.Acts.{World}
 use Rattle.model.specs.State.{allPages, slotOf}
 use Rattle.model.specs.Ledger.{packDesign}
 use Rattle.model.specs.Demand3.{After, demand3, ownWords, liveListed, liveReads, lastInto, lastUpdateAt, someOf, ofPage, newest}
-use Rattle.model.specs.FromPack.{fromPack, writtenWords, packWords, writtenReads, packReads, birthMaps, listedLive}
+use Rattle.model.specs.FromPack.{fromPack, writtenWords, packWords, writtenReads, packReads, inPack, birthMaps, fromPacked, listedLive}
 use Rattle.invariant.proofs.Stands.{frame-of}
 use Rattle.crash.proofs.Writes.{each-of, some-of, of-some, last-in, numbered-from-1}
 use Rattle.crash.proofs.Link.{Own, Newest}
@@ -66,7 +66,7 @@ module _ (z : Sizes) (w : World) (k : Good z w) where
       ]
 
   -- ── where none is ──
-  as-in-pack : Holds (packWords z w)
+  as-in-pack : Holds (packWords z w (inPack z w))
   unfolding packWords
   as-in-pack i h r p n = elim (k .disk .listing .owned i h r p) [ inl o ↦ absurd (n (o .some)) | inr o ↦ (o .listed, (o .design, o .words)) ]
 
@@ -74,7 +74,7 @@ module _ (z : Sizes) (w : World) (k : Good z w) where
   unfolding packReads
   pack-reads i h up u r p n c l = k .memory up .kept i h u r (inl p) .words c l ∙ elim (k .disk .listing .owned i h r p) [ inl o ↦ absurd (n (o .some)) | inr o ↦ o .words c l ]
 
-  at-birth : Holds (birthMaps z w)
+  at-birth : Holds (birthMaps z w (inPack z w))
   unfolding birthMaps
   at-birth i h n = let b = k .disk .listing .newborn i h n in (b .old, b .young)
 
@@ -132,7 +132,7 @@ module _ (z : Sizes) (w : World) (k : Good z w) where
       )
 
   pub says-from-pack : After (fromPack z w) z w
-  unfolding fromPack
+  unfolding fromPack fromPacked
   says-from-pack = record { disk = (k .rules .map-once, (written, (as-in-pack, (on-list, (written-reads, (pack-reads, at-birth)))))); reads = read-right; looks = look-right }
 
   pub says : ((i : ℕ) → at (w .ledger .pack .maps) i ≡ 0) → After (demand3 z w) z w

@@ -47,18 +47,18 @@ counted-on p i zero h e = absurd (not-suc-le-zero h)
 counted-on p i (suc j) h e = elim (last h) [ inl g ↦ omega (arith, counted-on p i j g e) | inr q ↦ rw (q, ap p (sym q) ∙ e) (omega arith) ]
 
 -- a slot of the pack is filled, and has a design, or empty
-in-pack : (d : Disk) (s : ℕ) → ((filled d s ≡ true) × (packDesign d s ≡ suc (count s (filled d)))) ⊎ ((at (d .numbers) s ≡ 0) × (packDesign d s ≡ 0))
+pub in-pack : (d : Disk) (s : ℕ) → ((filled d s ≡ true) × (packDesign d s ≡ suc (count s (filled d)))) ⊎ ((at (d .numbers) s ≡ 0) × (packDesign d s ≡ 0))
 unfolding packDesign
 in-pack d s = elim (ℕ-discrete (at (d .numbers) s) 0) [
   | yes e ↦ inr (e, rw (eq-eqb (at (d .numbers) s) 0 e))
   | no e ↦ inl (rw (ne-eqb (at (d .numbers) s) 0 e), rw (ne-eqb (at (d .numbers) s) 0 e))
 ]
 
-young : (d : Disk) (n s : ℕ) → s < n → packDesign d s ≤ count n (filled d)
+pub young : (d : Disk) (n s : ℕ) → s < n → packDesign d s ≤ count n (filled d)
 young d n s h = elim (in-pack d s) [ inl x ↦ omega (arith, x .1, counted-on (filled d) s n h (x .0)) | inr x ↦ omega (arith, x .1) ]
 
 -- two slots have not one design
-apart : (d : Disk) (i j r : ℕ) → packDesign d i ≡ suc r → packDesign d j ≡ suc r → ¬ (i < j)
+pub apart : (d : Disk) (i j r : ℕ) → packDesign d i ≡ suc r → packDesign d j ≡ suc r → ¬ (i < j)
 apart d i j r p q h = elim (in-pack d i) [
   | inl x ↦ elim (in-pack d j) [ inl y ↦ omega (arith, x .1, y .1, p, q, counted-on (filled d) i j h (x .0)) | inr y ↦ omega (arith, y .1, q) ]
   | inr x ↦ omega (arith, x .1, p)

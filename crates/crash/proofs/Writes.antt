@@ -58,6 +58,11 @@ unfolding eachOf In
 each-of [] f h = refl
 each-of (x ∷ xs) f h = (h x (inl refl), each-of xs f (λ y i. h y (inr i)))
 
+pub of-each : (l : List Write) (f : Write → Rule) → Holds (eachOf l f) → (y : Write) → In y l → Holds (f y)
+unfolding eachOf In
+of-each [] f h y i = absurd i
+of-each (x ∷ xs) f h y i = elim i [ inl e ↦ subst (λ (u : Write). Holds (f u)) (sym e) (h .0) | inr j ↦ of-each xs f (h .1) y j ]
+
 pub some-of : (l : List Write) (f : Write → Rule) (y : Write) → In y l → Holds (f y) → Holds (someOf l f)
 unfolding someOf In
 some-of [] f y i h = absurd i

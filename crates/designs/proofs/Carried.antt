@@ -46,6 +46,10 @@ module _ (z : Sizes) (st : State) where
   unfolding carried Designs.create counted
   create-accounts s q n = refl
 
+  pub create-highest : (s q n : ℕ) → set (st .disk .highest) 0 n ≡ carried z st (Event.Design (Create s q n)) .disk .highest
+  unfolding carried Designs.create counted
+  create-highest s q n = refl
+
   pub delete-numbers : (s : ℕ) → set (st .disk .numbers) s 0 ≡ carried z st (Event.Design (Delete s)) .disk .numbers
   unfolding carried Designs.delete counted
   delete-numbers s = refl

@@ -18,9 +18,9 @@ use Rattle.model.specs.Laws.Fit.{Fit}
 use Rattle.leaves.specs.Counts.{counts, countsFor, usedCounts, used-counts, free-same}
 use Rattle.leaves.specs.FreeMap.{freeMap, free-map, free-map-same}
 
--- the state after an event about a design: numbers, accounts, addresses, states and active switches are new
-abbrev pub after : State → List ℕ → List ℕ → List ℕ → List ℕ → List ℕ → State
-after st numbers accounts addresses states active = stateIn (st .memory .line)
+-- the state after an event about a design: numbers, accounts, the highest number, addresses, states and active switches are new
+abbrev pub after : State → List ℕ → List ℕ → List ℕ → List ℕ → List ℕ → List ℕ → State
+after st numbers accounts highest addresses states active = stateIn (st .memory .line)
     (st .memory .core .frames)
     (st .memory .held .pool)
     (st .disk .records)
@@ -29,6 +29,7 @@ after st numbers accounts addresses states active = stateIn (st .memory .line)
     (st .disk .maps)
     (st .disk .limits)
     (st .disk .parents)
+    highest
     (st .memory .core .words)
     (st .memory .core .free-queue)
     (st .memory .core .removal-list)
@@ -68,9 +69,9 @@ counts-kept z v v' c c' same pays = tab-same (z .accounts) (usedOf z v c) (usedO
     ]
 
 -- a state with the old counts, in which they count the same, is its own counted state
-module _ (z : Sizes) (st : State) (f : Fit z st) (k : OfCounts z st) (numbers accounts addresses states active : List ℕ) where
+module _ (z : Sizes) (st : State) (f : Fit z st) (k : OfCounts z st) (numbers accounts highest addresses states active : List ℕ) where
   abbrev new : State
-  new = after st numbers accounts addresses states active
+  new = after st numbers accounts highest addresses states active
 
   pub counted-kept : ((r : ℕ) → r < z .records → eqb (files st .state r) FREE ≡ eqb (files new .state r) FREE) → usedCounts z (files st) (frames st) ≡ usedCounts z (files new) (frames new) → counted z new ≡ new
   unfolding counted

@@ -33,7 +33,7 @@ use Rattle.designs.proofs.Kept.{after, split-in, split-out, counts-kept
 
 -- the slot's pages take new addresses, its records in state x become y, its switch becomes b
 abbrev turnedState : Sizes → State → ℕ → (ℕ → ℕ) → ℕ → ℕ → ℕ → State
-turnedState z st s new x y b = after st (st .disk .numbers) (st .disk .accounts)
+turnedState z st s new x y b = after st (st .disk .numbers) (st .disk .accounts) (st .disk .highest)
     (store (st .memory .held .addresses) (ofSlot z s) new)
     (store (st .memory .held .states) (λ r. same (at (st .memory .held .states) r) x and same (at (st .memory .held .owners) r) s) (λ r. y))
     (set (st .memory .slots .active) s b)
@@ -77,7 +77,7 @@ module _ (z : Sizes) (st : State) (f : Fit z st) (r : Ruled z st) (s : ℕ) (ins
 
     turned-left : ¬ (x ≡ FREE) → ¬ (y ≡ FREE) → ((i : ℕ) → i < allPages z → slotOf z i ≡ s → counts z v (frames st) i ≡ counts z w (frames st) i) → counted z (turnedState z st s new x y b) ≡ turnedState z st s new x y b
     unfolding payer
-    turned-left fx fy own = counted-kept z st f (r .counts) _ _ _ _ _
+    turned-left fx fy own = counted-kept z st f (r .counts) _ _ _ _ _ _
         (λ q h. elim (state q h) [
           | inl t ↦ ne-eqb (v .state q) FREE (λ e. fx (sym (t .0 .0) ∙ e)) ∙ sym (ne-eqb (w .state q) FREE (λ e. fy (sym (t .1) ∙ e)))
           | inr t ↦ ap (λ (n : ℕ). eqb n FREE) (sym (t .1))
@@ -133,7 +133,7 @@ module _ (z : Sizes) (st : State) (f : Fit z st) (r : Ruled z st) (s : ℕ) (ins
 
 module _ (z : Sizes) (st : State) (f : Fit z st) (r : Ruled z st) (s : ℕ) where
   pub activate-left : Asked (questions z st (Event.Design (Activate s))) → carried z st (Event.Design (Activate s))
-      ≡ after st (st .disk .numbers) (st .disk .accounts)
+      ≡ after st (st .disk .numbers) (st .disk .accounts) (st .disk .highest)
       (store (st .memory .held .addresses) (ofSlot z s) (at (st .disk .maps)))
       (store (st .memory .held .states) (λ m. same (at (st .memory .held .states) m) FILED and same (at (st .memory .held .owners) m) s) (λ m. LIVE))
       (set (st .memory .slots .active) s 1)
@@ -141,7 +141,7 @@ module _ (z : Sizes) (st : State) (f : Fit z st) (r : Ruled z st) (s : ℕ) wher
   activate-left a = turned-left z st f r s (a .0) (at (st .disk .maps)) FILED LIVE 1 (omega arith) (omega arith) (turned-on z st f r s (a .0) (a .1 .1 .0))
 
   pub deactivate-left : Asked (questions z st (Event.Design (Deactivate s))) → carried z st (Event.Design (Deactivate s))
-      ≡ after st (st .disk .numbers) (st .disk .accounts)
+      ≡ after st (st .disk .numbers) (st .disk .accounts) (st .disk .highest)
       (store (st .memory .held .addresses) (ofSlot z s) (λ i. 0))
       (store (st .memory .held .states) (λ m. same (at (st .memory .held .states) m) LIVE and same (at (st .memory .held .owners) m) s) (λ m. FILED))
       (set (st .memory .slots .active) s 0)

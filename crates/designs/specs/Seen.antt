@@ -3,10 +3,14 @@ use mathlib.Core.List.{List, []}
 use Prim.Native.Nat.{ℕ}
 use Rattle.model.specs.declared.frame.Frame.{Frame}
 use Rattle.model.specs.State.{State}
-use Rattle.model.specs.Setters.{onDisk, onCore, onHeld, onSlots, setNumbers, setAccounts, setMaps, setFrames, setAddresses, setStates, setOwners, setActive, setUpdating}
+use Rattle.model.specs.Setters.{onDisk, onCore, onHeld, onSlots, setNumbers, setAccounts, setMaps, setHighest, setFrames, setAddresses, setStates, setOwners, setActive, setUpdating}
 use Rattle.model.specs.Lent.{Table, noState}
 
--- of a create and a delete: numbers, accounts, maps, active switches
+-- of a create: numbers, accounts, the highest number
+abbrev pub seenCreate : List ℕ → List ℕ → List ℕ → State
+seenCreate numbers accounts highest = onDisk (λ d. setNumbers numbers (setAccounts accounts (setHighest highest d))) noState
+
+-- of a delete: numbers, accounts, maps, active switches
 abbrev pub seenFiles : List ℕ → List ℕ → List ℕ → List ℕ → State
 seenFiles numbers accounts maps active =
     onDisk (λ d. setNumbers numbers (setAccounts accounts (setMaps maps d))) (onSlots (setActive active) noState)
@@ -19,8 +23,8 @@ seenTurns frames numbers maps addresses states owners active updating =
 
 -- ── as they were passed, by bare names: what the contracts speak of ──
 -- to a create,
-abbrev pub enteredCreate : Table → Table → State
-enteredCreate numbers accounts = seenFiles (numbers .entry .now) (accounts .entry .now) [] []
+abbrev pub enteredCreate : Table → Table → Table → State
+enteredCreate numbers accounts highest = seenCreate (numbers .entry .now) (accounts .entry .now) (highest .entry .now)
 
 -- a delete,
 abbrev pub enteredDelete : Table → Table → Table → Table → State

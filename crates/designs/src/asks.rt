@@ -11,7 +11,7 @@ ghost use Rattle.model.specs.Laws.Fit.{Within};
 ghost use Rattle.model.specs.Questions.{questions};
 ghost use Rattle.leaves.specs.Packed.{framesEntered};
 ghost use Rattle.designs.specs.Asks.{newNumber, heldAsked};
-ghost use Rattle.designs.specs.Seen.{seenFiles, seenTurns, enteredDeactivate};
+ghost use Rattle.designs.specs.Seen.{seenCreate, seenFiles, seenTurns, enteredDeactivate};
 use crate::frames::none_framed;
 use crate::maps::map_true;
 use crate::maps::map_zero;
@@ -20,10 +20,12 @@ use leaves::asks::ask_filled;
 use leaves::asks::ask_idle;
 use leaves::cells::at8;
 use leaves::cells::at32;
+use leaves::numbers::HIGH;
 use model::refusals::ACTIVE;
 use model::refusals::MAP_NOT_EMPTY;
 use model::refusals::MAP_OLD;
 use model::refusals::NO_RANGE;
+use model::refusals::NUMBER_GIVEN;
 use model::refusals::NUMBER_HIGH;
 use model::refusals::NUMBER_TAKEN;
 use model::refusals::PAGES_IN;
@@ -44,12 +46,16 @@ pub fn number_new(slots: usize, numbers: &[u32], number: u32) -> bool
     true
 }
 
-// Numbers from here up are no longer taken.
-const HIGH: u32 = 2147483648;
-
-// Questions 3, 32, 5 and 6.
-pub fn ask_create(sizes: Sizes, slot: usize, account: usize, number: u32, numbers: &[u32]) -> u32
-    ensures { λ r. ⌜ r ≡ firstNo (questions sizes (seenFiles (now (numbers .entry)) [] [] []) (Event.Design (Design.Create slot account number))) ⌝ }
+// Questions 3, 32, 5, 6 and 33.
+pub fn ask_create(
+    sizes: Sizes,
+    slot: usize,
+    account: usize,
+    number: u32,
+    numbers: &[u32],
+    highest: &[u32],
+) -> u32
+    ensures { λ r. ⌜ r ≡ firstNo (questions sizes (seenCreate (now (numbers .entry)) [] (now (highest .entry))) (Event.Design (Design.Create slot account number))) ⌝ }
 {
     let in_range = (slot < sizes.slots) & ((account < sizes.accounts) & (0 < number));
     if in_range {} else {
@@ -63,6 +69,9 @@ pub fn ask_create(sizes: Sizes, slot: usize, account: usize, number: u32, number
     }
     if number_new(sizes.slots, numbers, number) {} else {
         return NUMBER_TAKEN;
+    }
+    if at32(highest, 0) < number {} else {
+        return NUMBER_GIVEN;
     }
     0
 }

@@ -1,4 +1,4 @@
-// Delete: a slot is emptied, two stores to the disk part that the caller brings to the device as one.
+// Delete: a slot is emptied, one store to the disk part.
 ghost use mathlib.Core.Path.{_≡_};
 ghost use Rattle.model.specs.declared.event.Design.the-variants as Design;
 ghost use Rattle.model.specs.declared.event.Event.the-variants as Event;
@@ -6,8 +6,7 @@ ghost use Rattle.model.specs.Laws.Fit.{Within};
 ghost use Rattle.model.specs.Laws.Own.{own};
 ghost use Rattle.designs.specs.Seen.{enteredDelete};
 use crate::asks::ask_delete;
-use leaves::cells::put16;
-use leaves::cells::put32;
+use leaves::numbers::fill_slot;
 use model::event::Answer;
 use model::sizes::Sizes;
 
@@ -28,8 +27,7 @@ pub fn delete(
     if refusal != 0 {
         return Answer { refusal, result: 0 };
     }
-    put32(numbers, slot, 0);
-    put16(accounts, slot, 0);
+    fill_slot(slot, 0, 0, numbers, accounts);
     Answer {
         refusal: 0,
         result: 0,

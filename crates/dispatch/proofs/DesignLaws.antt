@@ -15,7 +15,7 @@ use Rattle.model.specs.Designs as Designs
 use Rattle.model.specs.Laws.Fit.{Within}
 use Rattle.model.specs.Step.{carried, result}
 use Rattle.model.specs.Laws.Own.{own, leaves}
-use Rattle.designs.specs.Seen.{seenFiles, seenTurns}
+use Rattle.designs.specs.Seen.{seenCreate, seenFiles, seenTurns}
 use Rattle.designs.specs.Needs.{Turning}
 use Rattle.designs.proofs.Kept.{after}
 use Rattle.designs.proofs.Filed.{create-left, delete-left}
@@ -35,13 +35,15 @@ module _ (z : Sizes) (st : State) (k : Kept z st) where
     creates = Event.Design (Design.Create s q n)
 
     abbrev create-sees : State
-    create-sees = seenFiles (st .disk .numbers) (st .disk .accounts) [] []
+    create-sees = seenCreate (st .disk .numbers) (st .disk .accounts) (st .disk .highest)
 
-    pub create-own : {a : Answer} {ns cs : List ℕ} → a ≡ own z create-sees creates .answer → ns ≡ own z create-sees creates .left .disk .numbers → cs ≡ own z create-sees creates .left .disk .accounts → leaves a (after st ns cs (st .memory .held .addresses) (st .memory .held .states) (st .memory .slots .active)) ≡ own z st creates
+    pub create-own : {a : Answer} {ns cs hs : List ℕ} → a ≡ own z create-sees creates .answer → ns ≡ own z create-sees creates .left .disk .numbers → cs ≡ own z create-sees creates .left .disk .accounts
+        → hs ≡ own z create-sees creates .left .disk .highest → leaves a (after st ns cs hs (st .memory .held .addresses) (st .memory .held .states) (st .memory .slots .active)) ≡ own z st creates
     unfolding carried result Designs.create counted
-    create-own ea ens ecs = own-by z st create-sees creates refl refl ea
-        (λ o ok. (λ x. after st ((ens ∙ (λ y. o y .left .disk .numbers)) x) ((ecs ∙ (λ y. o y .left .disk .accounts)) x) (st .memory .held .addresses) (st .memory .held .states) (st .memory .slots .active)) ∙ sym (create-left z st (k .fits) (k .rules) s q n ok))
-        (λ n o. λ x. after st ((ens ∙ (λ y. o y .left .disk .numbers)) x) ((ecs ∙ (λ y. o y .left .disk .accounts)) x) (st .memory .held .addresses) (st .memory .held .states) (st .memory .slots .active))
+    create-own ea ens ecs ehs = own-by z st create-sees creates refl refl ea
+        (λ o ok. (λ x. after st ((ens ∙ (λ y. o y .left .disk .numbers)) x) ((ecs ∙ (λ y. o y .left .disk .accounts)) x) ((ehs ∙ (λ y. o y .left .disk .highest)) x) (st .memory .held .addresses) (st .memory .held .states) (st .memory .slots .active))
+        ∙ sym (create-left z st (k .fits) (k .rules) s q n ok))
+        (λ n o. λ x. after st ((ens ∙ (λ y. o y .left .disk .numbers)) x) ((ecs ∙ (λ y. o y .left .disk .accounts)) x) ((ehs ∙ (λ y. o y .left .disk .highest)) x) (st .memory .held .addresses) (st .memory .held .states) (st .memory .slots .active))
 
   module _ (s : ℕ) where
     abbrev deletes : Event
@@ -50,11 +52,11 @@ module _ (z : Sizes) (st : State) (k : Kept z st) where
     abbrev delete-sees : State
     delete-sees = seenFiles (st .disk .numbers) (st .disk .accounts) (st .disk .maps) (st .memory .slots .active)
 
-    pub delete-own : {a : Answer} {ns cs : List ℕ} → a ≡ own z delete-sees deletes .answer → ns ≡ own z delete-sees deletes .left .disk .numbers → cs ≡ own z delete-sees deletes .left .disk .accounts → leaves a (after st ns cs (st .memory .held .addresses) (st .memory .held .states) (st .memory .slots .active)) ≡ own z st deletes
+    pub delete-own : {a : Answer} {ns cs : List ℕ} → a ≡ own z delete-sees deletes .answer → ns ≡ own z delete-sees deletes .left .disk .numbers → cs ≡ own z delete-sees deletes .left .disk .accounts → leaves a (after st ns cs (st .disk .highest) (st .memory .held .addresses) (st .memory .held .states) (st .memory .slots .active)) ≡ own z st deletes
     unfolding carried result Designs.delete counted
     delete-own ea ens ecs = own-by z st delete-sees deletes refl refl ea
-        (λ o ok. (λ x. after st ((ens ∙ (λ y. o y .left .disk .numbers)) x) ((ecs ∙ (λ y. o y .left .disk .accounts)) x) (st .memory .held .addresses) (st .memory .held .states) (st .memory .slots .active)) ∙ sym (delete-left z st (k .fits) (k .rules) s ok))
-        (λ n o. λ x. after st ((ens ∙ (λ y. o y .left .disk .numbers)) x) ((ecs ∙ (λ y. o y .left .disk .accounts)) x) (st .memory .held .addresses) (st .memory .held .states) (st .memory .slots .active))
+        (λ o ok. (λ x. after st ((ens ∙ (λ y. o y .left .disk .numbers)) x) ((ecs ∙ (λ y. o y .left .disk .accounts)) x) (st .disk .highest) (st .memory .held .addresses) (st .memory .held .states) (st .memory .slots .active)) ∙ sym (delete-left z st (k .fits) (k .rules) s ok))
+        (λ n o. λ x. after st ((ens ∙ (λ y. o y .left .disk .numbers)) x) ((ecs ∙ (λ y. o y .left .disk .accounts)) x) (st .disk .highest) (st .memory .held .addresses) (st .memory .held .states) (st .memory .slots .active))
 
   module _ (s : ℕ) where
     abbrev activates : Event
@@ -65,11 +67,11 @@ module _ (z : Sizes) (st : State) (k : Kept z st) where
 
     pub activate-own : {a : Answer} {ads ss ac : List ℕ} → a ≡ own z activate-sees activates .answer → ads ≡ own z activate-sees activates .left .memory .held .addresses → ss ≡
         own z activate-sees activates .left .memory .held .states → ac ≡ own z activate-sees activates .left .memory .slots .active → leaves a (after st (st .disk .numbers) (st .disk .accounts)
-        ads ss ac) ≡ own z st activates
+        (st .disk .highest) ads ss ac) ≡ own z st activates
     unfolding carried result Designs.activate counted
     activate-own ea eads ess eac = own-by z st activate-sees activates refl refl ea
-        (λ o ok. (λ x. after st (st .disk .numbers) (st .disk .accounts) ((eads ∙ (λ y. o y .left .memory .held .addresses)) x) ((ess ∙ (λ y. o y .left .memory .held .states)) x) ((eac ∙ (λ y. o y .left .memory .slots .active)) x)) ∙ sym (activate-left z st (k .fits) (k .rules) s ok))
-        (λ n o. λ x. after st (st .disk .numbers) (st .disk .accounts) ((eads ∙ (λ y. o y .left .memory .held .addresses)) x) ((ess ∙ (λ y. o y .left .memory .held .states)) x) ((eac ∙ (λ y. o y .left .memory .slots .active)) x))
+        (λ o ok. (λ x. after st (st .disk .numbers) (st .disk .accounts) (st .disk .highest) ((eads ∙ (λ y. o y .left .memory .held .addresses)) x) ((ess ∙ (λ y. o y .left .memory .held .states)) x) ((eac ∙ (λ y. o y .left .memory .slots .active)) x)) ∙ sym (activate-left z st (k .fits) (k .rules) s ok))
+        (λ n o. λ x. after st (st .disk .numbers) (st .disk .accounts) (st .disk .highest) ((eads ∙ (λ y. o y .left .memory .held .addresses)) x) ((ess ∙ (λ y. o y .left .memory .held .states)) x) ((eac ∙ (λ y. o y .left .memory .slots .active)) x))
 
   module _ (s : ℕ) where
     abbrev deactivates : Event
@@ -80,8 +82,8 @@ module _ (z : Sizes) (st : State) (k : Kept z st) where
 
     pub deactivate-own : {a : Answer} {ads ss ac : List ℕ} → a ≡ own z deactivate-sees deactivates .answer → ads ≡ own z deactivate-sees deactivates .left .memory .held .addresses → ss ≡
         own z deactivate-sees deactivates .left .memory .held .states → ac ≡ own z deactivate-sees deactivates .left .memory .slots .active → leaves a (after st (st .disk .numbers)
-        (st .disk .accounts) ads ss ac) ≡ own z st deactivates
+        (st .disk .accounts) (st .disk .highest) ads ss ac) ≡ own z st deactivates
     unfolding carried result Designs.deactivate counted wouldStore
     deactivate-own ea eads ess eac = own-by z st deactivate-sees deactivates refl refl ea
-        (λ o ok. (λ x. after st (st .disk .numbers) (st .disk .accounts) ((eads ∙ (λ y. o y .left .memory .held .addresses)) x) ((ess ∙ (λ y. o y .left .memory .held .states)) x) ((eac ∙ (λ y. o y .left .memory .slots .active)) x)) ∙ sym (deactivate-left z st (k .fits) (k .rules) s ok))
-        (λ n o. λ x. after st (st .disk .numbers) (st .disk .accounts) ((eads ∙ (λ y. o y .left .memory .held .addresses)) x) ((ess ∙ (λ y. o y .left .memory .held .states)) x) ((eac ∙ (λ y. o y .left .memory .slots .active)) x))
+        (λ o ok. (λ x. after st (st .disk .numbers) (st .disk .accounts) (st .disk .highest) ((eads ∙ (λ y. o y .left .memory .held .addresses)) x) ((ess ∙ (λ y. o y .left .memory .held .states)) x) ((eac ∙ (λ y. o y .left .memory .slots .active)) x)) ∙ sym (deactivate-left z st (k .fits) (k .rules) s ok))
+        (λ n o. λ x. after st (st .disk .numbers) (st .disk .accounts) (st .disk .highest) ((eads ∙ (λ y. o y .left .memory .held .addresses)) x) ((ess ∙ (λ y. o y .left .memory .held .states)) x) ((eac ∙ (λ y. o y .left .memory .slots .active)) x))

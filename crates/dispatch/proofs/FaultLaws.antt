@@ -209,7 +209,7 @@ module _ (z : Sizes) (st : State) (k : Kept z st) where
     -- all tables, with those new that a fault changes
     abbrev left : List Frame → Pool → List ℕ → List ℕ → List ℕ → List ℕ → List ℕ → List ℕ → List ℕ → State
     left fs pool ws fq rl ads ss os fm =
-        stateIn (st .memory .line) fs pool (st .disk .records) (st .disk .numbers) (st .disk .accounts) (st .disk .maps) (st .disk .limits) (st .disk .parents) ws fq rl ads ss os fm (st .memory .slots .active) (st .memory .slots .updating) (st .memory .slots .images) (st .memory .used)
+        stateIn (st .memory .line) fs pool (st .disk .records) (st .disk .numbers) (st .disk .accounts) (st .disk .maps) (st .disk .limits) (st .disk .parents) (st .disk .highest) ws fq rl ads ss os fm (st .memory .slots .active) (st .memory .slots .updating) (st .memory .slots .images) (st .memory .used)
 
     module _ {fs : List Frame} (pool : Pool) {ws fq rl ads ss os fm : List ℕ} where
       -- carried out, by the way
@@ -221,13 +221,13 @@ module _ (z : Sizes) (st : State) (k : Kept z st) where
         where
           go : (a b : Bool) → Tables (counted z (by-way z sees s p a b)) fs (pool .hand) ws fq rl ads ss os → pool .free ≡ freeCount z (files (by-way z st s p a b) .state) → fm ≡ freeMap z (files (by-way z st s p a b) .state)
               → st .memory .used ≡ usedCounts z (files (by-way z st s p a b)) (frames (by-way z st s p a b)) → left fs pool ws fq rl ads ss os fm ≡ counted z (by-way z st s p a b)
-          go true b t n m u = same-state (t .the-frames) (λ x. record { hand = t .the-hand x; free = n x }) refl refl refl refl refl refl (t .the-words) (t .the-queue) (t .the-list) (t .the-addresses) (t .the-states) (t .the-owners) m refl refl refl u
-          go false true t n m u = same-state (t .the-frames) (λ x. record { hand = t .the-hand x; free = n x }) refl refl refl refl refl refl (t .the-words) (t .the-queue) (t .the-list) (t .the-addresses) (t .the-states) (t .the-owners) m refl refl refl u
-          go false false t n m u = same-state (t .the-frames) (λ x. record { hand = t .the-hand x; free = n x }) refl refl refl refl refl refl (t .the-words) (t .the-queue) (t .the-list) (t .the-addresses) (t .the-states) (t .the-owners) m refl refl refl u
+          go true b t n m u = same-state (t .the-frames) (λ x. record { hand = t .the-hand x; free = n x }) refl refl refl refl refl refl refl (t .the-words) (t .the-queue) (t .the-list) (t .the-addresses) (t .the-states) (t .the-owners) m refl refl refl u
+          go false true t n m u = same-state (t .the-frames) (λ x. record { hand = t .the-hand x; free = n x }) refl refl refl refl refl refl refl (t .the-words) (t .the-queue) (t .the-list) (t .the-addresses) (t .the-states) (t .the-owners) m refl refl refl u
+          go false false t n m u = same-state (t .the-frames) (λ x. record { hand = t .the-hand x; free = n x }) refl refl refl refl refl refl refl (t .the-words) (t .the-queue) (t .the-list) (t .the-addresses) (t .the-states) (t .the-owners) m refl refl refl u
 
       -- refused
       fault-none : Tables sees fs (pool .hand) ws fq rl ads ss os → pool .free ≡ held .pool .free → fm ≡ held .free-map → left fs pool ws fq rl ads ss os fm ≡ st
-      fault-none t n m = same-state (t .the-frames) (λ x. record { hand = t .the-hand x; free = n x }) refl refl refl refl refl refl (t .the-words) (t .the-queue) (t .the-list) (t .the-addresses) (t .the-states) (t .the-owners) m refl refl refl refl
+      fault-none t n m = same-state (t .the-frames) (λ x. record { hand = t .the-hand x; free = n x }) refl refl refl refl refl refl refl (t .the-words) (t .the-queue) (t .the-list) (t .the-addresses) (t .the-states) (t .the-owners) m refl refl refl refl
 
       module _ (l : FaultLeft z sees s p fs pool ws fq rl ads ss os fm) where
         tables : {o : Outcome State} → own z sees faults ≡ o → Tables (o .left) fs (pool .hand) ws fq rl ads ss os

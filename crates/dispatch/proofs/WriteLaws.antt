@@ -124,13 +124,13 @@ module _ (z : Sizes) (st : State) (k : Kept z st) (s p w x : ℕ) where
 
   pub write-own : {a : Answer} {fs : List Frame} {ws us : List ℕ} → a ≡ own z sees (writing s p w x) .answer → fs ≡ own z sees (writing s p w x) .left .memory .core .frames
       → ws ≡ own z sees (writing s p w x) .left .memory .core .words → us ≡ usedLeft z sees s p w x
-      → leaves a (stateIn (st .memory .line) fs (held .pool) (st .disk .records) (st .disk .numbers) (st .disk .accounts) (st .disk .maps) (st .disk .limits) (st .disk .parents) ws (core .free-queue) (core .removal-list)
+      → leaves a (stateIn (st .memory .line) fs (held .pool) (st .disk .records) (st .disk .numbers) (st .disk .accounts) (st .disk .maps) (st .disk .limits) (st .disk .parents) (st .disk .highest) ws (core .free-queue) (core .removal-list)
       (held .addresses) (held .states) (held .owners) (held .free-map) (st .memory .slots .active) (st .memory .slots .updating) (st .memory .slots .images) us)
       ≡ own z st (writing s p w x)
   unfolding carried result counted Pages.write frameOf usedThen charged payer
   write-own a fs ws us = own-by z st sees (writing s p w x) refl refl a
-      (λ o ok. same-state (fs ∙ (λ t. o t .left .memory .core .frames)) (λ t. record { hand = held .pool .hand; free = k .rules .counts .free t }) refl refl refl refl refl refl
+      (λ o ok. same-state (fs ∙ (λ t. o t .left .memory .core .frames)) (λ t. record { hand = held .pool .hand; free = k .rules .counts .free t }) refl refl refl refl refl refl refl
       (ws ∙ (λ t. o t .left .memory .core .words)) refl refl refl refl refl (map-table z st k) refl refl refl
       (us ∙ ap (λ (n : ℕ). outcome n 0 (st .memory .used) (usedThen z st s i) .left) (yes-all (questions z st (writing s p w x)) ok) ∙ used-then ok))
-      (λ h o. same-state (fs ∙ (λ t. o t .left .memory .core .frames)) refl refl refl refl refl refl refl (ws ∙ (λ t. o t .left .memory .core .words)) refl refl refl refl refl refl refl refl refl
+      (λ h o. same-state (fs ∙ (λ t. o t .left .memory .core .frames)) refl refl refl refl refl refl refl refl (ws ∙ (λ t. o t .left .memory .core .words)) refl refl refl refl refl refl refl refl refl
       (us ∙ ap (λ (y : Outcome (List ℕ)). y .left) (outcome-no (firstNo (questions z st (writing s p w x))) 0 (st .memory .used) (usedThen z st s i) h)))

@@ -63,7 +63,7 @@ module _ (z : Sizes) (st : State) (k : Kept z st) where
     done-same P a b c d = by-two P (eqb (frames st .frame f .transfer) READING) (by-two P (eqb good 1) a b) (by-two P (eqb good 1) c d)
 
     pub page-done-own : {fs : List Frame} {a : Answer} {rs ws fq rl ss : List ℕ} → DoneWork.Said (own z done-sees (pageDone f good)) fs a rs ws fq rl ss
-        → leaves a (stateIn (st .memory .line) fs (held .pool) rs (st .disk .numbers) (st .disk .accounts) (st .disk .maps) (st .disk .limits) (st .disk .parents) ws fq rl (held .addresses) ss (held .owners) (held .free-map) (slots .active) (slots .updating) (slots .images) (st .memory .used))
+        → leaves a (stateIn (st .memory .line) fs (held .pool) rs (st .disk .numbers) (st .disk .accounts) (st .disk .maps) (st .disk .limits) (st .disk .parents) (st .disk .highest) ws fq rl (held .addresses) ss (held .owners) (held .free-map) (slots .active) (slots .updating) (slots .images) (st .memory .used))
         ≡ own z st (pageDone f good)
     unfolding carried result counted Writeback.pageDone Writeback.readGood Writeback.readFailed Writeback.writeGood Writeback.writeFailed Writeback.storeFrame Writeback.freeFrame
     page-done-own = λ (e-answer, (e-frames, (e-records, (e-words, (e-free-queue, (e-removal-list, e-states)))))). own-by z st done-sees (pageDone f good) refl refl e-answer
@@ -71,7 +71,7 @@ module _ (z : Sizes) (st : State) (k : Kept z st) where
         (e-frames ∙ (λ y. o y .left .memory .core .frames) ∙ done-same (λ t. t .memory .core .frames) refl refl refl refl)
         refl
         (e-records ∙ (λ y. o y .left .disk .records) ∙ done-same (λ t. t .disk .records) refl refl refl refl)
-        refl refl refl refl refl
+        refl refl refl refl refl refl
         (e-words ∙ (λ y. o y .left .memory .core .words) ∙ done-same (λ t. t .memory .core .words) refl refl refl refl)
         (e-free-queue ∙ (λ y. o y .left .memory .core .free-queue) ∙ done-same (λ t. t .memory .core .free-queue) refl refl refl refl)
         (e-removal-list ∙ (λ y. o y .left .memory .core .removal-list) ∙ done-same (λ t. t .memory .core .removal-list) refl refl refl refl)
@@ -83,7 +83,7 @@ module _ (z : Sizes) (st : State) (k : Kept z st) where
         (e-frames ∙ (λ y. o y .left .memory .core .frames))
         refl
         (e-records ∙ (λ y. o y .left .disk .records))
-        refl refl refl refl refl
+        refl refl refl refl refl refl
         (e-words ∙ (λ y. o y .left .memory .core .words))
         (e-free-queue ∙ (λ y. o y .left .memory .core .free-queue))
         (e-removal-list ∙ (λ y. o y .left .memory .core .removal-list))
@@ -97,7 +97,7 @@ module _ (z : Sizes) (st : State) (k : Kept z st) where
     map-sees pool = seenMapDone pool (st .disk .numbers) (st .disk .maps) (held .states) (held .owners) (held .free-map) (slots .active) (slots .updating) (slots .images)
 
     pub map-done-own : (n : ℕ) {a : Answer} {ms ss os fm us is : List ℕ} → MapWork.Said (λ p. own z (map-sees p) (mapDone s good)) (freeCount z (files st .state)) n a ms ss os fm us is
-        → leaves a (stateIn (st .memory .line) (core .frames) (deposited n (held .pool)) (st .disk .records) (st .disk .numbers) (st .disk .accounts) ms (st .disk .limits) (st .disk .parents) (core .words) (core .free-queue) (core .removal-list) (held .addresses) ss os fm (slots .active) us is (st .memory .used))
+        → leaves a (stateIn (st .memory .line) (core .frames) (deposited n (held .pool)) (st .disk .records) (st .disk .numbers) (st .disk .accounts) ms (st .disk .limits) (st .disk .parents) (st .disk .highest) (core .words) (core .free-queue) (core .removal-list) (held .addresses) ss os fm (slots .active) us is (st .memory .used))
         ≡ own z st (mapDone s good)
     unfolding carried result counted Writeback.mapDone Writeback.storeImage Writeback.updateOver
     map-done-own n = λ (e-answer, (e-pool, (e-maps, (e-states, (e-owners, (e-free-map, (e-updating, e-images))))))). own-by z st (map-sees noPool) (mapDone s good) refl refl e-answer
@@ -107,7 +107,7 @@ module _ (z : Sizes) (st : State) (k : Kept z st) where
         ∙ by-two (λ t. counted z t .memory .held .pool) (eqb good 1) refl refl)
         refl refl refl
         (e-maps ∙ (λ y. o y .left .disk .maps) ∙ by-two (λ t. t .disk .maps) (eqb good 1) refl refl)
-        refl refl refl refl refl refl
+        refl refl refl refl refl refl refl
         (e-states ∙ (λ y. o y .left .memory .held .states) ∙ by-two (λ t. t .memory .held .states) (eqb good 1) refl refl)
         (e-owners ∙ (λ y. o y .left .memory .held .owners) ∙ by-two (λ t. t .memory .held .owners) (eqb good 1) refl refl)
         (e-free-map ∙ (λ y. o y .left .memory .held .free-map) ∙ by-two (λ t. counted z t .memory .held .free-map) (eqb good 1) refl refl)
@@ -121,7 +121,7 @@ module _ (z : Sizes) (st : State) (k : Kept z st) where
         (e-pool (held .pool) (k .rules .counts .free) ∙ sym (λ y. own-no z (map-sees (held .pool)) (mapDone s good) (firstNo (questions z st (mapDone s good))) refl h y .left .memory .held .pool))
         refl refl refl
         (e-maps ∙ (λ y. o y .left .disk .maps))
-        refl refl refl refl refl refl
+        refl refl refl refl refl refl refl
         (e-states ∙ (λ y. o y .left .memory .held .states))
         (e-owners ∙ (λ y. o y .left .memory .held .owners))
         (e-free-map ∙ (λ y. o y .left .memory .held .free-map))
@@ -136,11 +136,11 @@ module _ (z : Sizes) (st : State) (k : Kept z st) where
     update-sees = seenUpdate (core .frames) (st .disk .numbers) (held .addresses) (held .states) (held .owners) (slots .active) (slots .updating) (slots .images)
 
     pub update-own : {a : Answer} {ads ss us is : List ℕ} → UpdateWork.Said (own z update-sees (update s)) a ads ss us is
-        → leaves a (stateIn (st .memory .line) (core .frames) (held .pool) (st .disk .records) (st .disk .numbers) (st .disk .accounts) (st .disk .maps) (st .disk .limits) (st .disk .parents) (core .words) (core .free-queue) (core .removal-list) ads ss (held .owners) (held .free-map) (slots .active) us is (st .memory .used))
+        → leaves a (stateIn (st .memory .line) (core .frames) (held .pool) (st .disk .records) (st .disk .numbers) (st .disk .accounts) (st .disk .maps) (st .disk .limits) (st .disk .parents) (st .disk .highest) (core .words) (core .free-queue) (core .removal-list) ads ss (held .owners) (held .free-map) (slots .active) us is (st .memory .used))
         ≡ own z st (update s)
     unfolding carried result counted Writeback.update wouldStore
     update-own = λ (e-answer, (e-addresses, (e-states, (e-updating, e-images)))). own-by z st update-sees (update s) refl refl e-answer
-        (λ o ok. same-state refl refl refl refl refl refl refl refl refl refl refl
+        (λ o ok. same-state refl refl refl refl refl refl refl refl refl refl refl refl
         (e-addresses ∙ (λ y. o y .left .memory .held .addresses))
         (e-states ∙ (λ y. o y .left .memory .held .states))
         refl refl refl
@@ -148,7 +148,7 @@ module _ (z : Sizes) (st : State) (k : Kept z st) where
         (e-images ∙ (λ y. o y .left .memory .slots .images))
         refl
         ∙ sym (update-left z st (k .fits) (k .rules) s))
-        (λ h o. same-state refl refl refl refl refl refl refl refl refl refl refl
+        (λ h o. same-state refl refl refl refl refl refl refl refl refl refl refl refl
         (e-addresses ∙ (λ y. o y .left .memory .held .addresses))
         (e-states ∙ (λ y. o y .left .memory .held .states))
         refl refl refl
@@ -161,13 +161,13 @@ module _ (z : Sizes) (st : State) (k : Kept z st) where
   claim-sees = seenClaim (core .frames) (st .disk .accounts) (st .disk .limits) (st .disk .parents) (core .words) (core .free-queue) (core .removal-list) (held .addresses) (held .states) (st .memory .used)
 
   pub claim-own : {fs : List Frame} {a : Answer} {fq rl ss us : List ℕ} → ClaimWork.Said z claim-sees fs a fq rl ss us
-      → leaves a (stateIn (st .memory .line) fs (held .pool) (st .disk .records) (st .disk .numbers) (st .disk .accounts) (st .disk .maps) (st .disk .limits) (st .disk .parents) (core .words) fq rl (held .addresses) ss (held .owners) (held .free-map) (slots .active) (slots .updating) (slots .images) us)
+      → leaves a (stateIn (st .memory .line) fs (held .pool) (st .disk .records) (st .disk .numbers) (st .disk .accounts) (st .disk .maps) (st .disk .limits) (st .disk .parents) (st .disk .highest) (core .words) fq rl (held .addresses) ss (held .owners) (held .free-map) (slots .active) (slots .updating) (slots .images) us)
       ≡ own z st claim
   unfolding carried result counted Writeback.claim Writeback.looking Writeback.beginsWrite Writeback.zeros Writeback.freeFrame usedThen payer
   claim-own = λ (e-answer, (e-frames, (e-free-queue, (e-removal-list, (e-states, e-used))))). own-by z st claim-sees claim refl refl e-answer
       (λ o ok. same-state
       (e-frames ∙ (λ y. o y .left .memory .core .frames) ∙ by-two (λ t. t .memory .core .frames) (Writeback.beginsWrite z st) refl (by-two (λ t. t .memory .core .frames) (eqb (frames st .frame (Writeback.looking z st .taken) .modified) 1) refl refl))
-      refl refl refl refl refl refl refl refl
+      refl refl refl refl refl refl refl refl refl
       (e-free-queue ∙ (λ y. o y .left .memory .core .free-queue) ∙ by-two (λ t. t .memory .core .free-queue) (Writeback.beginsWrite z st) refl (by-two (λ t. t .memory .core .free-queue) (eqb (frames st .frame (Writeback.looking z st .taken) .modified) 1) refl refl))
       (e-removal-list ∙ (λ y. o y .left .memory .core .removal-list) ∙ by-two (λ t. t .memory .core .removal-list) (Writeback.beginsWrite z st) refl (by-two (λ t. t .memory .core .removal-list) (eqb (frames st .frame (Writeback.looking z st .taken) .modified) 1) refl refl))
       refl
@@ -177,7 +177,7 @@ module _ (z : Sizes) (st : State) (k : Kept z st) where
       ∙ sym (claim-left z st (k .fits) (k .rules) (ok .0)))
       (λ h o. same-state
       (e-frames ∙ (λ y. o y .left .memory .core .frames))
-      refl refl refl refl refl refl refl refl
+      refl refl refl refl refl refl refl refl refl
       (e-free-queue ∙ (λ y. o y .left .memory .core .free-queue))
       (e-removal-list ∙ (λ y. o y .left .memory .core .removal-list))
       refl
@@ -191,13 +191,13 @@ module _ (z : Sizes) (st : State) (k : Kept z st) where
     truncate-sees = seenTruncate (core .frames) (st .disk .numbers) (st .disk .accounts) (st .disk .limits) (st .disk .parents) (core .free-queue) (core .removal-list) (held .addresses) (held .states) (slots .active) (st .memory .used)
 
     pub truncate-own : {fs : List Frame} {a : Answer} {fq rl ds ss us : List ℕ} → TruncateWork.Said z truncate-sees s n fs a fq rl ds ss us
-        → leaves a (stateIn (st .memory .line) fs (held .pool) (st .disk .records) (st .disk .numbers) (st .disk .accounts) (st .disk .maps) (st .disk .limits) (st .disk .parents) (core .words) fq rl ds ss (held .owners) (held .free-map) (slots .active) (slots .updating) (slots .images) us)
+        → leaves a (stateIn (st .memory .line) fs (held .pool) (st .disk .records) (st .disk .numbers) (st .disk .accounts) (st .disk .maps) (st .disk .limits) (st .disk .parents) (st .disk .highest) (core .words) fq rl ds ss (held .owners) (held .free-map) (slots .active) (slots .updating) (slots .images) us)
         ≡ own z st (truncate s n)
     unfolding carried result counted Writeback.truncate Writeback.cutFrames frameOf T.usedThen payer charged
     truncate-own = λ (e-answer, (e-frames, (e-free-queue, (e-removal-list, (e-addresses, (e-states, e-used)))))). own-by z st truncate-sees (truncate s n) refl refl e-answer
         (λ o ok. same-state
         (e-frames ∙ (λ y. o y .left .memory .core .frames))
-        refl refl refl refl refl refl refl refl
+        refl refl refl refl refl refl refl refl refl
         (e-free-queue ∙ (λ y. o y .left .memory .core .free-queue))
         (e-removal-list ∙ (λ y. o y .left .memory .core .removal-list))
         (e-addresses ∙ (λ y. o y .left .memory .held .addresses))
@@ -207,7 +207,7 @@ module _ (z : Sizes) (st : State) (k : Kept z st) where
         ∙ sym (truncate-left z st (k .fits) (k .rules) s n ok))
         (λ h o. same-state
         (e-frames ∙ (λ y. o y .left .memory .core .frames))
-        refl refl refl refl refl refl refl refl
+        refl refl refl refl refl refl refl refl refl
         (e-free-queue ∙ (λ y. o y .left .memory .core .free-queue))
         (e-removal-list ∙ (λ y. o y .left .memory .core .removal-list))
         (e-addresses ∙ (λ y. o y .left .memory .held .addresses))

@@ -24,6 +24,7 @@ pub fn account_event(
     maps: &[u16],
     limits: &mut [u16],
     parents: &[u16],
+    highest: &[u32],
     frame_words: &[u32],
     free_queue: &[u16],
     removal_list: &[u16],
@@ -37,13 +38,13 @@ pub fn account_event(
     used: &mut [u16],
 ) -> Answer
     requires { ⌜ Kept sizes
-        (given (framesGiven sizes frames) pool records numbers accounts maps limits parents
+        (given (framesGiven sizes frames) pool records numbers accounts maps limits parents highest
         «frame_words» «free_queue» «removal_list» addresses states owners «free_map» active updating images used) ⌝ }
     ensures { λ r. ⌜ leaves r
-        (left (framesLeft sizes frames) pool records numbers accounts maps limits parents
+        (left (framesLeft sizes frames) pool records numbers accounts maps limits parents highest
         «frame_words» «free_queue» «removal_list» addresses states owners «free_map» active updating images used)
         ≡ own sizes
-        (entered (framesEntered sizes frames) pool records numbers accounts maps limits parents
+        (entered (framesEntered sizes frames) pool records numbers accounts maps limits parents highest
         «frame_words» «free_queue» «removal_list» addresses states owners «free_map» active updating images used)
         (Event.Account event) ⌝ }
 {

@@ -26,6 +26,7 @@ pub fn design_event(
     maps: &[u16],
     limits: &[u16],
     parents: &[u16],
+    highest: &mut [u32],
     frame_words: &[u32],
     free_queue: &[u16],
     removal_list: &[u16],
@@ -39,13 +40,13 @@ pub fn design_event(
     used: &[u16],
 ) -> Answer
     requires { ⌜ Kept sizes
-        (given (framesGiven sizes frames) pool records numbers accounts maps limits parents
+        (given (framesGiven sizes frames) pool records numbers accounts maps limits parents highest
         «frame_words» «free_queue» «removal_list» addresses states owners «free_map» active updating images used) ⌝ }
     ensures { λ r. ⌜ leaves r
-        (left (framesLeft sizes frames) pool records numbers accounts maps limits parents
+        (left (framesLeft sizes frames) pool records numbers accounts maps limits parents highest
         «frame_words» «free_queue» «removal_list» addresses states owners «free_map» active updating images used)
         ≡ own sizes
-        (entered (framesEntered sizes frames) pool records numbers accounts maps limits parents
+        (entered (framesEntered sizes frames) pool records numbers accounts maps limits parents highest
         «frame_words» «free_queue» «removal_list» addresses states owners «free_map» active updating images used)
         (Event.Design event) ⌝ }
 {
@@ -54,7 +55,7 @@ pub fn design_event(
             slot,
             account,
             number,
-        } => create(sizes, slot, account, number, numbers, accounts),
+        } => create(sizes, slot, account, number, numbers, accounts, highest),
         Design::Delete { slot } => delete(sizes, slot, numbers, accounts, maps, active),
         Design::Activate { slot } => activate(
             sizes,

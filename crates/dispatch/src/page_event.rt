@@ -28,6 +28,7 @@ pub fn page_event(
     maps: &[u16],
     limits: &[u16],
     parents: &[u16],
+    highest: &[u32],
     frame_words: &mut [u32],
     free_queue: &mut [u16],
     removal_list: &mut [u16],
@@ -41,13 +42,13 @@ pub fn page_event(
     used: &mut [u16],
 ) -> Worked
     requires { ⌜ Kept sizes
-        (given (framesGiven sizes frames) pool records numbers accounts maps limits parents
+        (given (framesGiven sizes frames) pool records numbers accounts maps limits parents highest
         «frame_words» «free_queue» «removal_list» addresses states owners «free_map» active updating images used) ⌝ }
     ensures { λ r. ⌜ leaves (r .answer)
-        (left (framesLeft sizes frames) (deposited (r .deposited) (taken sizes (r .taken) pool)) records numbers accounts maps limits parents
+        (left (framesLeft sizes frames) (deposited (r .deposited) (taken sizes (r .taken) pool)) records numbers accounts maps limits parents highest
         «frame_words» «free_queue» «removal_list» addresses states owners «free_map» active updating images used)
         ≡ own sizes
-        (entered (framesEntered sizes frames) pool records numbers accounts maps limits parents
+        (entered (framesEntered sizes frames) pool records numbers accounts maps limits parents highest
         «frame_words» «free_queue» «removal_list» addresses states owners «free_map» active updating images used)
         (Event.Page event) ⌝ }
 {

@@ -41,7 +41,7 @@ equal (x ∷ xs) (y ∷ ys) = eqb x y && equal xs ys
 
 -- one record in two entries
 abbrev twice : State
-twice = record { disk = record { records = 0 ∷ 0 ∷ 0 ∷ 0 ∷ 0 ∷ 0 ∷ 0 ∷ 0 ∷ []; numbers = 7 ∷ 0 ∷ []; accounts = 0 ∷ 0 ∷ []; maps = 1 ∷ 1 ∷ 0 ∷ 0 ∷ 0 ∷ 0 ∷ []; limits = 0 ∷ []; parents = 0 ∷ [] }; memory = junk small }
+twice = record { disk = record { records = 0 ∷ 0 ∷ 0 ∷ 0 ∷ 0 ∷ 0 ∷ 0 ∷ 0 ∷ []; numbers = 7 ∷ 0 ∷ []; accounts = 0 ∷ 0 ∷ []; maps = 1 ∷ 1 ∷ 0 ∷ 0 ∷ 0 ∷ 0 ∷ []; limits = 0 ∷ []; parents = 0 ∷ []; highest = 0 ∷ [] }; memory = junk small }
 
 -- (edges 1 to 4 and 6 for all sizes and states: `edges-all` of crates/invariant/proofs/EdgesAll.antt)
 pub record Edges : Type 0 where

@@ -18,6 +18,7 @@ pub mod NumberEdges
 pub mod SheetRuns
 pub mod Worlds
 pub mod Packs
+pub mod OneNumberEdges
 pub mod MoreWorlds
 pub mod Reads
 pub mod Relisted

@@ -11,7 +11,7 @@ use Rattle.model.specs.Rules.{isActive}
 use Rattle.model.specs.Parts.{wordAt}
 use Rattle.model.specs.Ledger.{Write, Pages, Pending, packDesign}
 use Rattle.model.specs.Acts.{World}
-use Rattle.model.specs.FromPack.{asInPack, updated}
+use Rattle.model.specs.FromPack.{inPack, asInPack, updated}
 use Rattle.model.specs.Demand3.{lastInto, lastUpdateAt, eachOf, designOf, ofPage, newest}
 
 module _ (z : Sizes) (w : World) where
@@ -41,7 +41,7 @@ module _ (z : Sizes) (w : World) where
 
   -- no write into r is finished since the start; the pack listed it at page i, of the same design, and its words stand in r
   abbrev untouched : ℕ → ℕ → Rule
-  untouched i r = same (last r .serial) 0 and same (at (w .ledger .pack .maps) i) (suc r) and asInPack z w i and each (z .words) λ k. same (diskWord r k) (wordAt z (w .ledger .pack .records) r k)
+  untouched i r = same (last r .serial) 0 and same (at (w .ledger .pack .maps) i) (suc r) and asInPack z w (inPack z w) i and each (z .words) λ k. same (diskWord r k) (wordAt z (w .ledger .pack .records) r k)
 
   abbrev own : ℕ → ℕ → Rule
   own i r = written i r or untouched i r

@@ -158,9 +158,9 @@ unfolding all any count find those tab bits members packed times without tail he
     Pages.serveZeros Pages.takeRecord Pages.read Pages.wordRead Pages.write Pages.wire Pages.unwire Pages.lookStart Pages.faultFrame Pages.fault Writeback.look Writeback.looking
     Writeback.zeros Writeback.freeFrame Writeback.beginsWrite Writeback.claim Writeback.cutFrames Writeback.truncate Writeback.update Writeback.readGood Writeback.readFailed
     Writeback.storeFrame Writeback.writeGood Writeback.writeFailed Writeback.pageDone Writeback.storeImage Writeback.updateOver Writeback.mapDone Restart.formatted Restart.isListed
-    Restart.listedAt Restart.restarted Step.allFit Step.answer Step.carried Step.result Step.step Step.format Step.restart Step.look Ledger.noWrite Ledger.noUpdate Ledger.put
+    Restart.listedAt Restart.highestOf Restart.raised Restart.restarted Step.allFit Step.answer Step.carried Step.result Step.step Step.format Step.restart Step.look Ledger.noWrite Ledger.noUpdate Ledger.put
     Ledger.over Ledger.finishWrite Ledger.finishUpdate Ledger.strikeWrite Ledger.strikeUpdate Ledger.finishWrites Ledger.finishUpdates Ledger.lose Ledger.found Ledger.recount
-    Ledger.note Ledger.packDesign Ledger.unwritten Stores.first Stores.stores Stores.answered Stores.made Import.taking Import.taken Import.fieldOf Import.has Import.said Import.storeRecord Import.entry Import.storeSlot Import.made Import.imported
+    Ledger.note Ledger.packDesign Ledger.packNumber Ledger.unwritten Stores.first Stores.stores Stores.answered Stores.made Import.taking Import.taken Import.fieldOf Import.has Import.said Import.storeRecord Import.entry Import.storeSlot Import.made Import.imported
     Import.importAnswer Import.import Export.exported Export.export Pool.taken Ledger.spent Ledger.carriedIn Ledger.placed Acts.partly Acts.wholly Acts.fedPart Sheet.bytes Sheet.runs Sheet.head Sheet.pageField Sheet.shownField
     Sheet.printed Sheet.laid Sheet.number Sheet.wordsIn Sheet.pagesIn Sheet.numberIn Sheet.countIn Sheet.placeOf Sheet.pageIn Sheet.wordIn Sheet.pageFits Sheet.form
     Acts.fed Acts.landWrites Acts.landUpdates Acts.landed Acts.noted Acts.part Acts.act Acts.allowed Acts.legal Acts.run Acts.start junk among

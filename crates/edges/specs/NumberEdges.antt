@@ -14,7 +14,7 @@ use Rattle.edges.specs.Sheets.{sheet, import, opened}
 
 -- slot 1 has a design under 4,000,000,000, as no create makes one any more: page 0 in record 1, page 2 in record 0
 abbrev old : Disk
-old = record { records = 0 ∷ 9 ∷ 0 ∷ 4 ∷ 7 ∷ 7 ∷ 0 ∷ 0 ∷ []; numbers = 0 ∷ 4000000000 ∷ []; accounts = 0 ∷ 0 ∷ []; maps = 0 ∷ 0 ∷ 0 ∷ 2 ∷ 0 ∷ 1 ∷ []; limits = 4 ∷ []; parents = 0 ∷ [] }
+old = record { records = 0 ∷ 9 ∷ 0 ∷ 4 ∷ 7 ∷ 7 ∷ 0 ∷ 0 ∷ []; numbers = 0 ∷ 4000000000 ∷ []; accounts = 0 ∷ 0 ∷ []; maps = 0 ∷ 0 ∷ 0 ∷ 2 ∷ 0 ∷ 1 ∷ []; limits = 4 ∷ []; parents = 0 ∷ []; highest = 0 ∷ [] }
 
 -- its page is read and written, its map is stored, and it comes to rest
 abbrev woven : List Act

@@ -8,7 +8,7 @@ use Rattle.model.specs.State.{Disk}
 use Rattle.model.specs.Setters.{onDisk, setRecords, setMaps}
 use Rattle.model.specs.Acts.{Act, World, legal, run, start}
 use Rattle.model.specs.Demand3.{lastInto, lastUpdate, eachOf, someOf, inOnePlaceOfMaps, liveListed}
-use Rattle.model.specs.FromPack.{writtenWords, packWords, writtenReads, packReads, birthMaps, fromPack}
+use Rattle.model.specs.FromPack.{writtenWords, packWords, writtenReads, packReads, inPack, birthMaps, fromPacked, fromPack}
 use Rattle.edges.specs.Lists.{create, delete, activate, deactivate, fault, read, write, claim, truncate, update, pageDone, mapDone, restart, small, junk, cut, said, trace}
 use Rattle.edges.specs.RuleList.{saysNo}
 use Rattle.edges.specs.Runs.{right, always}
@@ -17,15 +17,15 @@ use Rattle.edges.specs.Worlds.{onState}
 -- ── the packs ──
 -- slot 1 has design 8, page 0 in record 1 and page 2 in record 0; slot 0 is empty
 abbrev pub one : Disk
-one = record { records = 0 ∷ 9 ∷ 0 ∷ 4 ∷ 7 ∷ 7 ∷ 0 ∷ 0 ∷ []; numbers = 0 ∷ 8 ∷ []; accounts = 0 ∷ 0 ∷ []; maps = 0 ∷ 0 ∷ 0 ∷ 2 ∷ 0 ∷ 1 ∷ []; limits = 4 ∷ []; parents = 0 ∷ [] }
+one = record { records = 0 ∷ 9 ∷ 0 ∷ 4 ∷ 7 ∷ 7 ∷ 0 ∷ 0 ∷ []; numbers = 0 ∷ 8 ∷ []; accounts = 0 ∷ 0 ∷ []; maps = 0 ∷ 0 ∷ 0 ∷ 2 ∷ 0 ∷ 1 ∷ []; limits = 4 ∷ []; parents = 0 ∷ []; highest = 0 ∷ [] }
 
 -- slot 0 has design 5 too, page 1 in record 3
 abbrev two : Disk
-two = record { records = 0 ∷ 9 ∷ 0 ∷ 4 ∷ 7 ∷ 7 ∷ 3 ∷ 0 ∷ []; numbers = 5 ∷ 8 ∷ []; accounts = 0 ∷ 0 ∷ []; maps = 0 ∷ 4 ∷ 0 ∷ 2 ∷ 0 ∷ 1 ∷ []; limits = 4 ∷ []; parents = 0 ∷ [] }
+two = record { records = 0 ∷ 9 ∷ 0 ∷ 4 ∷ 7 ∷ 7 ∷ 3 ∷ 0 ∷ []; numbers = 5 ∷ 8 ∷ []; accounts = 0 ∷ 0 ∷ []; maps = 0 ∷ 4 ∷ 0 ∷ 2 ∷ 0 ∷ 1 ∷ []; limits = 4 ∷ []; parents = 0 ∷ []; highest = 0 ∷ [] }
 
 -- the record of page 0 of slot 1 holds zeros
 abbrev bare : Disk
-bare = record { records = 0 ∷ 9 ∷ 0 ∷ 0 ∷ 7 ∷ 7 ∷ 0 ∷ 0 ∷ []; numbers = 0 ∷ 8 ∷ []; accounts = 0 ∷ 0 ∷ []; maps = 0 ∷ 0 ∷ 0 ∷ 2 ∷ 0 ∷ 1 ∷ []; limits = 4 ∷ []; parents = 0 ∷ [] }
+bare = record { records = 0 ∷ 9 ∷ 0 ∷ 0 ∷ 7 ∷ 7 ∷ 0 ∷ 0 ∷ []; numbers = 0 ∷ 8 ∷ []; accounts = 0 ∷ 0 ∷ []; maps = 0 ∷ 0 ∷ 0 ∷ 2 ∷ 0 ∷ 1 ∷ []; limits = 4 ∷ []; parents = 0 ∷ []; highest = 0 ∷ [] }
 
 unfoldable pub from : Disk → World
 unfolding said
@@ -76,7 +76,7 @@ stale = opened ++ fault 1 0 ∷ pageDone 0 1 ∷ write 1 0 1 5 ∷ cut [] [] ∷
 
 -- designs of the pack and a created one, failed dones, cuts
 abbrev beside : List Act
-beside = opened ++ create 0 0 7 ∷ activate 0 ∷ fault 0 0 ∷ write 0 0 0 6 ∷ claim ∷ pageDone 0 0 ∷ claim ∷ pageDone 0 1 ∷ update 0 ∷ update 1 ∷ mapDone 1 0 ∷ cut [] (0 ∷ []) ∷ cut [] [] ∷ restart
+beside = opened ++ create 0 0 9 ∷ activate 0 ∷ fault 0 0 ∷ write 0 0 0 6 ∷ claim ∷ pageDone 0 0 ∷ claim ∷ pageDone 0 1 ∷ update 0 ∷ update 1 ∷ mapDone 1 0 ∷ cut [] (0 ∷ []) ∷ cut [] [] ∷ restart
     ∷ activate 0 ∷ activate 1 ∷ truncate 1 1 ∷ fault 0 0 ∷ pageDone 0 1 ∷ read 0 0 0 ∷ update 1 ∷ cut [] (1 ∷ []) ∷ restart ∷ []
 
 abbrev both : List Act
@@ -142,8 +142,8 @@ hurt pack d acts = onState (onDisk d) (run small (from pack) acts)
 -- ── what is computed ──
 -- the sentences that say no: 1 in one place, 2 written words, 3 the pack's words, 4 live listed, 5 reads of what was written, 6 of the pack, 7 maps as at birth; 8 is the claim whole
 unfoldable pub denied : World → List ℕ
-unfolding saysNo lastInto lastUpdate eachOf someOf writtenWords packWords liveListed writtenReads packReads birthMaps fromPack
-denied w = saysNo 1 (inOnePlaceOfMaps small w ∷ writtenWords small w ∷ packWords small w ∷ liveListed small w ∷ writtenReads small w ∷ packReads small w ∷ birthMaps small w ∷ fromPack small w ∷ [])
+unfolding saysNo lastInto lastUpdate eachOf someOf writtenWords packWords liveListed writtenReads packReads birthMaps fromPacked fromPack
+denied w = saysNo 1 (inOnePlaceOfMaps small w ∷ writtenWords small w ∷ packWords small w (inPack small w) ∷ liveListed small w ∷ writtenReads small w ∷ packReads small w ∷ birthMaps small w (inPack small w) ∷ fromPack small w ∷ [])
 
 -- as the world stands; after a cut, before any restart; once a restart has found it
 unfoldable pub seen : World → List (List ℕ)
@@ -171,7 +171,7 @@ pub record Packs : Type 0 where
   written-read : heard (written ++ restart ∷ activate 1 ∷ fault 1 0 ∷ pageDone 0 1 ∷ []) ≡ 0 ∷ 6 ∷ []
   -- Before an update is finished the pack's map stands, and a created design's is zero.
   opened-dropped : seen (hurt one dropped opened) ≡ (7 ∷ 8 ∷ []) ∷ (7 ∷ 8 ∷ []) ∷ (7 ∷ 8 ∷ []) ∷ []
-  created-given : seen (hurt one given (opened ++ create 0 0 7 ∷ [])) ≡ (3 ∷ 7 ∷ 8 ∷ []) ∷ (3 ∷ 7 ∷ 8 ∷ []) ∷ (3 ∷ 7 ∷ 8 ∷ []) ∷ []
+  created-given : seen (hurt one given (opened ++ create 0 0 9 ∷ [])) ≡ (3 ∷ 7 ∷ 8 ∷ []) ∷ (3 ∷ 7 ∷ 8 ∷ []) ∷ (3 ∷ 7 ∷ 8 ∷ []) ∷ []
   -- Promised, but written by nobody: unhurt, nothing is denied. A promised page dropped; listed at the next page; two pages in each other's place; other words than the pack's; a record in two entries, and a restart is refused.
   unwritten-whole : seen (hurt one whole unwritten) ≡ [] ∷ [] ∷ [] ∷ []
   unwritten-dropped : seen (hurt one dropped unwritten) ≡ (4 ∷ 8 ∷ []) ∷ (4 ∷ 8 ∷ []) ∷ (4 ∷ 8 ∷ []) ∷ []

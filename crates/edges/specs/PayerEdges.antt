@@ -119,7 +119,7 @@ pub record PayerEdges : Type 0 where
   other-over : told studios (limits 4 3 3 0 ++ design 0 2 ++ page 0 0 ++ page 0 1 ++ limit 2 1 ∷ move 0 1 1 ∷ []) ≡ 0 ∷ 0 ∷ []
   -- a deleted design leaves its account too: the next event finds the slot empty and the rules kept
   deleted-left : owning (limits 4 3 2 0 ++ create 0 2 7 ∷ delete 0 ∷ []) ≡ 0 ∷ 0 ∷ 0 ∷ []
-  deleted-next : told studios (limits 4 3 2 0 ++ create 0 2 7 ∷ delete 0 ∷ create 0 3 7 ∷ []) ≡ 0 ∷ 0 ∷ []
+  deleted-next : told studios (limits 4 3 2 0 ++ create 0 2 7 ∷ delete 0 ∷ create 0 3 8 ∷ []) ≡ 0 ∷ 0 ∷ []
   -- format: 3 for a parent that is not lower, 1 for another length; account 0 is stored under 0
   format-equal : formatting (0 ∷ 0 ∷ 2 ∷ 0 ∷ []) ≡ 3 ∷ 0 ∷ 0 ∷ 0 ∷ 0 ∷ []
   format-higher : formatting (0 ∷ 2 ∷ 0 ∷ 0 ∷ []) ≡ 3 ∷ 0 ∷ 0 ∷ 0 ∷ 0 ∷ []

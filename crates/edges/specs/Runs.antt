@@ -7,14 +7,15 @@ use Rattle.tables.specs.Rule.{test}
 use Rattle.model.specs.Rules.{allRules}
 use Rattle.model.specs.Acts.{Act, World, act, legal}
 use Rattle.model.specs.Demand3.{lastInto, lastUpdate, eachOf, someOf, ownWords, liveListed, liveReads, demand3}
-use Rattle.model.specs.FromPack.{writtenWords, packWords, writtenReads, packReads, birthMaps, fromPack}
+use Rattle.model.specs.FromPack.{writtenWords, packWords, writtenReads, packReads, birthMaps, fromPacked, fromPack}
+use Rattle.model.specs.OneNumber.{oneNumber, byNumber, demand3ByNumber, fromPackByNumber}
 use Rattle.edges.specs.Linked.{linked}
 use Rattle.edges.specs.Lists.{limit, create, delete, activate, deactivate, fault, read, write, wire, unwire, claim, truncate, update, pageDone, mapDone, move, join, turn, look, restart, small, cut, said, begin}
 
--- the claim from any pack and the invariant hold, and once restarted the rules
+-- the claim from any pack, by birth and by number, and the invariant hold, no two designs have one number, and once restarted the rules
 unfoldable pub right : World → Bool
-unfolding said lastInto lastUpdate eachOf someOf writtenWords packWords liveListed writtenReads packReads birthMaps fromPack linked
-right w = test (fromPack small w) && test (linked small w) && rulesKept (w .up)
+unfolding said lastInto lastUpdate eachOf someOf writtenWords packWords liveListed writtenReads packReads birthMaps fromPacked fromPack linked oneNumber byNumber
+right w = test (fromPack small w) && test (linked small w) && test (oneNumber w) && test (fromPackByNumber small w) && rulesKept (w .up)
   where
     rulesKept : Bool → Bool
     rulesKept true = test (allRules small (w .state))
@@ -23,7 +24,7 @@ right w = test (fromPack small w) && test (linked small w) && rulesKept (w .up)
 -- and the claim from a format
 unfoldable pub rightFormatted : World → Bool
 unfolding right ownWords liveReads demand3
-rightFormatted w = test (demand3 small w) && right w
+rightFormatted w = test (demand3 small w) && test (demand3ByNumber small w) && right w
 
 -- each act is carried out, and all is right after it
 unfoldable pub accepted : World → Act → Bool

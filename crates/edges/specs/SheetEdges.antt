@@ -28,7 +28,7 @@ export s room = Acts.exporting s (replicate room 7)
 
 -- page 0 of another design is in a frame and charged
 abbrev charged : List Act
-charged = create 1 0 8 ∷ activate 1 ∷ fault 1 0 ∷ write 1 0 0 5 ∷ []
+charged = create 1 0 6 ∷ activate 1 ∷ fault 1 0 ∷ write 1 0 0 5 ∷ []
 
 -- two accounts, the second with limit 0: the first pays for it
 abbrev shared : Sizes
@@ -37,7 +37,7 @@ shared = record { words = 2; records = 4; frames = 2; slots = 2; pages = 3; acco
 -- ── from packs ──
 -- slot 1 has design 8: its page 0 is listed in record 1, which holds zeros, its page 2 in record 0
 abbrev zeros : Disk
-zeros = record { records = 0 ∷ 9 ∷ 0 ∷ 0 ∷ 7 ∷ 7 ∷ 0 ∷ 0 ∷ []; numbers = 0 ∷ 8 ∷ []; accounts = 0 ∷ 0 ∷ []; maps = 0 ∷ 0 ∷ 0 ∷ 2 ∷ 0 ∷ 1 ∷ []; limits = 4 ∷ []; parents = 0 ∷ [] }
+zeros = record { records = 0 ∷ 9 ∷ 0 ∷ 0 ∷ 7 ∷ 7 ∷ 0 ∷ 0 ∷ []; numbers = 0 ∷ 8 ∷ []; accounts = 0 ∷ 0 ∷ []; maps = 0 ∷ 0 ∷ 0 ∷ 2 ∷ 0 ∷ 1 ∷ []; limits = 4 ∷ []; parents = 0 ∷ []; highest = 0 ∷ [] }
 
 unfoldable fromZeros : ℕ → List ℕ
 unfolding said Packs.from
@@ -48,12 +48,12 @@ abbrev wide : Sizes
 wide = sized 5 2
 
 abbrev third : Disk
-third = record { records = replicate 10 6; numbers = 0 ∷ 8 ∷ []; accounts = 0 ∷ 0 ∷ []; maps = 0 ∷ 0 ∷ 0 ∷ 4 ∷ 0 ∷ 0 ∷ []; limits = 5 ∷ []; parents = 0 ∷ [] }
+third = record { records = replicate 10 6; numbers = 0 ∷ 5 ∷ []; accounts = 0 ∷ 0 ∷ []; maps = 0 ∷ 0 ∷ 0 ∷ 4 ∷ 0 ∷ 0 ∷ []; limits = 5 ∷ []; parents = 0 ∷ []; highest = 0 ∷ [] }
 
 -- records 0 and 1 are taken by an import and freed again, and the hand stands at 2: the next import takes 2, and then 1, which is nearer to it than 4
 unfoldable nearer : State
 unfolding said
-nearer = run wide (start wide third (junk wide)) (restart ∷ import 0 7 sheet ∷ activate 0 ∷ truncate 0 0 ∷ update 0 ∷ mapDone 0 1 ∷ deactivate 0 ∷ delete 0 ∷ import 0 6 sheet ∷ []) .state
+nearer = run wide (start wide third (junk wide)) (restart ∷ import 0 7 sheet ∷ activate 0 ∷ truncate 0 0 ∷ update 0 ∷ mapDone 0 1 ∷ deactivate 0 ∷ delete 0 ∷ import 0 8 sheet ∷ []) .state
 
 -- ── the lines ──
 -- how many there are, from any state to any
@@ -126,22 +126,22 @@ pub record SheetEdges : Type 0 where
   one-by-imports : many byImport ≡ 1
   not-by-an-event : byEvent FREE FILED ≡ false
   by-an-import : byImport FREE FILED ≡ true
-  -- so many stores: each page's record, then the slot; a cut falls before or after each but the last
-  three-stores : made opened (import 0 7 sheet) ≡ 3
-  one-store : made opened (import 0 7 bare) ≡ 1
+  -- so many stores: the highest number, each page's record, then the slot; a cut falls before or after each but the last
+  four-stores : made opened (import 0 7 sheet) ≡ 4
+  two-stores : made opened (import 0 7 bare) ≡ 2
   refused-none : made opened (import 0 7 []) ≡ 0
   cut-first : mayBe (opened ++ cutIn (import 0 7 sheet) 0 [] [] ∷ restart ∷ []) ≡ true
-  cut-last : mayBe (opened ++ cutIn (import 0 7 sheet) 2 [] [] ∷ restart ∷ []) ≡ true
-  not-after-the-last : mayBe (opened ++ cutIn (import 0 7 sheet) 3 [] [] ∷ []) ≡ false
-  bare-cut : mayBe (opened ++ cutIn (import 0 7 bare) 0 [] [] ∷ restart ∷ []) ≡ true
-  not-after-its-last : mayBe (opened ++ cutIn (import 0 7 bare) 1 [] [] ∷ []) ≡ false
+  cut-last : mayBe (opened ++ cutIn (import 0 7 sheet) 3 [] [] ∷ restart ∷ []) ≡ true
+  not-after-the-last : mayBe (opened ++ cutIn (import 0 7 sheet) 4 [] [] ∷ []) ≡ false
+  bare-cut : mayBe (opened ++ cutIn (import 0 7 bare) 1 [] [] ∷ restart ∷ []) ≡ true
+  not-after-its-last : mayBe (opened ++ cutIn (import 0 7 bare) 2 [] [] ∷ []) ≡ false
   not-of-a-refused : mayBe (opened ++ cutIn (import 0 7 []) 0 [] [] ∷ []) ≡ false
   not-before-restart : mayBe (import 0 7 bare ∷ []) ≡ false
   -- a cut before the last store leaves an empty slot, the records stored
-  empty-slot : leaves small (opened ++ cutIn (import 0 7 sheet) 2 [] [] ∷ []) .disk .numbers ≡ 0 ∷ 0 ∷ []
-  empty-map : leaves small (opened ++ cutIn (import 0 7 sheet) 2 [] [] ∷ []) .disk .maps ≡ replicate 6 0
-  one-stored : leaves small (opened ++ cutIn (import 0 7 sheet) 1 [] [] ∷ []) .disk .records ≡ 5 ∷ 0 ∷ 0 ∷ 0 ∷ 0 ∷ 0 ∷ 0 ∷ 0 ∷ []
-  both-stored : leaves small (opened ++ cutIn (import 0 7 sheet) 2 [] [] ∷ []) .disk .records ≡ 5 ∷ 0 ∷ 0 ∷ 70000 ∷ 0 ∷ 0 ∷ 0 ∷ 0 ∷ []
+  empty-slot : leaves small (opened ++ cutIn (import 0 7 sheet) 3 [] [] ∷ []) .disk .numbers ≡ 0 ∷ 0 ∷ []
+  empty-map : leaves small (opened ++ cutIn (import 0 7 sheet) 3 [] [] ∷ []) .disk .maps ≡ replicate 6 0
+  one-stored : leaves small (opened ++ cutIn (import 0 7 sheet) 2 [] [] ∷ []) .disk .records ≡ 5 ∷ 0 ∷ 0 ∷ 0 ∷ 0 ∷ 0 ∷ 0 ∷ 0 ∷ []
+  both-stored : leaves small (opened ++ cutIn (import 0 7 sheet) 3 [] [] ∷ []) .disk .records ≡ 5 ∷ 0 ∷ 0 ∷ 70000 ∷ 0 ∷ 0 ∷ 0 ∷ 0 ∷ []
   -- exported: what was imported, number by number and word by word; bytes after it untouched; one byte too few gets 31, a slot that is empty 4, an active one 9
   back-again : buffer (opened ++ import 0 9 sheet ∷ []) 0 48 ≡ sheet ++ 7 ∷ 7 ∷ 7 ∷ 7 ∷ 7 ∷ []
   its-length : says small (opened ++ import 0 9 sheet ∷ export 0 43 ∷ []) ≡ 0 ∷ 43 ∷ []
@@ -207,8 +207,8 @@ sheetEdges = record {
   one-by-imports = refl;
   not-by-an-event = refl;
   by-an-import = refl;
-  three-stores = refl;
-  one-store = refl;
+  four-stores = refl;
+  two-stores = refl;
   refused-none = refl;
   cut-first = refl;
   cut-last = refl;

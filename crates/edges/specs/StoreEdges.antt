@@ -40,8 +40,8 @@ abbrev updating : List Act
 updating = writing ++ pageDone 0 1 ∷ update 0 ∷ []
 
 pub record StoreEdges : Type 0 where
-  -- one store: create, delete, limit, a good done of a write and of an update
-  create-one : made opened (create 1 0 8) ≡ 1
+  -- two stores: create, the highest number and then the slot; one: delete, limit, a good done of a write and of an update
+  create-two : made opened (create 1 0 8) ≡ 2
   delete-one : made (opened ++ deactivate 0 ∷ []) (delete 0) ≡ 1
   limit-one : made opened (limit 0 2) ≡ 1
   write-done : made writing (pageDone 0 1) ≡ 1
@@ -59,7 +59,8 @@ pub record StoreEdges : Type 0 where
   refused-none : made opened (create 0 0 8) ≡ 0
   -- a cut inside falls before the last store of an event that is carried out, once restarted
   inside : mayBe (opened ++ cutIn (create 1 0 8) 0 [] [] ∷ restart ∷ []) ≡ true
-  not-after-the-last : mayBe (opened ++ cutIn (create 1 0 8) 1 [] [] ∷ []) ≡ false
+  between : mayBe (opened ++ cutIn (create 1 0 8) 1 [] [] ∷ restart ∷ []) ≡ true
+  not-after-the-last : mayBe (opened ++ cutIn (create 1 0 8) 2 [] [] ∷ []) ≡ false
   not-of-a-refused : mayBe (opened ++ cutIn (create 0 0 8) 0 [] [] ∷ []) ≡ false
   not-without-a-store : mayBe (opened ++ cutIn (fault 0 0) 0 [] [] ∷ []) ≡ false
   not-before-restart : mayBe (cutIn (limit 0 3) 0 [] [] ∷ []) ≡ false
@@ -73,7 +74,7 @@ pub record StoreEdges : Type 0 where
 pub storeEdges : StoreEdges
 unfolding made mayBe holds
 storeEdges = record {
-  create-one = refl;
+  create-two = refl;
   delete-one = refl;
   limit-one = refl;
   write-done = refl;
@@ -89,6 +90,7 @@ storeEdges = record {
   update-none = refl;
   refused-none = refl;
   inside = refl;
+  between = refl;
   not-after-the-last = refl;
   not-of-a-refused = refl;
   not-without-a-store = refl;

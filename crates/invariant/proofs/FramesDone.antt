@@ -120,7 +120,7 @@ module _ (z : Sizes) (st : State) (f : Fit z st) (r : Ruled z st) where
         }) (r .counts .hand)
         (let l = long z st f in record {
           sizes = l .sizes;
-          disk = record { records = length-store (st .disk .records) _ _ ∙ f .disk .records; numbers = f .disk .numbers; accounts = f .disk .accounts; maps = f .disk .maps; limits = f .disk .limits; parents = f .disk .parents };
+          disk = record { records = length-store (st .disk .records) _ _ ∙ f .disk .records; numbers = f .disk .numbers; accounts = f .disk .accounts; maps = f .disk .maps; limits = f .disk .limits; parents = f .disk .parents; highest = f .disk .highest };
           core = l .core;
           held = record { addresses = l .held .addresses; states = length-set (st .memory .held .states) (recordIn z st k) LIVE ∙ l .held .states; owners = l .held .owners };
           slots = l .slots;

@@ -71,25 +71,27 @@ module _ (z : Sizes) (st : State) (f : Fit z st) (r : Ruled z st) where
       no-other : (n : ℕ) → ¬ (n ≡ NULLED) → ¬ (n ≡ LIVE) → ¬ (files st .state q ≡ n)
       no-other n x y e = elim (r .records .held i fit q a .1) [ inl s ↦ x (sym e ∙ s) | inr s ↦ y (sym e ∙ s) ]
 
-  -- ── create and delete: numbers and accounts ──
-  renamed : (numbers accounts : List ℕ) → length numbers ≡ z .slots → length accounts ≡ z .slots
-      → Framing z (refiled (record { records = st .disk .records; numbers = numbers; accounts = accounts; maps = st .disk .maps; limits = st .disk .limits; parents = st .disk .parents }) (st .memory .held) (st .memory .slots))
-  renamed numbers accounts a b = filed _ (st .memory .held) (st .memory .slots) (λ k l. record { address = λ i e. refl; state = λ i e q x. refl; active = λ i e. refl; words = λ i e q x w lw. refl }) (r .counts .hand)
-      (record { records = f .disk .records; numbers = a; accounts = b; maps = f .disk .maps; limits = f .disk .limits; parents = f .disk .parents }) (long z st f .held) (long z st f .slots)
+  -- ── create and delete: numbers, accounts and the highest number ──
+  renamed : (numbers accounts highest : List ℕ) → length numbers ≡ z .slots → length accounts ≡ z .slots → length highest ≡ 1
+      → Framing z (refiled (record { records = st .disk .records; numbers = numbers; accounts = accounts; maps = st .disk .maps; limits = st .disk .limits; parents = st .disk .parents; highest = highest }) (st .memory .held) (st .memory .slots))
+  renamed numbers accounts highest a b c = filed _ (st .memory .held) (st .memory .slots) (λ k l. record { address = λ i e. refl; state = λ i e q x. refl; active = λ i e. refl; words = λ i e q x w lw. refl }) (r .counts .hand)
+      (record { records = f .disk .records; numbers = a; accounts = b; maps = f .disk .maps; limits = f .disk .limits; parents = f .disk .parents; highest = c }) (long z st f .held) (long z st f .slots)
 
   pub create-frames : (s q n : ℕ) → Asked (questions z st (Event.Design (Create s q n))) → Framed z (Designs.create z st s q n)
   unfolding Designs.create
-  create-frames s q n a = counted-framed z _ (renamed (set (st .disk .numbers) s n) (set (st .disk .accounts) s q) (length-set (st .disk .numbers) s n ∙ f .disk .numbers) (length-set (st .disk .accounts) s q ∙ f .disk .accounts))
+  create-frames s q n a = counted-framed z _ (renamed (set (st .disk .numbers) s n) (set (st .disk .accounts) s q) (set (st .disk .highest) 0 n)
+      (length-set (st .disk .numbers) s n ∙ f .disk .numbers) (length-set (st .disk .accounts) s q ∙ f .disk .accounts) (length-set (st .disk .highest) 0 n ∙ f .disk .highest))
 
   pub delete-frames : (s : ℕ) → Asked (questions z st (Event.Design (Delete s))) → Framed z (Designs.delete z st s)
   unfolding Designs.delete
-  delete-frames s a = counted-framed z _ (renamed (set (st .disk .numbers) s 0) (set (st .disk .accounts) s 0) (length-set (st .disk .numbers) s 0 ∙ f .disk .numbers) (length-set (st .disk .accounts) s 0 ∙ f .disk .accounts))
+  delete-frames s a = counted-framed z _ (renamed (set (st .disk .numbers) s 0) (set (st .disk .accounts) s 0) (st .disk .highest)
+      (length-set (st .disk .numbers) s 0 ∙ f .disk .numbers) (length-set (st .disk .accounts) s 0 ∙ f .disk .accounts) (f .disk .highest))
 
   -- ── limit and move: the limits ──
   relimited : (limits : List ℕ) → length limits ≡ z .accounts → Framed z (counted z (onDisk (setLimits limits) st))
   relimited limits e = counted-framed z _ (filed (setLimits limits (st .disk)) (st .memory .held) (st .memory .slots)
       (λ k l. record { address = λ i e. refl; state = λ i e q x. refl; active = λ i e. refl; words = λ i e q x w lw. refl }) (r .counts .hand)
-      (record { records = f .disk .records; numbers = f .disk .numbers; accounts = f .disk .accounts; maps = f .disk .maps; limits = e; parents = f .disk .parents }) (long z st f .held) (long z st f .slots))
+      (record { records = f .disk .records; numbers = f .disk .numbers; accounts = f .disk .accounts; maps = f .disk .maps; limits = e; parents = f .disk .parents; highest = f .disk .highest }) (long z st f .held) (long z st f .slots))
 
   pub limit-frames : (q n : ℕ) → Framed z (Accounts.limit z st q n)
   unfolding Accounts.limit
@@ -145,7 +147,7 @@ module _ (z : Sizes) (st : State) (f : Fit z st) (r : Ruled z st) where
   -- ── map done ──
   -- the slot's leaving records change, and no page in a frame holds one
   ended : (s : ℕ) (maps : List ℕ) (g : ℕ → ℕ) (owners : List ℕ) → length maps ≡ allPages z → length owners ≡ z .records
-      → Framing z (refiled (record { records = st .disk .records; numbers = st .disk .numbers; accounts = st .disk .accounts; maps = maps; limits = st .disk .limits; parents = st .disk .parents })
+      → Framing z (refiled (record { records = st .disk .records; numbers = st .disk .numbers; accounts = st .disk .accounts; maps = maps; limits = st .disk .limits; parents = st .disk .parents; highest = st .disk .highest })
       (record { addresses = st .memory .held .addresses; states = store (st .memory .held .states) (Writeback.leaver z st s) g; owners = owners; free-map = st .memory .held .free-map; pool = st .memory .held .pool })
       (Writeback.updateOver z st s (st .memory .slots)))
   unfolding Writeback.updateOver
@@ -155,7 +157,7 @@ module _ (z : Sizes) (st : State) (f : Fit z st) (r : Ruled z st) where
         state = λ i e q d. unstored (st .memory .held .states) (Writeback.leaver z st s) g q (stated k l i e q d) (λ y. no-other k l i e q d LEAVING (λ x. omega (arith, x)) (λ x. omega (arith, x)) (y .0));
         active = λ i e. refl;
         words = λ i e q d w lw. refl;
-      }) (r .counts .hand) (record { records = f .disk .records; numbers = f .disk .numbers; accounts = f .disk .accounts; maps = lm; limits = f .disk .limits; parents = f .disk .parents })
+      }) (r .counts .hand) (record { records = f .disk .records; numbers = f .disk .numbers; accounts = f .disk .accounts; maps = lm; limits = f .disk .limits; parents = f .disk .parents; highest = f .disk .highest })
       (record { addresses = f .memory .addresses; states = length-store (st .memory .held .states) _ _ ∙ f .memory .states; owners = lo })
       (record { active = f .memory .active; updating = length-set (st .memory .slots .updating) s 0 ∙ f .memory .updating; images = length-store (st .memory .slots .images) _ _ ∙ f .memory .images })
 

@@ -53,7 +53,7 @@ module _ (z : Sizes) (st : State) (fit : Fit z st) (rules : Ruled z st) (r₀ : 
   pub free-fit : Fit z after
   free-fit = record {
     sizes = fit .sizes;
-    disk = record { records = length-store (st .disk .records) _ _ ∙ fit .disk .records; numbers = fit .disk .numbers; accounts = fit .disk .accounts; maps = fit .disk .maps; limits = fit .disk .limits; parents = fit .disk .parents };
+    disk = record { records = length-store (st .disk .records) _ _ ∙ fit .disk .records; numbers = fit .disk .numbers; accounts = fit .disk .accounts; maps = fit .disk .maps; limits = fit .disk .limits; parents = fit .disk .parents; highest = fit .disk .highest };
     memory = fit .memory;
   }
 

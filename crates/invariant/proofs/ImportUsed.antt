@@ -17,7 +17,7 @@ use Rattle.model.specs.Lines.{FREE, FILED, LIVE}
 use Rattle.model.specs.State.{Disk, State, Files, files, frames, allPages, slotOf, pageOf, charged, payer, usedOf}
 use Rattle.model.specs.Laws.Index.{slot-below, slot-of-page, place-of-page, page-below, place-below}
 use Rattle.model.specs.Payer as Payer
-use Rattle.model.specs.Setters.{onDisk, counted}
+use Rattle.model.specs.Setters.{raise, counted}
 use Rattle.model.specs.Import.{Sheet, Taking, taking, taken, fieldOf, has, storeRecord, entry, storeSlot, made, imported}
 use Rattle.invariant.proofs.Imports as I
 use Rattle.model.specs.Laws.Fields.{field-of, has-at}
@@ -103,9 +103,10 @@ module _ (z : Sizes) (st : State) (s q n : ℕ) (h : Sheet) (b : Before z st s q
   t = taking z st s c
 
   abbrev disk′ : Disk
-  disk′ = storeSlot z st s q n h (onDisk (made z st s q n h c) st .disk)
+  disk′ = storeSlot z st s q n h (made z st s q n h c (raise n (st .disk)))
 
-  same-more : (k : ℕ) → (made z st s q n h k (st .disk) .accounts ≡ st .disk .accounts) × (made z st s q n h k (st .disk) .limits ≡ st .disk .limits) × (made z st s q n h k (st .disk) .parents ≡ st .disk .parents)
+  same-more : (k : ℕ) → (made z st s q n h k (raise n (st .disk)) .accounts ≡ st .disk .accounts) × (made z st s q n h k (raise n (st .disk)) .limits ≡ st .disk .limits)
+      × (made z st s q n h k (raise n (st .disk)) .parents ≡ st .disk .parents)
   unfolding made storeRecord
   same-more zero = (refl, refl, refl)
   same-more (suc k) = same-more k

@@ -13,7 +13,7 @@ use Rattle.sheets.specs.Laws.Formed.{formed, page-of, page-once}
 use Rattle.model.specs.declared.sizes.Sizes.{Sizes}
 use Rattle.model.specs.Lines.{twelfth, ledBy, byImport}
 use Rattle.model.specs.State.{State, files}
-use Rattle.model.specs.Setters.{onDisk, counted}
+use Rattle.model.specs.Setters.{onDisk, raise, counted}
 use Rattle.model.specs.Questions.{importQuestions}
 use Rattle.model.specs.Laws.Ruled.{ruled, rules}
 use Rattle.model.specs.Laws.Fit.{fit, all-fit}
@@ -28,7 +28,7 @@ module _ (z : Sizes) (st : State) (s q n : ℕ) (b : List ℕ) where
   unfolding importAnswer
   import-before e =
       let (sound, (keeps, own)) = all-yes 0 (asked z st (importQuestions z st s q n b)) tt e in
-      let ((slot, (account, number)), (small, (empty, (fresh, (form, ((words, pages), (limit, (room, none)))))))) = own in
+      let ((slot, (account, number)), (small, (empty, (fresh, (above, (form, ((words, pages), (limit, (room, none))))))))) = own in
       let r = ruled z st keeps in
       let f = formed b form in
       record {
@@ -37,8 +37,10 @@ module _ (z : Sizes) (st : State) (s q n : ℕ) (b : List ℕ) where
         slot = slot;
         account = account;
         number = number;
+        low = small;
         empty = empty;
         fresh = fresh;
+        above = above;
         pages = λ i g. omega (arith, page-of b f i g .below, pages);
         once = page-once b f;
         enough = enough (countIn b) room (r .counts .free);
@@ -60,8 +62,8 @@ module _ (z : Sizes) (st : State) (s q n : ℕ) (b : List ℕ) where
       go zero e = let k = import-kept z st s q n (sheetOf b) (import-before e) in sound-good _ (record { fit = k .0; ruled = k .1 })
       go (suc m) e = g
 
-  -- and after its first k stores
-  pub import-midway : importAnswer z st s q n b ≡ 0 → (k : ℕ) → k ≤ countIn b → Good z (onDisk (made z st s q n (sheetOf b) k) st)
+  -- and once the number is the highest and the first k records are stored
+  pub import-midway : importAnswer z st s q n b ≡ 0 → (k : ℕ) → k ≤ countIn b → Good z (onDisk (λ d. made z st s q n (sheetOf b) k (raise n d)) st)
   import-midway e k i = sound-good _ (midway z st s q n (sheetOf b) (import-before e) k i)
 
   -- each record's state is left alone, or goes from free to filed

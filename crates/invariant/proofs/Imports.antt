@@ -15,7 +15,7 @@ use Rattle.tables.specs.Store.{Split, at-store, length-store}
 use Rattle.model.specs.declared.sizes.Sizes.{Sizes}
 use Rattle.model.specs.Lines.{FREE, FILED}
 use Rattle.model.specs.State.{Disk, Held, State, files, freeCount, allPages, slotOf, pageOf}
-use Rattle.model.specs.Setters.{onDisk, counted}
+use Rattle.model.specs.Setters.{onDisk, raise, counted}
 use Rattle.model.specs.Parts.{ofSlot}
 use Rattle.model.specs.Pool as P
 use Rattle.model.specs.Laws.Ruled.{Ruled}
@@ -23,6 +23,7 @@ use Rattle.model.specs.Laws.Fit.{Fit, DiskFit}
 use Rattle.model.specs.Laws.Index.{split-set, slot-of-page, place-of-page, page-below}
 use Rattle.model.specs.Laws.Fields.{field-of, has-at, field-at}
 use Rattle.model.specs.Import.{Sheet, Taking, taking, taken, fieldOf, has, storeRecord, entry, storeSlot, made, imported}
+use Rattle.invariant.proofs.Raised.{raise-fit, raise-ruled}
 use Rattle.invariant.proofs.Framed.{Framed}
 use Rattle.invariant.proofs.Counts.{counted-framed}
 use Rattle.invariant.proofs.Parts.{same-page}
@@ -39,12 +40,14 @@ pub record Sound (z : Sizes) (st : State) : Type 0 where
 pub record Before (z : Sizes) (st : State) (s q n : ℕ) (h : Sheet) : Type 0 where
   pub fit : Fit z st
   pub ruled : Ruled z st
-  -- 3, 5, 6
+  -- 3, 32, 5, 6, 33
   pub slot : s < z .slots
   pub account : q < z .accounts
   pub number : 0 < n
+  pub low : n < 2147483648
   pub empty : files st .number s ≡ 0
   pub fresh : (t : ℕ) → t < z .slots → ¬ (files st .number t ≡ n)
+  pub above : at (st .disk .highest) 0 < n
   -- 29 and 30: pages below N, no two alike
   pub pages : (k : ℕ) → k < h .count → h .page k < z .pages
   pub once : (j k : ℕ) → j < h .count → k < h .count → h .page j ≡ h .page k → j ≡ k
@@ -71,13 +74,13 @@ module _ (z : Sizes) (st : State) (s q n : ℕ) (h : Sheet) (b : Before z st s q
   pub nth-once : (j k : ℕ) → j < c → k < c → nth j ≡ nth k → j ≡ k
   nth-once = taken-once z st s (b .fit .sizes .records) (b .fit .memory .states) (b .fit .memory .owners) (b .ruled .counts .hand) c (b .enough)
 
-  -- ── after the first k stores ──
+  -- ── the number is the highest, and the first k records are stored ──
   abbrev pub mid : ℕ → State
-  mid k = onDisk (made z st s q n h k) st
+  mid k = onDisk (λ d. made z st s q n h k (raise n d)) st
 
   pub midway : (k : ℕ) → k ≤ c → Sound z (mid k)
   unfolding made storeRecord
-  midway zero i = record { fit = b .fit; ruled = b .ruled }
+  midway zero i = record { fit = raise-fit z st n (b .fit); ruled = raise-ruled z st n (b .ruled) }
   midway (suc k) i =
       let m = midway k (omega (arith, i)) in
       record {
@@ -164,8 +167,8 @@ module _ (z : Sizes) (st : State) (s q n : ℕ) (h : Sheet) (b : Before z st s q
   pub owner-at : (r : ℕ) → Split (Taken r) (at (t .owners) r) s (files st .owner r)
   owner-at r = owner-after z st s (b .fit .sizes .records) (b .fit .memory .states) (b .fit .memory .owners) (b .ruled .counts .hand) c r
 
-  -- the record stores leave numbers and maps alone
-  pub same-made : (k : ℕ) → (made z st s q n h k (st .disk) .numbers ≡ st .disk .numbers) × (made z st s q n h k (st .disk) .maps ≡ st .disk .maps)
+  -- the first stores leave numbers and maps alone
+  pub same-made : (k : ℕ) → (mid k .disk .numbers ≡ st .disk .numbers) × (mid k .disk .maps ≡ st .disk .maps)
   unfolding made storeRecord
   same-made zero = (refl, refl)
   same-made (suc k) = same-made k
@@ -229,6 +232,7 @@ module _ (z : Sizes) (st : State) (s q n : ℕ) (h : Sheet) (b : Before z st s q
     maps = length-store (st₁ .disk .maps) (ofSlot z s) (λ i. entry z st s q n h (i % z .pages)) ∙ middle .fit .disk .maps;
     limits = middle .fit .disk .limits;
     parents = middle .fit .disk .parents;
+    highest = middle .fit .disk .highest;
   }
 
   abbrev held′ : Held
@@ -250,7 +254,7 @@ module _ (z : Sizes) (st : State) (s q n : ℕ) (h : Sheet) (b : Before z st s q
       (framed .lengths, record { disk = k .0; records = k .1; queues = framed .queues; frames = framed .frames; counts = framed .counts; line = b .ruled .line })
 
   -- a cut before the last store leaves an empty slot
-  pub slot-empty : (k : ℕ) → at (made z st s q n h k (st .disk) .numbers) s ≡ 0
+  pub slot-empty : (k : ℕ) → at (mid k .disk .numbers) s ≡ 0
   slot-empty k = ap (λ (x : List ℕ). at x s) (same-made k .0) ∙ b .empty
 
   -- the twelfth line: each record's state is left alone, or goes from free to filed

@@ -13,6 +13,7 @@ use Rattle.model.specs.declared.event.Event.{Event}
 use Rattle.model.specs.declared.event.Event.the-variants as Event
 use Rattle.model.specs.Sizes.{sizesFit}
 use Rattle.model.specs.State.{Memory, State, LINE, files, allPages}
+use Rattle.model.specs.Setters.{onDisk, raise}
 use Rattle.model.specs.Rules.{lower, diskRules}
 use Rattle.model.specs.Laws.Ruled.{OnDisk, Ruled, ruled, rules, disk-ruled, rules-disk}
 use Rattle.model.specs.Questions.{questions}
@@ -21,6 +22,7 @@ use Rattle.model.specs.Step.{outcome, allFit, asked, answer, carried, result, s
 use Rattle.model.specs.Laws.Fit.{Fit, within, fit, all-fit}
 use Rattle.model.specs.Terms.{Good}
 use Rattle.model.specs.Acts as A
+use Rattle.invariant.proofs.Raised.{raise-fit}
 use Rattle.invariant.proofs.Framed.{Framed}
 use Rattle.invariant.proofs.FramesKept.{frames-kept}
 use Rattle.invariant.proofs.FramesRestart.{restarted-frames}
@@ -73,12 +75,17 @@ restarted-good z st f d =
     let k = restarted-frames z (st .disk) (f .sizes) (f .disk) in
     (k .lengths, joined z (R.restarted z (st .disk)) (restarted-records z (f .sizes) st d) k (restarted-line z (st .disk)))
 
+-- .. with the highest number stored
+pub raised-good : (z : Sizes) (st : State) → Fit z st → OnDisk z (files st) → Fit z (R.restarted z (R.raised z (st .disk))) × Ruled z (R.restarted z (R.raised z (st .disk)))
+unfolding R.raised
+raised-good z st f d = let n = R.highestOf (st .disk) (z .slots) in restarted-good z (onDisk (raise n) st) (raise-fit z st n f) d
+
 -- From any disk part that passes the disk rules and any memory of the right lengths, restart's state passes both sets.
 pub restarted : (z : Sizes) (st : State) → Holds (allFit z st) → Holds (diskRules z st) → (restart z st .answer .refusal ≡ 0) × Good z (restart z st .left)
 unfolding restart
 restarted z st f d =
     rw (restart-answer z st f d)
-    (refl, (let k = restarted-good z st (fit z st f) (disk-ruled z st d) in (all-fit z (R.restarted z (st .disk)) (k .0), rules z (R.restarted z (st .disk)) (k .1))))
+    (refl, (let k = raised-good z st (fit z st f) (disk-ruled z st d) in (all-fit z (R.restarted z (R.raised z (st .disk))) (k .0), rules z (R.restarted z (R.raised z (st .disk))) (k .1))))
 
 -- Format's disk part passes the disk rules, whatever the memory holds.
 pub formatted : (z : Sizes) (parents : List ℕ) (m : Memory) → Holds (sizesFit z) → Holds (lower (z .accounts) (at parents)) → Holds (diskRules z (record { disk = R.formatted z parents; memory = m }))

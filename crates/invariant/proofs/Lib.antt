@@ -32,6 +32,7 @@ pub mod FramesRestart
 pub mod Cases
 pub mod LineKept
 pub mod FramesKept
+pub mod Raised
 pub mod Kept
 pub mod Parts
 pub mod FreeStore
@@ -40,6 +41,7 @@ pub mod Imports
 pub mod ImportUsed
 pub mod Imported
 pub mod Stores
+pub mod Midst
 pub mod AfterKept
 pub mod Never
 pub mod Tidy

@@ -22,7 +22,7 @@ use Rattle.model.specs.declared.event.Event.{Event}
 use Rattle.model.specs.declared.event.Event.the-variants as Event
 use Rattle.model.specs.Lines.{FREE, RELEASED}
 use Rattle.model.specs.State.{Disk, Memory, Held, State, files, frames, READING, WRITING}
-use Rattle.model.specs.Setters.{onDisk, onHeld, onSlots, setStates, setOwners, counted}
+use Rattle.model.specs.Setters.{onDisk, onHeld, onSlots, setStates, setOwners, raise, counted}
 use Rattle.model.specs.Rules.{diskRules}
 use Rattle.model.specs.Questions.{questions}
 use Rattle.model.specs.Laws.Ruled.{Ruled, ruled}
@@ -141,7 +141,7 @@ stores-sum : (z : Sizes) (st : State) (e : Event) → T (not (isLimit e)) → Fi
 unfolding stores Writeback.storeFrame Writeback.storeImage
 stores-sum z st (Event.Account (Limit q n)) i f r a = absurd i
 stores-sum z st (Event.Account (Move g t m)) i f r a = (shifted-sum z st g t m f r a, tt)
-stores-sum z st (Event.Design (Create s q n)) i f r a = (refl, tt)
+stores-sum z st (Event.Design (Create s q n)) i f r a = (refl, (refl, tt))
 stores-sum z st (Event.Design (Delete s)) i f r a = (refl, tt)
 stores-sum z st (Event.Design (Activate s)) i f r a = tt
 stores-sum z st (Event.Design (Deactivate s)) i f r a = tt
@@ -167,8 +167,8 @@ import-stores : (z : Sizes) (st : State) (s q n : ℕ) (b : List ℕ) (k : ℕ) 
 unfolding made S.answered stores storeRecord storeSlot
 import-stores z st s q n b k = after-first (SumIs st) k _ (st .disk) refl (go (importAnswer z st s q n b))
   where
-    go : (m : ℕ) → AfterEach (SumIs st) (byAnswer m (tab (countIn b) (storeRecord z st s q n (sheetOf b)) 0 ++ storeSlot z st s q n (sheetOf b) ∷ [])) (st .disk)
-    go zero = each-after (SumIs st) (storeRecord z st s q n (sheetOf b)) (storeSlot z st s q n (sheetOf b)) (λ j x h. h) (λ x h. h) (countIn b) 0 (st .disk) refl
+    go : (m : ℕ) → AfterEach (SumIs st) (byAnswer m (raise n ∷ tab (countIn b) (storeRecord z st s q n (sheetOf b)) 0 ++ storeSlot z st s q n (sheetOf b) ∷ [])) (st .disk)
+    go zero = (refl, each-after (SumIs st) (storeRecord z st s q n (sheetOf b)) (storeSlot z st s q n (sheetOf b)) (λ j x h. h) (λ x h. h) (countIn b) 0 (raise n (st .disk)) refl)
     go (suc m) = tt
 
 -- so does every part of its stores
@@ -182,14 +182,14 @@ part-sum z w (S.event e) k t = after-first (SumIs (w .state)) k _ (w .state .dis
 part-sum z w (S.importing s q n b) k t = import-stores z (w .state) s q n b k
 
 act-sum : (z : Sizes) (w : World) (a : Act) → T (noLimit a) → sum (act z w a .state .disk .limits) ≡ sum (w .state .disk .limits)
-unfolding act restart R.restarted counted landed
+unfolding act restart R.restarted R.raised counted landed
 act-sum z w (event e) t = limits-sum z (w .state) e t
 act-sum z w (looking s p) t = refl
 act-sum z w (importing s q n b) t = ap (λ (d : Disk). sum (d .limits)) (import-whole z (w .state) s q n b) ∙ import-stores z (w .state) s q n b _
 act-sum z w (exporting s buffer) t = refl
 act-sum z w restarting t = go (firstNo (ask 1 (allFit z (w .state)) (ask 2 (diskRules z (w .state)) none)))
   where
-    go : (n : ℕ) → sum (outcome n 0 (w .state) (R.restarted z (w .state .disk)) .left .disk .limits) ≡ sum (w .state .disk .limits)
+    go : (n : ℕ) → sum (outcome n 0 (w .state) (R.restarted z (R.raised z (w .state .disk))) .left .disk .limits) ≡ sum (w .state .disk .limits)
     go zero = refl
     go (suc n) = refl
 act-sum z w (cutting writes updates junk) t = cut-off-sum z w writes updates junk

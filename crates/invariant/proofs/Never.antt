@@ -2,6 +2,7 @@
 use mathlib.Core.Path.{_≡_, refl, sym, _∙_, subst}
 use mathlib.Core.Bool.{Bool, true, false}
 use mathlib.Core.List.{List, [], _∷_}
+use mathlib.Core.Logic.{inl, inr}
 use Prim.Native.Nat.{ℕ, zero, suc, _<_}
 use native.Mathlib.Omega.{arith}
 use lib.Dec.{T, ltb, ltb→lt}
@@ -15,12 +16,13 @@ use Rattle.model.specs.declared.sizes.Sizes.{Sizes}
 use Rattle.model.specs.declared.event.Event.{Event}
 use Rattle.model.specs.Sizes.{sizesFit}
 use Rattle.model.specs.State.{Disk, Memory, State, files}
+use Rattle.model.specs.Setters.{raise}
 use Rattle.model.specs.Rules.{lower, diskRules, allRules}
-use Rattle.model.specs.Laws.Ruled.{ruled, disk-ruled, rules-disk}
+use Rattle.model.specs.Laws.Ruled.{ruled, rules, disk-ruled, rules-disk}
 use Rattle.model.specs.Questions.{questions, lookQuestions, importQuestions, exportQuestions}
 use Rattle.model.specs.Step.{outcome, diskLengths, memoryLengths, allFit, asked, answer, carried, result, step, restart, look, own-above}
 use Rattle.model.specs.Restart as R
-use Rattle.model.specs.Laws.Fit.{fit-disk, fit}
+use Rattle.model.specs.Laws.Fit.{disk-fit, fit-disk, fit, all-fit}
 use Rattle.model.specs.Laws.Own.{first-yes}
 use Rattle.model.specs.Acts.{Act, event, looking, importing, exporting, restarting, cutting, cuttingIn, World, part, cutOff, act, allowed, legal, run, start}
 use Rattle.model.specs.Acts as A
@@ -29,11 +31,12 @@ use Rattle.model.specs.Export.{exported, export}
 use Rattle.model.specs.Stores as S
 use Rattle.model.specs.Stores.{Call}
 use Rattle.model.specs.Terms.{Good, blameless, answered, allAnswered}
+use Rattle.invariant.proofs.Raised.{raise-disk, raise-fit, raise-ruled}
 use Rattle.invariant.proofs.Records.{disk-alone}
 use Rattle.invariant.proofs.RecordsCut.{formatted-fit, landed-fit}
 use Rattle.invariant.proofs.Kept.{kept, restarted, formatted, landed}
 use Rattle.invariant.proofs.Imported.{import-good, import-midway}
-use Rattle.invariant.proofs.Stores.{Inside, inside, part-same, part-import}
+use Rattle.invariant.proofs.Midst.{Inside, inside, raisedIn, part-none, part-event, part-import}
 
 -- what every world of a list keeps: lengths and disk rules always, once restarted all rules
 pub record Safe (z : Sizes) (w : World) : Type 0 where
@@ -104,12 +107,23 @@ cut-safe z w writes updates junk lengths s = go (w .up) refl
     }
     go false e = record { sizes = s .sizes; disk = s .disk; memory = lengths; rules = rules-disk z _ (disk-alone z (files (w .state)) (disk-ruled z (w .state) (s .rules)) _ _ _ _ _ _ _); up = λ u. absurd u }
 
+-- so is the world once a number is stored as the highest
+raise-safe : (z : Sizes) (w : World) (n : ℕ) → Safe z w → Safe z (raisedIn n w)
+raise-safe z w n s = record {
+  sizes = s .sizes;
+  disk = fit-disk z (raise n (w .state .disk)) (raise-disk z (w .state .disk) n (disk-fit z (w .state .disk) (s .disk)));
+  memory = s .memory;
+  rules = rules-disk z (raisedIn n w .state) (disk-ruled z (w .state) (s .rules));
+  up = λ u. let g = s .up u in (all-fit z _ (raise-fit z (w .state) n (fit z (w .state) (g .0))), rules z _ (raise-ruled z (w .state) n (ruled z (w .state) (g .1))));
+}
+
 -- in the midst of a call the world is safe
 part-safe : (z : Sizes) (w : World) (c : Call) (k : ℕ) (junk : Memory) → Inside z w c k junk → Safe z w → Safe z (part z w c k)
-part-safe z w (S.event e) k junk i s = subst (Safe z) (sym (part-same z w e k junk i)) s
-part-safe z w (S.importing s q n b) k junk i x =
+part-safe z w (S.event e) k junk i s = elim (part-event z w e k junk i) [ inl same ↦ subst (Safe z) (sym same) s | inr b ↦ subst (Safe z) (sym (b .world)) (raise-safe z w (b .number) s) ]
+part-safe z w (S.importing s q n b) zero junk i x = subst (Safe z) (sym (part-none z w (S.importing s q n b))) x
+part-safe z w (S.importing s q n b) (suc k) junk i x =
     let p = part-import z w s q n b k junk i in
-    good-safe z (part z w (S.importing s q n b) k) (subst (Good z) (sym (p .2)) (import-midway z (w .state) s q n b (p .0) k (p .1)))
+    good-safe z (part z w (S.importing s q n b) (suc k)) (subst (Good z) (sym (p .2)) (import-midway z (w .state) s q n b (p .0) k (p .1)))
 
 -- each act is answered so, and leaves a safe world
 pub one : (z : Sizes) (w : World) (a : Act) → T (allowed z w a) → Safe z w → Holds (answered z w a) × Safe z (act z w a)

@@ -18,7 +18,7 @@ use Rattle.model.specs.declared.event.Event.{Event}
 use Rattle.model.specs.declared.event.Event.the-variants as Event
 use Rattle.model.specs.Lines.{FREE, RELEASED}
 use Rattle.model.specs.State.{Disk, Memory, Held, State, files, frames, WRITING, READING}
-use Rattle.model.specs.Setters.{onDisk, onHeld, onSlots, setStates, setOwners, counted}
+use Rattle.model.specs.Setters.{onDisk, onHeld, onSlots, setStates, setOwners, raise, counted}
 use Rattle.model.specs.Rules.{diskRules}
 use Rattle.model.specs.Questions.{questions}
 use Rattle.model.specs.Laws.Ruled.{Ruled, ruled}
@@ -119,7 +119,7 @@ stores-stay : (z : Sizes) (st : State) (e : Event) → AfterEach (Stays st) (sto
 unfolding stores Writeback.storeFrame Writeback.storeImage
 stores-stay z st (Event.Account (Limit q n)) = (refl, tt)
 stores-stay z st (Event.Account (Move g t m)) = (refl, tt)
-stores-stay z st (Event.Design (Create s q n)) = (refl, tt)
+stores-stay z st (Event.Design (Create s q n)) = (refl, (refl, tt))
 stores-stay z st (Event.Design (Delete s)) = (refl, tt)
 stores-stay z st (Event.Design (Activate s)) = tt
 stores-stay z st (Event.Design (Deactivate s)) = tt
@@ -144,8 +144,8 @@ import-stays : (z : Sizes) (st : State) (s q n : ℕ) (b : List ℕ) (k : ℕ) �
 unfolding made S.answered stores storeRecord storeSlot
 import-stays z st s q n b k = after-first (Stays st) k _ (st .disk) refl (go (importAnswer z st s q n b))
   where
-    go : (m : ℕ) → AfterEach (Stays st) (byAnswer m (tab (countIn b) (storeRecord z st s q n (sheetOf b)) 0 ++ storeSlot z st s q n (sheetOf b) ∷ [])) (st .disk)
-    go zero = each-after (Stays st) (storeRecord z st s q n (sheetOf b)) (storeSlot z st s q n (sheetOf b)) (λ j x h. h) (λ x h. h) (countIn b) 0 (st .disk) refl
+    go : (m : ℕ) → AfterEach (Stays st) (byAnswer m (raise n ∷ tab (countIn b) (storeRecord z st s q n (sheetOf b)) 0 ++ storeSlot z st s q n (sheetOf b) ∷ [])) (st .disk)
+    go zero = (refl, each-after (Stays st) (storeRecord z st s q n (sheetOf b)) (storeSlot z st s q n (sheetOf b)) (λ j x h. h) (λ x h. h) (countIn b) 0 (raise n (st .disk)) refl)
     go (suc m) = tt
 
 part-stays : (z : Sizes) (w : World) (c : Call) (k : ℕ) → part z w c k .state .disk .parents ≡ w .state .disk .parents
@@ -158,14 +158,14 @@ part-stays z w (S.event e) k = after-first (Stays (w .state)) k _ (w .state .dis
 part-stays z w (S.importing s q n b) k = import-stays z (w .state) s q n b k
 
 act-stays : (z : Sizes) (w : World) (a : Act) → act z w a .state .disk .parents ≡ w .state .disk .parents
-unfolding act restart R.restarted counted landed
+unfolding act restart R.restarted R.raised counted landed
 act-stays z w (event e) = parents-stay z (w .state) e
 act-stays z w (looking s p) = refl
 act-stays z w (importing s q n b) = ap (λ (d : Disk). d .parents) (import-whole z (w .state) s q n b) ∙ import-stays z (w .state) s q n b _
 act-stays z w (exporting s buffer) = refl
 act-stays z w restarting = go (firstNo (ask 1 (allFit z (w .state)) (ask 2 (diskRules z (w .state)) none)))
   where
-    go : (n : ℕ) → outcome n 0 (w .state) (R.restarted z (w .state .disk)) .left .disk .parents ≡ w .state .disk .parents
+    go : (n : ℕ) → outcome n 0 (w .state) (R.restarted z (R.raised z (w .state .disk))) .left .disk .parents ≡ w .state .disk .parents
     go zero = refl
     go (suc n) = refl
 act-stays z w (cutting writes updates junk) = cut-stays z w writes updates junk

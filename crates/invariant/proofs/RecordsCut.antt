@@ -23,18 +23,19 @@ use Rattle.invariant.proofs.RecordsLanded.{landed-keeps}
 
 pub formatted-fit : (z : Sizes) (parents : List ℕ) → DiskFit z (formatted z parents)
 unfolding formatted
-formatted-fit z parents = record { records = length-replicate _ 0; numbers = length-replicate _ 0; accounts = length-replicate _ 0; maps = length-replicate _ 0; limits = length-replicate _ 0; parents = length-tab (z .accounts) _ 0 }
+formatted-fit z parents = record { records = length-replicate _ 0; numbers = length-replicate _ 0; accounts = length-replicate _ 0; maps = length-replicate _ 0; limits = length-replicate _ 0; parents = length-tab (z .accounts) _ 0; highest = refl }
 
 module _ (z : Sizes) (st : State) (f : Fit z st) (r : Ruled z st) where
   abbrev v : Files
   v = files st
 
-  -- Numbers, accounts, limits and parents are as they were; the maps of the slots L are their images.
+  -- Numbers, accounts, limits, parents and the highest number are as they were; the maps of the slots L are their images.
   pub record Cut (L : ℕ → Type 0) (d : Disk) : Type 0 where
     pub numbers : d .numbers ≡ st .disk .numbers
     pub accounts : d .accounts ≡ st .disk .accounts
     pub limits : d .limits ≡ st .disk .limits
     pub parents : d .parents ≡ st .disk .parents
+    pub highest : d .highest ≡ st .disk .highest
     pub records : length (d .records) ≡ z .records * z .words
     pub maps : length (d .maps) ≡ allPages z
     pub map : (i : ℕ) → i < allPages z → Split (L (slotOf z i)) (at (d .maps) i) (v .image i) (v .map i)
@@ -42,11 +43,11 @@ module _ (z : Sizes) (st : State) (f : Fit z st) (r : Ruled z st) where
   -- no map lands with a write
   one : (g : ℕ) (d : Disk) → Cut (λ t. ⊥) d → Cut (λ t. ⊥) (storeFrame z st g d)
   unfolding storeFrame
-  one g d c = record { numbers = c .numbers; accounts = c .accounts; limits = c .limits; parents = c .parents; records = length-store (d .records) _ _ ∙ c .records; maps = c .maps; map = c .map }
+  one g d c = record { numbers = c .numbers; accounts = c .accounts; limits = c .limits; parents = c .parents; highest = c .highest; records = length-store (d .records) _ _ ∙ c .records; maps = c .maps; map = c .map }
 
   writes-cut : (lands : ℕ → Bool) (n : ℕ) → Cut (λ t. ⊥) (landWrites z st lands n (st .disk))
   unfolding landWrites
-  writes-cut lands zero = record { numbers = refl; accounts = refl; limits = refl; parents = refl; records = f .disk .records; maps = f .disk .maps; map = λ i h. inr (λ e. e, refl) }
+  writes-cut lands zero = record { numbers = refl; accounts = refl; limits = refl; parents = refl; highest = refl; records = f .disk .records; maps = f .disk .maps; map = λ i h. inr (λ e. e, refl) }
   writes-cut lands (suc g) = let c = writes-cut lands g in
       if-elim (Cut (λ t. ⊥)) (lands g && eqb (frames st .frame g .transfer) WRITING) _ _ (λ t. one g (landWrites z st lands g (st .disk)) c) (λ t. c)
 
@@ -60,6 +61,7 @@ module _ (z : Sizes) (st : State) (f : Fit z st) (r : Ruled z st) where
     accounts = k .accounts;
     limits = k .limits;
     parents = k .parents;
+    highest = k .highest;
     records = k .records;
     maps = k .maps;
     map = λ i h. elim (k .map i h) [
@@ -75,6 +77,7 @@ module _ (z : Sizes) (st : State) (f : Fit z st) (r : Ruled z st) where
     accounts = k .accounts;
     limits = k .limits;
     parents = k .parents;
+    highest = k .highest;
     records = k .records;
     maps = length-store (e .maps) _ _ ∙ k .maps;
     map = λ i h. elim (at-store (e .maps) (ofSlot z s) (v .image) i (rw (k .maps) h)) [
@@ -93,6 +96,7 @@ module _ (z : Sizes) (st : State) (f : Fit z st) (r : Ruled z st) where
     accounts = c .accounts;
     limits = c .limits;
     parents = c .parents;
+    highest = c .highest;
     records = c .records;
     maps = c .maps;
     map = λ i h. inr (λ e. omega (arith, e .0), stays (c .map i h) (λ e. e));
@@ -106,7 +110,7 @@ module _ (z : Sizes) (st : State) (f : Fit z st) (r : Ruled z st) where
 
   pub landed-fit : (writes updates : ℕ → Bool) → DiskFit z (landed z st writes updates)
   landed-fit writes updates = let c = landed-cut writes updates in
-      record { records = c .records; numbers = ap length (c .numbers) ∙ f .disk .numbers; accounts = ap length (c .accounts) ∙ f .disk .accounts; maps = c .maps; limits = ap length (c .limits) ∙ f .disk .limits; parents = ap length (c .parents) ∙ f .disk .parents }
+      record { records = c .records; numbers = ap length (c .numbers) ∙ f .disk .numbers; accounts = ap length (c .accounts) ∙ f .disk .accounts; maps = c .maps; limits = ap length (c .limits) ∙ f .disk .limits; parents = ap length (c .parents) ∙ f .disk .parents; highest = ap length (c .highest) ∙ f .disk .highest }
 
   -- the disk rules stay, whatever the memory then holds
   pub cut-disk : (L : ℕ → Type 0) (d : Disk) (m : Memory) → ((t : ℕ) → L t → v .active t ≡ 1) → Cut L d → OnDisk z (files (record { disk = d; memory = m }))
@@ -114,7 +118,7 @@ module _ (z : Sizes) (st : State) (f : Fit z st) (r : Ruled z st) where
       (subst (λ (l : List ℕ). OnDisk z (with (st .disk .numbers) l (d .parents))) (sym (c .accounts)) (subst (λ (l : List ℕ). OnDisk z (with (st .disk .numbers) (st .disk .accounts) l)) (sym (c .parents)) kept))
     where
       with : List ℕ → List ℕ → List ℕ → Files
-      with ns qs ps = files (record { disk = record { records = d .records; numbers = ns; accounts = qs; maps = d .maps; limits = d .limits; parents = ps }; memory = m })
+      with ns qs ps = files (record { disk = record { records = d .records; numbers = ns; accounts = qs; maps = d .maps; limits = d .limits; parents = ps; highest = d .highest }; memory = m })
 
       kept : OnDisk z (with (st .disk .numbers) (st .disk .accounts) (st .disk .parents))
       kept = landed-keeps z (f .sizes .pages) L v (r .disk) (r .records) (at (d .maps)) (record { on = on; map = c .map }) _ _ _ _ _ _ _

@@ -1,15 +1,14 @@
--- The disk after a call that is carried out is what its own stores leave, in order; and what holds in the midst of a call, before its last store.
+-- The disk after a call that is carried out is what its own stores leave, in order.
 use mathlib.Core.Path.{_≡_, refl, ap, sym, _∙_, subst}
-use mathlib.Core.Bool.{Bool, true, false, _&&_}
+use mathlib.Core.Bool.{Bool, true, false}
 use mathlib.Core.List.{List, [], _∷_, _++_}
 use Prim.Native.Nat.{ℕ, zero, suc, _+_, _<_, _≤_}
 use native.Mathlib.Omega.{arith}
-use lib.Dec.{T, eqb, ltb, ltb→lt}
+use lib.Dec.{eqb}
 use lib.ListN.{length, length-append}
 use Rattle.tables.specs.Base.{if, tab}
-use Rattle.tables.specs.Laws.{and-left, and-right, length-tab}
+use Rattle.tables.specs.Laws.{length-tab}
 use Rattle.tables.specs.Questions.{Asked}
-use Rattle.tables.specs.Rule.{Holds, test, sound}
 use Rattle.tables.specs.Store.{store}
 use Rattle.sheets.specs.Sheet.{numberIn, countIn}
 use Rattle.model.specs.declared.sizes.Sizes.{Sizes}
@@ -21,8 +20,8 @@ use Rattle.model.specs.declared.event.Waiting.the-variants.{Join, Turn}
 use Rattle.model.specs.declared.event.Event.{Event}
 use Rattle.model.specs.declared.event.Event.the-variants as Event
 use Rattle.model.specs.Lines.{FREE, RELEASED}
-use Rattle.model.specs.State.{Disk, Memory, Held, State, frames, READING}
-use Rattle.model.specs.Setters.{onDisk, onHeld, onSlots, setStates, setOwners, counted}
+use Rattle.model.specs.State.{Disk, Held, State, frames, READING}
+use Rattle.model.specs.Setters.{onDisk, onHeld, onSlots, setStates, setOwners, raise, counted}
 use Rattle.model.specs.Questions.{questions}
 use Rattle.model.specs.Laws.Ruled.{Ruled, ruled}
 use Rattle.model.specs.Laws.Fit.{Fit, fit}
@@ -31,12 +30,11 @@ use Rattle.model.specs.Accounts
 use Rattle.model.specs.Pages
 use Rattle.model.specs.Writeback
 use Rattle.model.specs.Line
-use Rattle.model.specs.Step.{outcome, memoryLengths, answer, carried, result, step}
+use Rattle.model.specs.Step.{outcome, answer, carried, result, step}
 use Rattle.model.specs.Import
 use Rattle.model.specs.Import.{Sheet, sheetOf, storeRecord, storeSlot, imported, importAnswer, import}
 use Rattle.model.specs.Stores as S
-use Rattle.model.specs.Stores.{Call, stores, byAnswer, made, first, allOf}
-use Rattle.model.specs.Acts.{World, cuttingIn, fedPart, part, allowed}
+use Rattle.model.specs.Stores.{stores, byAnswer, made, first, allOf}
 use Rattle.invariant.proofs.Cases.{fault-by, claim-by}
 use Rattle.invariant.proofs.LineKept.{by-turn}
 use Rattle.invariant.proofs.Kept.{asked-all}
@@ -128,25 +126,26 @@ module _ (z : Sizes) (st : State) (s q n : ℕ) (b : List ℕ) where
   abbrev all : List (Disk → Disk)
   all = stores z st (S.importing s q n b)
 
-  -- the first k are those of the first k records
-  pub first-made : (k : ℕ) → k ≤ countIn b → first k all (st .disk) ≡ Import.made z st s q n h k (st .disk)
-  unfolding stores Import.made
-  first-made zero i = unfold first in refl
+  -- the first is the new highest number, the next k are those of the first k records
+  pub first-made : (k : ℕ) → k ≤ countIn b → first (suc k) all (st .disk) ≡ Import.made z st s q n h k (raise n (st .disk))
+  unfolding stores first Import.made
+  first-made zero i = refl
   first-made (suc k) i =
-      first-split k (storeRecord z st s q n h) (countIn b) 0 (storeSlot z st s q n h ∷ []) (st .disk) i
-      ∙ ap (λ (j : ℕ). storeRecord z st s q n h j (first k all (st .disk))) (omega arith)
+      first-split k (storeRecord z st s q n h) (countIn b) 0 (storeSlot z st s q n h ∷ []) (raise n (st .disk)) i
+      ∙ ap (λ (j : ℕ). storeRecord z st s q n h j (first (suc k) all (st .disk))) (omega arith)
       ∙ ap (storeRecord z st s q n h k) (first-made k (omega (arith, i)))
 
-  pub stores-long : length all ≡ suc (countIn b)
+  pub stores-long : length all ≡ suc (suc (countIn b))
   unfolding stores
-  stores-long = length-append (tab (countIn b) (storeRecord z st s q n h) 0) (storeSlot z st s q n h ∷ []) ∙ omega (arith, length-tab (countIn b) (storeRecord z st s q n h) 0)
+  stores-long = ap suc (length-append (tab (countIn b) (storeRecord z st s q n h) 0) (storeSlot z st s q n h ∷ []) ∙ omega (arith, length-tab (countIn b) (storeRecord z st s q n h) 0))
 
-  last-one : first (suc (countIn b)) all (st .disk) ≡ storeSlot z st s q n h (first (countIn b) all (st .disk))
-  unfolding stores
+  last-one : first (suc (suc (countIn b))) all (st .disk) ≡ storeSlot z st s q n h (first (suc (countIn b)) all (st .disk))
+  unfolding stores first
   last-one =
       let fs : List (Disk → Disk) = tab (countIn b) (storeRecord z st s q n h) 0 in
       let g : Disk → Disk = storeSlot z st s q n h in
-      subst (λ (k : ℕ). first (suc k) (fs ++ g ∷ []) (st .disk) ≡ g (first k (fs ++ g ∷ []) (st .disk))) (length-tab (countIn b) (storeRecord z st s q n h) 0) (first-last fs g (st .disk))
+      let d : Disk = raise n (st .disk) in
+      subst (λ (k : ℕ). first (suc k) (fs ++ g ∷ []) d ≡ g (first k (fs ++ g ∷ []) d)) (length-tab (countIn b) (storeRecord z st s q n h) 0) (first-last fs g d)
 
   whole : imported z st s q n h .disk ≡ allOf all (st .disk)
   unfolding imported counted
@@ -179,68 +178,3 @@ pub each-after : (P : Disk → Type 0) (f : ℕ → Disk → Disk) (g : Disk →
 unfolding tab
 each-after P f g k l zero i d h = (l d h, tt)
 each-after P f g k l (suc n) i d h = (k i d h, each-after P f g k l n (suc i) (f i d) (k i d h))
-
--- no event has more than one store
-one-store : (z : Sizes) (st : State) (e : Event) → length (stores z st (S.event e)) ≤ 1
-unfolding stores
-one-store z st (Event.Design (Create s q n)) = omega arith
-one-store z st (Event.Design (Delete s)) = omega arith
-one-store z st (Event.Design (Activate s)) = omega arith
-one-store z st (Event.Design (Deactivate s)) = omega arith
-one-store z st (Event.Account (Limit q n)) = omega arith
-one-store z st (Event.Account (Move g t m)) = omega arith
-one-store z st (Event.Page e) = omega arith
-one-store z st (Event.Writeback Claim) = omega arith
-one-store z st (Event.Writeback (Truncate s k)) = omega arith
-one-store z st (Event.Writeback (Update s)) = omega arith
-one-store z st (Event.Writeback (PageDone f good)) = short (eqb (frames st .frame f .transfer) READING) (eqb good 1)
-  where
-    short : (a b : Bool) → length (if a [] (if b (Writeback.storeFrame z st f ∷ []) [])) ≤ 1
-    short true b = omega arith
-    short false true = omega arith
-    short false false = omega arith
-one-store z st (Event.Writeback (MapDone s good)) = short (eqb good 1)
-  where
-    short : (b : Bool) → length (if b (Writeback.storeImage z st s ∷ []) []) ≤ 1
-    short true = omega arith
-    short false = omega arith
-one-store z st (Event.Waiting e) = omega arith
-
--- a cut inside a call that a list allows
-pub record Inside (z : Sizes) (w : World) (c : Call) (k : ℕ) (junk : Memory) : Type 0 where
-  pub up : T (w .up)
-  pub before : k < length (made z (w .state) c)
-  pub lengths : Holds (memoryLengths z junk)
-
-pub inside : (z : Sizes) (w : World) (c : Call) (k : ℕ) (writes updates : ℕ → Bool) (junk : Memory) → T (allowed z w (cuttingIn c k writes updates junk)) → Inside z w c k junk
-unfolding allowed
-inside z w c k writes updates junk t =
-    let b : Bool = ltb k (length (made z (w .state) c)) in
-    let m : Bool = test (memoryLengths z junk) in
-    let u = and-right (w .up) (b && m) t in
-    record { up = and-left (w .up) (b && m) t; before = ltb→lt k (length (made z (w .state) c)) (and-left b m u); lengths = sound (memoryLengths z junk) (and-right b m u) }
-
--- before an event's last store nothing is stored: the world is as before the call
-pub part-same : (z : Sizes) (w : World) (e : Event) (k : ℕ) (junk : Memory) → Inside z w (S.event e) k junk → part z w (S.event e) k ≡ w
-unfolding part made fedPart
-part-same z w e k junk i =
-    let none : k ≡ 0 = omega (arith, i .before, short (S.answered z (w .state) (S.event e)) (stores z (w .state) (S.event e)) (one-store z (w .state) e)) in
-    rw none (unfold first in refl)
-  where
-    short : (n : ℕ) (fs : List (Disk → Disk)) → length fs ≤ 1 → length (byAnswer n fs) ≤ 1
-    short zero fs h = h
-    short (suc n) fs h = omega arith
-
--- in the midst of an import it was not refused, and its first k records are stored
-pub part-import : (z : Sizes) (w : World) (s q n : ℕ) (b : List ℕ) (k : ℕ) (junk : Memory) → Inside z w (S.importing s q n b) k junk
-    → (importAnswer z (w .state) s q n b ≡ 0) × (k ≤ countIn b) × (part z w (S.importing s q n b) k .state ≡ onDisk (Import.made z (w .state) s q n (sheetOf b) k) (w .state))
-unfolding part made S.answered
-part-import z w s q n b k junk i = go (importAnswer z (w .state) s q n b) refl (i .before)
-  where
-    st : State
-    st = w .state
-
-    go : (m : ℕ) → importAnswer z st s q n b ≡ m → k < length (byAnswer m (stores z st (S.importing s q n b)))
-        → (importAnswer z st s q n b ≡ 0) × (k ≤ countIn b) × (onDisk (first k (byAnswer m (stores z st (S.importing s q n b)))) st ≡ onDisk (Import.made z st s q n (sheetOf b) k) st)
-    go zero e l = let less : k ≤ countIn b = omega (arith, l, stores-long z st s q n b) in (e, less, ap (λ (d : Disk). record { disk = d; memory = st .memory }) (first-made z st s q n b k less))
-    go (suc m) e l = absurd (omega (arith, l))

@@ -21,7 +21,7 @@ use Rattle.model.specs.Lines.{RELEASED, LEAVING}
 use Rattle.model.specs.Sizes.{sizesFit}
 use Rattle.model.specs.State.{Disk, Memory, State, files}
 use Rattle.model.specs.Rules.{lower, diskRules}
-use Rattle.model.specs.Setters.{counted}
+use Rattle.model.specs.Setters.{onDisk, raise, counted}
 use Rattle.model.specs.Questions.{questions}
 use Rattle.model.specs.Laws.Ruled.{OnDisk, Ruled, ruled, disk-ruled}
 use Rattle.model.specs.Laws.Fit.{Fit, Within, within, fit}
@@ -86,8 +86,8 @@ module _ (z : Sizes) where
       go (suc n) h = t
 
   restart-tidy : (w : World) → Safe z w → Tidied z (restart z (w .state) .left)
-  unfolding restart
-  restart-tidy w s = rw (restart-answer z (w .state) (safe-fit z w s) (s .rules)) (restarted-tidy z (within z (s .sizes)) (w .state) (disk-ruled z (w .state) (s .rules)))
+  unfolding restart R.raised
+  restart-tidy w s = rw (restart-answer z (w .state) (safe-fit z w s) (s .rules)) (restarted-tidy z (within z (s .sizes)) (onDisk (raise (R.highestOf (w .state .disk) (z .slots))) (w .state)) (disk-ruled z (w .state) (s .rules)))
 
   act-tidy : (w : World) (a : Act) → Safe z w → (T (w .up) → Tidied z (w .state)) → T (act z w a .up) → Tidied z (act z w a .state)
   unfolding act

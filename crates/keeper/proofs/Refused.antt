@@ -16,7 +16,7 @@ use Rattle.model.specs.State.{State}
 use Rattle.model.specs.Rules.{diskRules, allRules}
 use Rattle.model.specs.Questions.{lookQuestions, importQuestions, exportQuestions}
 use Rattle.model.specs.Pages
-use Rattle.model.specs.Restart.{restarted}
+use Rattle.model.specs.Restart.{raised, restarted}
 use Rattle.model.specs.Step.{Outcome, outcome, allFit, restart, look}
 use Rattle.model.specs.Laws.Own.{refusal, first-no, step-unfit}
 use Rattle.model.specs.Calls.{unknown, stepOf, apply}
@@ -36,7 +36,7 @@ apply-refuses z request st h = go (decoded request)
 
 pub restart-refuses : (z : Sizes) → Refuses z (λ (st : State). restart z st)
 unfolding restart
-restart-refuses z st h = ap (λ (k : ℕ). outcome k 0 st (restarted z (st .disk))) (first-no 1 (allFit z st) (ask 2 (diskRules z st) none) h)
+restart-refuses z st h = ap (λ (k : ℕ). outcome k 0 st (restarted z (raised z (st .disk)))) (first-no 1 (allFit z st) (ask 2 (diskRules z st) none) h)
 
 -- what a refused look answers
 abbrev pub noWords : Outcome (List ℕ)

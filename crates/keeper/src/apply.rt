@@ -27,6 +27,7 @@ pub extern "C" fn keeper_apply(
     maps: &mut [u16],
     limits: &mut [u16],
     parents: &[u16],
+    highest: &mut [u32],
     frame_words: &mut [u32],
     free_queue: &mut [u16],
     removal_list: &mut [u16],
@@ -41,10 +42,10 @@ pub extern "C" fn keeper_apply(
     used: &mut [u16],
 ) -> Answer
     ensures { λ r. ⌜ leaves r
-        (allLeft (now (frames .exit)) (now (pool .exit)) records numbers accounts maps limits parents
+        (allLeft (now (frames .exit)) (now (pool .exit)) records numbers accounts maps limits parents highest
         «frame_words» «free_queue» «removal_list» addresses states owners «free_map» active updating images line used)
         ≡ apply sizes
-        (allEntered (now (frames .entry)) (now (pool .entry)) records numbers accounts maps limits parents
+        (allEntered (now (frames .entry)) (now (pool .entry)) records numbers accounts maps limits parents highest
         «frame_words» «free_queue» «removal_list» addresses states owners «free_map» active updating images line used) request ⌝ }
 {
     let lent = frames.len();
@@ -62,6 +63,7 @@ pub extern "C" fn keeper_apply(
         maps,
         limits,
         parents,
+        highest,
         frame_words,
         free_queue,
         removal_list,

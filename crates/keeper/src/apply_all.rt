@@ -25,6 +25,7 @@ pub extern "C" fn keeper_apply_all(
     maps: &mut [u16],
     limits: &mut [u16],
     parents: &[u16],
+    highest: &mut [u32],
     frame_words: &mut [u32],
     free_queue: &mut [u16],
     removal_list: &mut [u16],
@@ -41,11 +42,11 @@ pub extern "C" fn keeper_apply_all(
     ensures { λ r. ⌜ record {
       answer = r;
       answers = now (answers .exit);
-      left = allLeft (now (frames .exit)) (now (pool .exit)) records numbers accounts maps limits parents
+      left = allLeft (now (frames .exit)) (now (pool .exit)) records numbers accounts maps limits parents highest
           «frame_words» «free_queue» «removal_list» addresses states owners «free_map» active updating images line used;
     }
         ≡ applyAll sizes (now (requests .entry)) (now (answers .entry))
-        (allEntered (now (frames .entry)) (now (pool .entry)) records numbers accounts maps limits parents
+        (allEntered (now (frames .entry)) (now (pool .entry)) records numbers accounts maps limits parents highest
         «frame_words» «free_queue» «removal_list» addresses states owners «free_map» active updating images line used) ⌝ }
 {
     let lent = frames.len();
@@ -64,6 +65,7 @@ pub extern "C" fn keeper_apply_all(
         maps,
         limits,
         parents,
+        highest,
         frame_words,
         free_queue,
         removal_list,

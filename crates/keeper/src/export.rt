@@ -24,6 +24,7 @@ pub extern "C" fn keeper_export(
     maps: &[u16],
     limits: &[u16],
     parents: &[u16],
+    highest: &[u32],
     frame_words: &[u32],
     free_queue: &[u16],
     removal_list: &[u16],
@@ -38,7 +39,7 @@ pub extern "C" fn keeper_export(
     used: &[u16],
 ) -> Answer
     ensures { λ r. ⌜ handed r (now (sheet .exit)) ≡ export sizes
-        (allEntered (now (frames .entry)) pool records numbers accounts maps limits parents
+        (allEntered (now (frames .entry)) pool records numbers accounts maps limits parents highest
         «frame_words» «free_queue» «removal_list» addresses states owners «free_map» active updating images line used)
         slot (now (sheet .entry)) ⌝ }
 {
@@ -57,6 +58,7 @@ pub extern "C" fn keeper_export(
         maps,
         limits,
         parents,
+        highest,
         frame_words,
         free_queue,
         removal_list,

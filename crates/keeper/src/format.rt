@@ -17,9 +17,10 @@ pub extern "C" fn keeper_format(
     maps: &mut [u16],
     limits: &mut [u16],
     parents: &mut [u16],
+    highest: &mut [u32],
 ) -> Answer
-    ensures { λ r. ⌜ record { answer = r; left = diskOf (now (records .exit)) (now (numbers .exit)) (now (accounts .exit)) (now (maps .exit)) (now (limits .exit)) (now (parents .exit)) }
-        ≡ format sizes (now (wanted .entry)) (diskOf (now (records .entry)) (now (numbers .entry)) (now (accounts .entry)) (now (maps .entry)) (now (limits .entry)) (now (parents .entry))) ⌝ }
+    ensures { λ r. ⌜ record { answer = r; left = diskOf (now (records .exit)) (now (numbers .exit)) (now (accounts .exit)) (now (maps .exit)) (now (limits .exit)) (now (parents .exit)) (now (highest .exit)) }
+        ≡ format sizes (now (wanted .entry)) (diskOf (now (records .entry)) (now (numbers .entry)) (now (accounts .entry)) (now (maps .entry)) (now (limits .entry)) (now (parents .entry)) (now (highest .entry))) ⌝ }
 {
     calls::format(
         sizes,
@@ -30,5 +31,6 @@ pub extern "C" fn keeper_format(
         maps,
         limits,
         parents,
+        highest,
     )
 }

@@ -27,6 +27,7 @@ pub extern "C" fn keeper_import(
     maps: &mut [u16],
     limits: &[u16],
     parents: &[u16],
+    highest: &mut [u32],
     frame_words: &[u32],
     free_queue: &[u16],
     removal_list: &[u16],
@@ -41,10 +42,10 @@ pub extern "C" fn keeper_import(
     used: &mut [u16],
 ) -> Answer
     ensures { λ r. ⌜ leaves r
-        (allLeft (now (frames .exit)) (now (pool .exit)) records numbers accounts maps limits parents
+        (allLeft (now (frames .exit)) (now (pool .exit)) records numbers accounts maps limits parents highest
         «frame_words» «free_queue» «removal_list» addresses states owners «free_map» active updating images line used)
         ≡ import sizes
-        (allEntered (now (frames .entry)) (now (pool .entry)) records numbers accounts maps limits parents
+        (allEntered (now (frames .entry)) (now (pool .entry)) records numbers accounts maps limits parents highest
         «frame_words» «free_queue» «removal_list» addresses states owners «free_map» active updating images line used)
         slot account number (now (sheet .entry)) ⌝ }
 {
@@ -66,6 +67,7 @@ pub extern "C" fn keeper_import(
         maps,
         limits,
         parents,
+        highest,
         frame_words,
         free_queue,
         removal_list,

@@ -25,6 +25,7 @@ pub fn page_look<'a>(
     maps: &[u16],
     limits: &[u16],
     parents: &[u16],
+    highest: &[u32],
     frame_words: &'a [u32],
     free_queue: &[u16],
     removal_list: &[u16],
@@ -38,7 +39,7 @@ pub fn page_look<'a>(
     line: &[u16],
     used: &[u16],
 ) -> &'a [u32]
-    ensures { λ r. ⌜ (let st = allEntered (now (frames .entry)) pool records numbers accounts maps limits parents
+    ensures { λ r. ⌜ (let st = allEntered (now (frames .entry)) pool records numbers accounts maps limits parents highest
         «frame_words» «free_queue» «removal_list» addresses states owners «free_map» active updating images line used in
         (now r ≡ look sizes st slot page .left)
         × ((now (refusal .exit) ≡ look sizes st slot page .answer .refusal)
@@ -60,6 +61,7 @@ pub fn page_look<'a>(
         maps,
         limits,
         parents,
+        highest,
         frame_words,
         free_queue,
         removal_list,
@@ -90,6 +92,7 @@ pub extern "C" fn keeper_page_look(
     maps: &[u16],
     limits: &[u16],
     parents: &[u16],
+    highest: &[u32],
     frame_words: &[u32],
     free_queue: &[u16],
     removal_list: &[u16],
@@ -104,7 +107,7 @@ pub extern "C" fn keeper_page_look(
     used: &[u16],
 ) -> Part
     ensures { λ r. ⌜ r ≡ partOf sizes
-        (allEntered (now (frames .entry)) pool records numbers accounts maps limits parents
+        (allEntered (now (frames .entry)) pool records numbers accounts maps limits parents highest
         «frame_words» «free_queue» «removal_list» addresses states owners «free_map» active updating images line used) slot page ⌝ }
 {
     let lent = frames.len();
@@ -122,6 +125,7 @@ pub extern "C" fn keeper_page_look(
         maps,
         limits,
         parents,
+        highest,
         frame_words,
         free_queue,
         removal_list,

@@ -16,10 +16,11 @@ pub extern "C" fn keeper_mend(
     maps: &mut [u16],
     limits: &[u16],
     parents: &[u16],
+    highest: &[u32],
     changes: &mut [u32],
 ) -> Answer
-    ensures { λ r. ⌜ record { answer = r; left = lentOf (now (records .entry)) (now (numbers .exit)) (now (accounts .exit)) (now (maps .exit)) (now (limits .entry)) (now (parents .entry)) (now (changes .exit)) }
-        ≡ mend sizes (lentOf (now (records .entry)) (now (numbers .entry)) (now (accounts .entry)) (now (maps .entry)) (now (limits .entry)) (now (parents .entry)) (now (changes .entry))) ⌝ }
+    ensures { λ r. ⌜ record { answer = r; left = lentOf (now (records .entry)) (now (numbers .exit)) (now (accounts .exit)) (now (maps .exit)) (now (limits .entry)) (now (parents .entry)) (now (highest .entry)) (now (changes .exit)) }
+        ≡ mend sizes (lentOf (now (records .entry)) (now (numbers .entry)) (now (accounts .entry)) (now (maps .entry)) (now (limits .entry)) (now (parents .entry)) (now (highest .entry)) (now (changes .entry))) ⌝ }
 {
     mending::mend(
         sizes,
@@ -29,6 +30,7 @@ pub extern "C" fn keeper_mend(
         maps,
         limits,
         parents,
+        highest,
         changes,
     )
 }

@@ -11,7 +11,7 @@ use model::frame::Frame;
 use model::frame::Pool;
 use model::sizes::Sizes;
 
-// Restart, from the disk part alone: memory may hold anything.
+// Restart, from the disk part alone: memory may hold anything. Its one store to the disk part is the highest number.
 // Shut out: a restart that leaves the frames as it finds them; one that leaves the hand where it was.
 #[no_mangle]
 pub extern "C" fn keeper_restart(
@@ -24,6 +24,7 @@ pub extern "C" fn keeper_restart(
     maps: &[u16],
     limits: &[u16],
     parents: &[u16],
+    highest: &mut [u32],
     frame_words: &mut [u32],
     free_queue: &mut [u16],
     removal_list: &mut [u16],
@@ -38,10 +39,10 @@ pub extern "C" fn keeper_restart(
     used: &mut [u16],
 ) -> Answer
     ensures { λ r. ⌜ leaves r
-        (allLeft (now (frames .exit)) (now (pool .exit)) records numbers accounts maps limits parents
+        (allLeft (now (frames .exit)) (now (pool .exit)) records numbers accounts maps limits parents highest
         «frame_words» «free_queue» «removal_list» addresses states owners «free_map» active updating images line used)
         ≡ restart sizes
-        (allEntered (now (frames .entry)) (now (pool .entry)) records numbers accounts maps limits parents
+        (allEntered (now (frames .entry)) (now (pool .entry)) records numbers accounts maps limits parents highest
         «frame_words» «free_queue» «removal_list» addresses states owners «free_map» active updating images line used) ⌝ }
 {
     let lent = frames.len();
@@ -58,6 +59,7 @@ pub extern "C" fn keeper_restart(
         maps,
         limits,
         parents,
+        highest,
         frame_words,
         free_queue,
         removal_list,

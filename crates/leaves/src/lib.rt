@@ -5,6 +5,7 @@ pub mod cells; // one entry
 pub mod close; // the marks close to a number
 pub mod marks; // one bit a number
 pub mod near; // the choice of a record near another
+pub mod numbers; // the stores that give a unique number
 pub mod packed; // frames, packed in a lent table
 pub mod payer; // who pays
 pub mod pool; // the choice of a free record

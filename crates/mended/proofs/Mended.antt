@@ -17,14 +17,16 @@ use Rattle.model.specs.Step.{outcome, diskLengths, memoryLengths}
 use Rattle.model.specs.Acts.{Act, legal, run, start}
 use Rattle.model.specs.Demand3.{After}
 use Rattle.model.specs.FromPack.{fromPack}
+use Rattle.model.specs.OneNumber.{oneNumber, fromPackByNumber}
 use Rattle.model.specs.Terms.{allAnswered}
 use Rattle.model.specs.Laws.Fit.{within}
 use Rattle.model.specs.Laws.Unasked.{not-asked}
 use Rattle.invariant.proofs.Never.{never-2-from-pack}
 use Rattle.crash.proofs.Demand3.{demand3-from-pack}
+use Rattle.crash.proofs.OneNumber.{one-number}
 use Rattle.mending.specs.Mend.{Lent, allChanges, packOf, allPlaces, mendAnswer, mendedLent, mend}
-use Rattle.mending.specs.Rules.{mended-rules, mended-lengths, map-once, pack-fit}
-use Rattle.mended.proofs.Refused.{run-still, start-still, still-says}
+use Rattle.mending.specs.Rules.{mended-rules, mended-lengths, map-once, number-once, pack-fit}
+use Rattle.mended.proofs.Refused.{run-still, start-still, still-says, still-one, still-by-number}
 
 -- mending alters no word of a record, no limit and no parent
 pub mend-records : (z : Sizes) (l : Lent) → mend z l .left .disk .records ≡ l .disk .records
@@ -91,6 +93,30 @@ demand3-from-mended z l junk acts e m t = by (test (lower (z .accounts) (at (l .
     by false q = let pack = mend z l .left .disk in
         let k = run-still z pack (λ h. differ (sym (told (lower (z .accounts) (at (l .disk .parents))) (rw (mend-limits z l .1) at h)) ∙ q)) acts (start z pack junk) t (start-still z pack junk) in
         (k .pack-kept, still-says z pack (run z (start z pack junk) acts) k (mended-once z l e))
+
+-- no two slots of it have the same number
+mended-number-once : (z : Sizes) (l : Lent) → mend z l .answer .refusal ≡ 0
+    → (i : ℕ) → i < z .slots → (j : ℕ) → j < z .slots → (r : ℕ) → at (mend z l .left .disk .numbers) i ≡ suc r → at (mend z l .left .disk .numbers) j ≡ suc r → i ≡ j
+unfolding mend
+mended-number-once z l = go (mendAnswer z l) refl
+  where
+    go : (n : ℕ) → mendAnswer z l ≡ n → (let o = outcome n (length (allChanges z (packOf (l .disk)))) l (mendedLent z l) in o .answer .refusal ≡ 0
+        → (i : ℕ) → i < z .slots → (j : ℕ) → j < z .slots → (r : ℕ) → at (o .left .disk .numbers) i ≡ suc r → at (o .left .disk .numbers) j ≡ suc r → i ≡ j)
+    go zero e h = let a = all-yes 0 (ask 1 (sizesFit z and diskLengths z (l .disk)) (ask 24 (non (below (length (l .list)) (4 * allPlaces z))) none)) tt e in
+        number-once z (packOf (l .disk)) (pack-fit z (l .disk) (a .0 .0) (a .0 .1)) (within z (a .0 .0) .accounts)
+    go (suc n) e h = absurd (omega (arith, h))
+
+-- "also from a mended or sound older pack, no two designs have the same number, and same design there means same number", whatever its parents
+pub one-number-from-mended : (z : Sizes) (l : Lent) (junk : Memory) (acts : List Act) → mend z l .answer .refusal ≡ 0 → Holds (memoryLengths z junk)
+    → (let pack = mend z l .left .disk in T (legal z (start z pack junk) acts) → (let w = run z (start z pack junk) acts in Holds (oneNumber w) × Holds (fromPackByNumber z w)))
+one-number-from-mended z l junk acts e m t = by (test (lower (z .accounts) (at (l .disk .parents)))) refl
+  where
+    by : (b : Bool) → test (lower (z .accounts) (at (l .disk .parents))) ≡ b → (let w = run z (start z (mend z l .left .disk) junk) acts in Holds (oneNumber w) × Holds (fromPackByNumber z w))
+    by true q = let s = mended-sound z l (sound (lower (z .accounts) (at (l .disk .parents))) (rw q tt)) e in one-number z (mend z l .left .disk) junk acts (s .sizes) (s .lengths) m (s .rules junk) t
+    by false q = let pack = mend z l .left .disk in
+        let k = run-still z pack (λ h. differ (sym (told (lower (z .accounts) (at (l .disk .parents))) (rw (mend-limits z l .1) at h)) ∙ q)) acts (start z pack junk) t (start-still z pack junk) in
+        let w = run z (start z pack junk) acts in
+        (still-one z pack w k (mended-number-once z l e), still-by-number z pack w k (mended-once z l e))
 
 -- no event and no page look of such a list is answered 1 or 2, and no restart is refused
 pub never-2-from-mended : (z : Sizes) (l : Lent) (junk : Memory) (acts : List Act) → Holds (lower (z .accounts) (at (l .disk .parents))) → mend z l .answer .refusal ≡ 0 → Holds (memoryLengths z junk)

@@ -84,7 +84,7 @@ sound = pack (7 ∷ 0 ∷ 8 ∷ []) (1 ∷ 0 ∷ 0 ∷ []) (3 ∷ 1 ∷ 0 ∷ 0 
 
 -- ── the call: a list of n places, all of them 9 ──
 abbrev lent : Pack → ℕ → Lent
-lent d n = record { disk = record { records = 7 ∷ 8 ∷ 9 ∷ []; numbers = d .numbers; accounts = d .accounts; maps = d .maps; limits = 5 ∷ 6 ∷ []; parents = 0 ∷ 0 ∷ [] }; list = replicate n 9 }
+lent d n = record { disk = record { records = 7 ∷ 8 ∷ 9 ∷ []; numbers = d .numbers; accounts = d .accounts; maps = d .maps; limits = 5 ∷ 6 ∷ []; parents = 0 ∷ 0 ∷ []; highest = 0 ∷ [] }; list = replicate n 9 }
 
 -- the answer, and the first k numbers of the list
 unfoldable pub says : Sizes → Lent → ℕ → List ℕ

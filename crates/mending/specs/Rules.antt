@@ -13,7 +13,7 @@ use Rattle.model.specs.declared.sizes.Sizes.{Sizes}
 use Rattle.model.specs.State.{Disk, Memory, State, allPages, pageOf, slotOf}
 use Rattle.model.specs.Rules.{lower, diskRules}
 use Rattle.model.specs.Laws.Ruled.{disk-ruled, rules-disk}
-use Rattle.model.specs.Restart.{restarted}
+use Rattle.model.specs.Restart.{raised, restarted}
 use Rattle.model.specs.Laws.Own.{refusal, first-yes, first-no}
 use Rattle.model.specs.Step.{outcome, diskLengths, memoryLengths, allFit, restart}
 use Rattle.model.specs.Sizes.{sizesFit}
@@ -182,20 +182,20 @@ module _ (z : Sizes) (d : Disk) (fits : Holds (sizesFit z)) (long : Holds (diskL
   -- .. and the lengths
   pub mended-lengths : Holds (diskLengths z (withPack d (mended z (packOf d))))
   mended-lengths = let g = after-fit z (packOf d) 5 f in let o = disk-fit z d long in
-      fit-disk z (withPack d (mended z (packOf d))) (record { records = o .records; numbers = g .numbers; accounts = g .accounts; maps = g .maps; limits = o .limits; parents = o .parents })
+      fit-disk z (withPack d (mended z (packOf d))) (record { records = o .records; numbers = g .numbers; accounts = g .accounts; maps = g .maps; limits = o .limits; parents = o .parents; highest = o .highest })
 
   -- .. so restart is carried out, whatever memory holds
-  pub restarts : Holds low → (m : Memory) → Holds (memoryLengths z m) → restart z (stateWith d (mended z (packOf d)) m) ≡ refusal 0 (restarted z (withPack d (mended z (packOf d))))
+  pub restarts : Holds low → (m : Memory) → Holds (memoryLengths z m) → restart z (stateWith d (mended z (packOf d)) m) ≡ refusal 0 (restarted z (raised z (withPack d (mended z (packOf d)))))
   unfolding restart allFit firstNo
   restarts h m l = let st = stateWith d (mended z (packOf d)) m in
-      ap (λ (n : ℕ). outcome n 0 st (restarted z (st .disk)))
+      ap (λ (n : ℕ). outcome n 0 st (restarted z (raised z (st .disk))))
       (first-yes 1 (allFit z st) (ask 2 (diskRules z st) none) (fits, (mended-lengths, l)) ∙ first-yes 2 (diskRules z st) none (mended-rules h m))
 
   -- "A parent that is not lower gets 2 where 2 is asked, even on a mended pack."
   pub not-lower : ¬ (Holds low) → (m : Memory) → Holds (memoryLengths z m) → (let st = stateWith d (mended z (packOf d)) m in restart z st ≡ refusal 2 st)
   unfolding restart allFit firstNo
   not-lower n m l = let st = stateWith d (mended z (packOf d)) m in
-      ap (λ (k : ℕ). outcome k 0 st (restarted z (st .disk)))
+      ap (λ (k : ℕ). outcome k 0 st (restarted z (raised z (st .disk))))
       (first-yes 1 (allFit z st) (ask 2 (diskRules z st) none) (fits, (mended-lengths, l)) ∙ first-no 2 (diskRules z st) none (λ h. n (disk-ruled z st h .parent-lower)))
 
 -- "older packs have 0 there": these are lower

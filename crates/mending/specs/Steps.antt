@@ -20,8 +20,8 @@ use Rattle.mending.specs.Mend.{Pack, Lent, Place, number, account, entry
 use Rattle.mending.specs.Places.{PackFit, place-of, place-account}
 use Rattle.mending.specs.Passes.{packed, filled, noted, Lost, listedTo, Standing, ofEntry, zeroed, standing-none, standing-skip, place-turn, Agrees, RowDone}
 
-abbrev pub lentOf : List ℕ → List ℕ → List ℕ → List ℕ → List ℕ → List ℕ → List ℕ → Lent
-lentOf records numbers accounts maps limits parents list = record { disk = diskOf records numbers accounts maps limits parents; list = list }
+abbrev pub lentOf : List ℕ → List ℕ → List ℕ → List ℕ → List ℕ → List ℕ → List ℕ → List ℕ → Lent
+lentOf records numbers accounts maps limits parents highest list = record { disk = diskOf records numbers accounts maps limits parents highest; list = list }
 
 abbrev pub filledPack : Pack → ℕ
 filledPack d = filled (d .numbers) + (filled (d .accounts) + filled (d .maps))

@@ -28,12 +28,22 @@ pub fn mend(
     maps: &mut [u16],
     limits: &[u16],
     parents: &[u16],
+    highest: &[u32],
     changes: &mut [u32],
 ) -> Answer
-    ensures { λ r. ⌜ record { answer = r; left = lentOf (now (records .entry)) (now (numbers .exit)) (now (accounts .exit)) (now (maps .exit)) (now (limits .entry)) (now (parents .entry)) (now (changes .exit)) }
-        ≡ Mend.mend sizes (lentOf (now (records .entry)) (now (numbers .entry)) (now (accounts .entry)) (now (maps .entry)) (now (limits .entry)) (now (parents .entry)) (now (changes .entry))) ⌝ }
+    ensures { λ r. ⌜ record { answer = r; left = lentOf (now (records .entry)) (now (numbers .exit)) (now (accounts .exit)) (now (maps .exit)) (now (limits .entry)) (now (parents .entry)) (now (highest .entry)) (now (changes .exit)) }
+        ≡ Mend.mend sizes (lentOf (now (records .entry)) (now (numbers .entry)) (now (accounts .entry)) (now (maps .entry)) (now (limits .entry)) (now (parents .entry)) (now (highest .entry)) (now (changes .entry))) ⌝ }
 {
-    if disk_fit(sizes, records, numbers, accounts, maps, limits, parents) {} else {
+    if disk_fit(
+        sizes,
+        records,
+        numbers,
+        accounts,
+        maps,
+        limits,
+        parents,
+        highest,
+    ) {} else {
         return Answer {
             refusal: 1,
             result: 0,

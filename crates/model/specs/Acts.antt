@@ -57,7 +57,7 @@ fedTurn z st (sendsAway n) = L.nothing
 
 -- what an event that is carried out feeds the ledger
 unfoldable pub fed : Sizes → State → Event → L.Fed
-fed z st (Event.Design (Create s q n)) = L.created s
+fed z st (Event.Design (Create s q n)) = L.created s n
 fed z st (Event.Design (Delete s)) = L.deleted s
 fed z st (Event.Design (Activate s)) = L.activated s (st .disk)
 fed z st (Event.Design (Deactivate s)) = L.deactivated s
@@ -75,19 +75,20 @@ fed z st (Event.Writeback (MapDone s good)) = L.mapEnd s good
 fed z st (Event.Waiting (Join s p)) = L.nothing
 fed z st (Event.Waiting Turn) = fedTurn z st (turning z st)
 
--- what the first k stores of an import feed, while the last is not made
-unfoldable pub partly : Sizes → State → ℕ → Sheet → ℕ → L.Ledger → L.Ledger
-partly z st s h zero l = L.note z l L.importBegun
-partly z st s h (suc k) l = L.note z (partly z st s h k l) (L.importedPage (h .page k) (taken z st s k) (h .word k))
+-- what the first k records that an import stores feed, once its number is the highest; while the last store is not made
+unfoldable pub partly : Sizes → State → ℕ → ℕ → Sheet → ℕ → L.Ledger → L.Ledger
+partly z st s n h zero l = L.note z l (L.importBegun n)
+partly z st s n h (suc k) l = L.note z (partly z st s n h k l) (L.importedPage (h .page k) (taken z st s k) (h .word k))
 
 -- and all of them
-unfoldable pub wholly : Sizes → State → ℕ → Sheet → L.Ledger → L.Ledger
-wholly z st s h l = L.note z (partly z st s h (h .count) l) (L.importedSlot s (has h) (said h))
+unfoldable pub wholly : Sizes → State → ℕ → ℕ → Sheet → L.Ledger → L.Ledger
+wholly z st s n h l = L.note z (partly z st s n h (h .count) l) (L.importedSlot s (has h) (said h))
 
--- what a call's stores feed before its last one: an event's nothing
+-- what a call's stores feed before its last one: an event's nothing, an import's nothing before the first
 unfoldable pub fedPart : Sizes → State → Call → ℕ → L.Ledger → L.Ledger
 fedPart z st (S.event e) k l = l
-fedPart z st (S.importing s q n b) k l = partly z st s (sheetOf b) k l
+fedPart z st (S.importing s q n b) zero l = l
+fedPart z st (S.importing s q n b) (suc k) l = partly z st s n (sheetOf b) k l
 
 -- ── a cut ──
 -- Each open write's record and open update's map is then old or new, whole, in any mix; the rest of the disk stays.
@@ -131,7 +132,7 @@ module _ (z : Sizes) where
   -- a page look leaves all as it was, and is no event: the ledger is fed nothing
   act w (looking s p) = w
   act w (importing s q n b) = let o = import z (w .state) s q n b in
-      record { up = w .up; state = o .left; ledger = if (eqb (o .answer .refusal) 0) (wholly z (w .state) s (sheetOf b) (w .ledger)) (w .ledger) }
+      record { up = w .up; state = o .left; ledger = if (eqb (o .answer .refusal) 0) (wholly z (w .state) s n (sheetOf b) (w .ledger)) (w .ledger) }
   -- so does an export
   act w (exporting s buffer) = w
   act w restarting = let o = restart z (w .state) in record { up = if (eqb (o .answer .refusal) 0) true (w .up); state = o .left; ledger = noted o (L.restarted (w .state .disk)) (w .ledger) }

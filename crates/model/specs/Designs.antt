@@ -7,13 +7,13 @@ use Rattle.tables.specs.Store.{store}
 use Rattle.model.specs.declared.sizes.Sizes.{Sizes}
 use Rattle.model.specs.Lines.{FILED, LIVE}
 use Rattle.model.specs.State.{State}
-use Rattle.model.specs.Setters.{onDisk, onHeld, onSlots, setNumbers, setAccounts, setAddresses, setStates, setActive, counted}
+use Rattle.model.specs.Setters.{onDisk, onHeld, onSlots, setNumbers, setAccounts, setAddresses, setStates, setActive, raise, counted}
 use Rattle.model.specs.Parts.{ofSlot}
 
 module _ (z : Sizes) (st : State) where
-  -- Create stores number and account in an empty slot.
+  -- Create stores number and account in an empty slot. (02) Create and import store the new highest first of all.
   unfoldable pub create : ℕ → ℕ → ℕ → State
-  create s q n = counted z (onDisk (λ d. setNumbers (set (d .numbers) s n) (setAccounts (set (d .accounts) s q) d)) st)
+  create s q n = counted z (onDisk (λ d. setNumbers (set (d .numbers) s n) (setAccounts (set (d .accounts) s q) (raise n d))) st)
 
   -- Delete empties a slot.
   unfoldable pub delete : ℕ → State

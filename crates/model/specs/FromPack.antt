@@ -25,15 +25,6 @@ module _ (z : Sizes) (w : World) where
   writtenWords = each (allPages z) λ i. named (at (w .state .disk .maps) i) λ r. wroteInto r then (let x = lastInto r (w .ledger .finished) in
       same (x .design) (designOf z w i) and same (x .page) (i % z .pages) and each (z .words) λ k. same (wordAt z (w .state .disk .records) r k) (x .words k))
 
-  -- a page's design is the one that its slot had in the pack
-  abbrev pub asInPack : ℕ → Rule
-  asInPack i = same (designOf z w i) (packDesign (w .ledger .pack) (slotOf z i))
-
-  -- where there is none, the pack listed the record there, for that same design, and the pack's words stand there
-  unfoldable pub packWords : Rule
-  packWords = each (allPages z) λ i. named (at (w .state .disk .maps) i) λ r. non (wroteInto r) then same (at (w .ledger .pack .maps) i) (suc r) and asInPack i
-      and each (z .words) λ k. same (wordAt z (w .state .disk .records) r k) (wordAt z (w .ledger .pack .records) r k)
-
   -- (a page that was live when its design's last finished map update began is listed: `liveListed`)
   -- and where a finished write of it still counts, it reads after a restart, until next written or truncated, as its last write finished before then, or a later finished one
   unfoldable pub writtenReads : Rule
@@ -49,18 +40,36 @@ module _ (z : Sizes) (w : World) where
   abbrev pub updated : ℕ → Rule
   updated i = same (lastUpdateAt z w i .design) (designOf z w i)
 
-  -- until then its map is as at its birth: as the pack has it, or zero
-  unfoldable pub birthMaps : Rule
-  birthMaps = each (allPages z) λ i. non (updated i) then (asInPack i then same (at (w .state .disk .maps) i) (at (w .ledger .pack .maps) i)) and (non (asInPack i) then same (at (w .state .disk .maps) i) 0)
+  -- packed: the design that each slot had in the pack
+  module _ (packed : ℕ → ℕ) where
+    -- a page's design is the one that its slot had in the pack
+    abbrev pub asInPack : ℕ → Rule
+    asInPack i = same (designOf z w i) (packed (slotOf z i))
+
+    -- where no write into a listed record is finished since the start, the pack listed the record there, for that same design, and the pack's words stand there
+    unfoldable pub packWords : Rule
+    packWords = each (allPages z) λ i. named (at (w .state .disk .maps) i) λ r. non (wroteInto r) then same (at (w .ledger .pack .maps) i) (suc r) and asInPack i
+        and each (z .words) λ k. same (wordAt z (w .state .disk .records) r k) (wordAt z (w .ledger .pack .records) r k)
+
+    -- until an update of its design is finished, a page's map entry is as at the design's birth: as the pack has it, or zero
+    unfoldable pub birthMaps : Rule
+    birthMaps = each (allPages z) λ i. non (updated i) then (asInPack i then same (at (w .state .disk .maps) i) (at (w .ledger .pack .maps) i)) and (non (asInPack i) then same (at (w .state .disk .maps) i) 0)
+
+    unfoldable pub fromPacked : Rule
+    fromPacked = inOnePlaceOfMaps z w and writtenWords and packWords and liveListed z w and writtenReads and packReads and birthMaps
+
+  -- each slot's design in the pack, by its birth
+  abbrev pub inPack : ℕ → ℕ
+  inPack = packDesign (w .ledger .pack)
+
+  unfoldable pub fromPack : Rule
+  fromPack = fromPacked inPack
 
   -- Beyond the papers: no page is listed that an update did not find live. A listed page was live when its design's last finished map update began;
   -- or none is finished since the start, and the pack listed the record there, for that same design
   unfoldable pub listedLive : Rule
   listedLive = each (allPages z) λ i. named (at (w .state .disk .maps) i) λ r. is (lastUpdateAt z w i .live (i % z .pages)) or
-      non (updated i) and asInPack i and same (at (w .ledger .pack .maps) i) (suc r)
-
-  unfoldable pub fromPack : Rule
-  fromPack = inOnePlaceOfMaps z w and writtenWords and packWords and liveListed z w and writtenReads and packReads and birthMaps
+      non (updated i) and asInPack inPack i and same (at (w .ledger .pack .maps) i) (suc r)
 
 -- for all sizes within limits, any pack of its lengths that keeps the disk rules, any memory of its lengths, and every legal list of acts; the ledger keeps the pack as it was
 abbrev pub FromPack : Type 0

@@ -12,7 +12,7 @@ use Rattle.sheets.specs.Sheet.{numberIn, countIn, pageIn, wordIn}
 use Rattle.model.specs.declared.sizes.Sizes.{Sizes}
 use Rattle.model.specs.Lines.{FILED}
 use Rattle.model.specs.State.{Disk, State}
-use Rattle.model.specs.Setters.{onDisk, onHeld, setRecords, setNumbers, setAccounts, setMaps, setStates, setOwners, setHand, counted}
+use Rattle.model.specs.Setters.{onDisk, onHeld, setRecords, setNumbers, setAccounts, setMaps, setStates, setOwners, setHand, raise, counted}
 use Rattle.model.specs.Parts.{ofSlot, setPart, picked}
 use Rattle.model.specs.Pool as Pool
 use Rattle.model.specs.Questions.{importQuestions}
@@ -79,7 +79,7 @@ module _ (z : Sizes) (st : State) (s q n : ℕ) (h : Sheet) where
   -- The event runs these steps in order and stores nothing otherwise.
   unfoldable pub imported : State
   imported = let t = taking z st s (h .count) in counted z
-      (onHeld (λ x. setHand (Pool.taken z (t .last) (x .pool) .hand) (setStates (t .states) (setOwners (t .owners) x))) (onDisk (λ d. storeSlot (made (h .count) d)) st))
+      (onHeld (λ x. setHand (Pool.taken z (t .last) (x .pool) .hand) (setStates (t .states) (setOwners (t .owners) x))) (onDisk (λ d. storeSlot (made (h .count) (raise n d))) st))
 
 -- ── the call ──
 module _ (z : Sizes) (st : State) (s q n : ℕ) (b : List ℕ) where
@@ -91,5 +91,5 @@ module _ (z : Sizes) (st : State) (s q n : ℕ) (b : List ℕ) where
   import = outcome importAnswer (numberIn b) st (imported z st s q n (sheetOf b))
 
   -- 29 and 30 come before 18
-  pub import-order : numbers (asked z st (importQuestions z st s q n b)) ≡ 1 ∷ 2 ∷ 3 ∷ 32 ∷ 5 ∷ 6 ∷ 29 ∷ 30 ∷ 18 ∷ 19 ∷ []
+  pub import-order : numbers (asked z st (importQuestions z st s q n b)) ≡ 1 ∷ 2 ∷ 3 ∷ 32 ∷ 5 ∷ 6 ∷ 33 ∷ 29 ∷ 30 ∷ 18 ∷ 19 ∷ []
   import-order = refl

@@ -4,7 +4,7 @@ use mathlib.Core.List.{List, [], _∷_}
 use Prim.Native.Nat.{ℕ, zero, suc, _%_, pred}
 use lib.Dec.{eqb}
 use lib.ListN.{length}
-use Rattle.tables.specs.Base.{at, if, all, count}
+use Rattle.tables.specs.Base.{at, if, all, count, find}
 use Rattle.tables.specs.Rule.{Rule, same, non, _and_, some, test}
 use Rattle.model.specs.declared.sizes.Sizes.{Sizes}
 use Rattle.model.specs.State.{Disk, allPages, pageOf, slotOf}
@@ -15,7 +15,7 @@ use Rattle.model.specs.Parts.{ofSlot, fromPage, wordAt}
 pub data Fed : Type 0 where
   nothing : Fed
   restarted : Disk → Fed
-  created : ℕ → Fed
+  created : ℕ → ℕ → Fed
   deleted : ℕ → Fed
   activated : ℕ → Disk → Fed
   deactivated : ℕ → Fed
@@ -31,7 +31,7 @@ pub data Fed : Type 0 where
   mapEnd : ℕ → ℕ → Fed
   -- an import: a birth is spent, of a design that stands in no slot yet; a page of it stored (page, record, words);
   -- and the slot: which pages the sheet has, and the words that it gives each
-  importBegun : Fed
+  importBegun : ℕ → Fed
   importedPage : ℕ → ℕ → (ℕ → ℕ) → Fed
   importedSlot : ℕ → (ℕ → Bool) → (ℕ → ℕ → ℕ) → Fed
   -- the frames whose writes landed, and the slots whose updates landed
@@ -83,6 +83,8 @@ pub record Ledger : Type 0 where
   -- designs so far, the pack's and those created since; each slot's design by its birth, 0 for none
   pub births : ℕ
   pub design : ℕ → ℕ
+  -- the number that each design was given, by its birth
+  pub number : ℕ → ℕ
   pub pages : Pages
   pub pending : Pending
   -- finished writes and updates, newest first, those too that count no more
@@ -104,19 +106,22 @@ unfoldable pub over : {A : Type 0} → (ℕ → A) → (ℕ → Rule) → A → 
 over f t a j = if (test (t j)) a (f j)
 
 abbrev pub setPages : Pages → Ledger → Ledger
-setPages x l = record { pack = l .pack; births = l .births; design = l .design; pages = x; pending = l .pending; finished = l .finished; stored = l .stored }
+setPages x l = record { pack = l .pack; births = l .births; design = l .design; number = l .number; pages = x; pending = l .pending; finished = l .finished; stored = l .stored }
 
 abbrev pub setPending : Pending → Ledger → Ledger
-setPending x l = record { pack = l .pack; births = l .births; design = l .design; pages = l .pages; pending = x; finished = l .finished; stored = l .stored }
+setPending x l = record { pack = l .pack; births = l .births; design = l .design; number = l .number; pages = l .pages; pending = x; finished = l .finished; stored = l .stored }
 
 abbrev pub setFinished : List Write → Ledger → Ledger
-setFinished x l = record { pack = l .pack; births = l .births; design = l .design; pages = l .pages; pending = l .pending; finished = x; stored = l .stored }
+setFinished x l = record { pack = l .pack; births = l .births; design = l .design; number = l .number; pages = l .pages; pending = l .pending; finished = x; stored = l .stored }
 
 abbrev pub setStored : List Update → Ledger → Ledger
-setStored x l = record { pack = l .pack; births = l .births; design = l .design; pages = l .pages; pending = l .pending; finished = l .finished; stored = x }
+setStored x l = record { pack = l .pack; births = l .births; design = l .design; number = l .number; pages = l .pages; pending = l .pending; finished = l .finished; stored = x }
 
 abbrev pub setDesign : ℕ → (ℕ → ℕ) → Ledger → Ledger
-setDesign n x l = record { pack = l .pack; births = n; design = x; pages = l .pages; pending = l .pending; finished = l .finished; stored = l .stored }
+setDesign n x l = record { pack = l .pack; births = n; design = x; number = l .number; pages = l .pages; pending = l .pending; finished = l .finished; stored = l .stored }
+
+abbrev pub setNumber : (ℕ → ℕ) → Ledger → Ledger
+setNumber x l = record { pack = l .pack; births = l .births; design = l .design; number = x; pages = l .pages; pending = l .pending; finished = l .finished; stored = l .stored }
 
 abbrev pub setLive : (ℕ → Bool) → Ledger → Ledger
 setLive x l = setPages (record { text = l .pages .text; live = x; touched = l .pages .touched; kept = l .pages .kept }) l
@@ -172,8 +177,8 @@ unfoldable pub lose : Ledger → Ledger
 lose l = setLive (λ i. false) (setUpdate (λ s. false) (l .pending .update) (setWrite (λ f. false) (l .pending .write) l))
 
 -- an import is a creation; those writes, each finished with its store, count as the design's own, made after its creation
-unfoldable pub spent : Ledger → Ledger
-spent l = setDesign (suc (l .births)) (l .design) l
+unfoldable pub spent : ℕ → Ledger → Ledger
+spent n l = setNumber (put (l .number) (suc (l .births)) n) (setDesign (suc (l .births)) (l .design) l)
 
 abbrev pub pageWrite : ℕ → ℕ → ℕ → (ℕ → ℕ) → Write
 pageWrite d p r words = record { design = d; page = p; record′ = r; words = words; serial = 0; counts = true }
@@ -220,7 +225,7 @@ module _ (z : Sizes) where
   note l nothing = l
   -- each page reads as the restart found it, and no write is open
   note l (restarted d) = setFinished (recount d (l .design) (l .finished)) (setText (found d) (λ i. true) (lose l))
-  note l (created s) = setText (over (l .pages .text) (ofSlot z s) (λ w. 0)) (over (l .pages .kept) (ofSlot z s) false) (setDesign (suc (l .births)) (put (l .design) s (suc (l .births))) l)
+  note l (created s n) = setNumber (put (l .number) (suc (l .births)) n) (setText (over (l .pages .text) (ofSlot z s) (λ w. 0)) (over (l .pages .kept) (ofSlot z s) false) (setDesign (suc (l .births)) (put (l .design) s (suc (l .births))) l))
   note l (deleted s) = setDesign (l .births) (put (l .design) s 0) l
   note l (activated s d) = setLive (over (l .pages .live) (λ i. ofSlot z s i and non (same (at (d .maps) i) 0)) true) l
   note l (deactivated s) = setLive (over (l .pages .live) (ofSlot z s) false) l
@@ -233,7 +238,7 @@ module _ (z : Sizes) where
   note l (began s) = setUpdate (put (l .pending .updating) s true) (put (l .pending .update) s (begun l s)) l
   note l (pageEnd f good) = if (eqb good 1) (finishWrite f l) (strikeWrite f l)
   note l (mapEnd s good) = if (eqb good 1) (finishUpdate s l) (strikeUpdate s l)
-  note l importBegun = spent l
+  note l (importBegun n) = spent n l
   note l (importedPage p r words) = carriedIn p r words l
   note l (importedSlot s has said) = placed z s has said l
   note l (cut writes updates) = lose (finishUpdates (z .slots) updates (finishWrites (z .frames) writes l))
@@ -245,12 +250,17 @@ filled d s = not (eqb (at (d .numbers) s) 0)
 unfoldable pub packDesign : Disk → ℕ → ℕ
 packDesign d s = if (filled d s) (suc (count s (filled d))) 0
 
+-- the number of a design of the pack, by its birth; 0 for none
+unfoldable pub packNumber : Sizes → Disk → ℕ → ℕ
+packNumber z d b = if (eqb b 0) 0 (at (d .numbers) (find (z .slots) (λ s. eqb (packDesign d s) b) 0))
+
 -- no design but the pack's, nothing written since
 unfoldable pub unwritten : Sizes → Disk → Ledger
 unwritten z d = record {
   pack = d;
   births = count (z .slots) (filled d);
   design = packDesign d;
+  number = packNumber z d;
   pages = record { text = λ i w. 0; live = λ i. false; touched = λ i. false; kept = λ i. false };
   pending = record { noted = λ f. record { design = 0; place = 0 }; writing = λ f. false; write = λ f. noWrite; updating = λ s. false; update = λ s. noUpdate };
   finished = [];

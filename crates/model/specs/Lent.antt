@@ -9,8 +9,8 @@ use Rattle.model.specs.declared.frame.Pool.{Pool}
 use Rattle.tables.specs.Queue.{packed}
 use Rattle.model.specs.State.{Disk, Memory, State, LINE}
 
-abbrev pub diskOf : List ℕ → List ℕ → List ℕ → List ℕ → List ℕ → List ℕ → Disk
-diskOf records numbers accounts maps limits parents = record { records = records; numbers = numbers; accounts = accounts; maps = maps; limits = limits; parents = parents }
+abbrev pub diskOf : List ℕ → List ℕ → List ℕ → List ℕ → List ℕ → List ℕ → List ℕ → Disk
+diskOf records numbers accounts maps limits parents highest = record { records = records; numbers = numbers; accounts = accounts; maps = maps; limits = limits; parents = parents; highest = highest }
 
 -- the line with nobody waiting: that of the events which do not look at it
 abbrev pub noLine : List ℕ
@@ -29,13 +29,13 @@ abbrev pub memoryOf : List Frame → Pool → List ℕ → List ℕ → List ℕ
 memoryOf = memoryIn noLine
 
 -- everything lent, with a line; and with nobody waiting
-abbrev pub stateIn : List ℕ → List Frame → Pool → List ℕ → List ℕ → List ℕ → List ℕ → List ℕ → List ℕ → List ℕ → List ℕ → List ℕ → List ℕ → List ℕ → List ℕ → List ℕ → List ℕ → List ℕ → List ℕ → List ℕ → State
-stateIn line frames pool records numbers accounts maps limits parents words free-queue removal-list addresses states owners free-map active updating images used = record {
-  disk = diskOf records numbers accounts maps limits parents;
+abbrev pub stateIn : List ℕ → List Frame → Pool → List ℕ → List ℕ → List ℕ → List ℕ → List ℕ → List ℕ → List ℕ → List ℕ → List ℕ → List ℕ → List ℕ → List ℕ → List ℕ → List ℕ → List ℕ → List ℕ → List ℕ → List ℕ → State
+stateIn line frames pool records numbers accounts maps limits parents highest words free-queue removal-list addresses states owners free-map active updating images used = record {
+  disk = diskOf records numbers accounts maps limits parents highest;
   memory = memoryIn line frames pool words free-queue removal-list addresses states owners free-map active updating images used;
 }
 
-abbrev pub stateOf : List Frame → Pool → List ℕ → List ℕ → List ℕ → List ℕ → List ℕ → List ℕ → List ℕ → List ℕ → List ℕ → List ℕ → List ℕ → List ℕ → List ℕ → List ℕ → List ℕ → List ℕ → List ℕ → State
+abbrev pub stateOf : List Frame → Pool → List ℕ → List ℕ → List ℕ → List ℕ → List ℕ → List ℕ → List ℕ → List ℕ → List ℕ → List ℕ → List ℕ → List ℕ → List ℕ → List ℕ → List ℕ → List ℕ → List ℕ → List ℕ → State
 stateOf = stateIn noLine
 
 -- ── the same by bare names: what the contracts speak of ──
@@ -47,43 +47,43 @@ abbrev pub Table : Type 0
 Table = Both Ref Ref
 
 -- in a `requires`
-abbrev pub given : List Frame → Pool → Ref → Ref → Ref → Ref → Ref → Ref → Ref → Ref → Ref → Ref → Ref → Ref → Ref → Ref → Ref → Ref → Ref → State
-given frames pool records numbers accounts maps limits parents words free-queue removal-list addresses states owners free-map active updating images used =
-    stateOf frames pool (records .now) (numbers .now) (accounts .now) (maps .now) (limits .now) (parents .now) (words .now) (free-queue .now) (removal-list .now) (addresses .now)
+abbrev pub given : List Frame → Pool → Ref → Ref → Ref → Ref → Ref → Ref → Ref → Ref → Ref → Ref → Ref → Ref → Ref → Ref → Ref → Ref → Ref → Ref → State
+given frames pool records numbers accounts maps limits parents highest words free-queue removal-list addresses states owners free-map active updating images used =
+    stateOf frames pool (records .now) (numbers .now) (accounts .now) (maps .now) (limits .now) (parents .now) (highest .now) (words .now) (free-queue .now) (removal-list .now) (addresses .now)
     (states .now) (owners .now) (free-map .now) (active .now) (updating .now) (images .now) (used .now)
 
 -- in an `ensures`: as it was passed
-abbrev pub entered : List Frame → Pool → Table → Table → Table → Table → Table → Table → Table → Table → Table → Table → Table → Table → Table → Table → Table → Table → Table → State
-entered frames pool records numbers accounts maps limits parents words free-queue removal-list addresses states owners free-map active updating images used =
-    stateOf frames pool (records .entry .now) (numbers .entry .now) (accounts .entry .now) (maps .entry .now) (limits .entry .now) (parents .entry .now) (words .entry .now) (free-queue .entry .now)
+abbrev pub entered : List Frame → Pool → Table → Table → Table → Table → Table → Table → Table → Table → Table → Table → Table → Table → Table → Table → Table → Table → Table → Table → State
+entered frames pool records numbers accounts maps limits parents highest words free-queue removal-list addresses states owners free-map active updating images used =
+    stateOf frames pool (records .entry .now) (numbers .entry .now) (accounts .entry .now) (maps .entry .now) (limits .entry .now) (parents .entry .now) (highest .entry .now) (words .entry .now) (free-queue .entry .now)
     (removal-list .entry .now) (addresses .entry .now) (states .entry .now) (owners .entry .now) (free-map .entry .now) (active .entry .now) (updating .entry .now)
     (images .entry .now) (used .entry .now)
 
 -- and as it is left
-abbrev pub left : List Frame → Pool → Table → Table → Table → Table → Table → Table → Table → Table → Table → Table → Table → Table → Table → Table → Table → Table → Table → State
-left frames pool records numbers accounts maps limits parents words free-queue removal-list addresses states owners free-map active updating images used =
-    stateOf frames pool (records .exit .now) (numbers .exit .now) (accounts .exit .now) (maps .exit .now) (limits .exit .now) (parents .exit .now) (words .exit .now) (free-queue .exit .now)
+abbrev pub left : List Frame → Pool → Table → Table → Table → Table → Table → Table → Table → Table → Table → Table → Table → Table → Table → Table → Table → Table → Table → Table → State
+left frames pool records numbers accounts maps limits parents highest words free-queue removal-list addresses states owners free-map active updating images used =
+    stateOf frames pool (records .exit .now) (numbers .exit .now) (accounts .exit .now) (maps .exit .now) (limits .exit .now) (parents .exit .now) (highest .exit .now) (words .exit .now) (free-queue .exit .now)
     (removal-list .exit .now) (addresses .exit .now) (states .exit .now) (owners .exit .now) (free-map .exit .now) (active .exit .now) (updating .exit .now)
     (images .exit .now) (used .exit .now)
 
 -- ── everything lent, the line with it: what the calls speak of ──
-abbrev pub allOf : List Frame → Pool → List ℕ → List ℕ → List ℕ → List ℕ → List ℕ → List ℕ → List ℕ → List ℕ → List ℕ → List ℕ → List ℕ → List ℕ → List ℕ → List ℕ → List ℕ → List ℕ → List ℕ → List ℕ → State
-allOf frames pool records numbers accounts maps limits parents words free-queue removal-list addresses states owners free-map active updating images line used =
-    stateIn line frames pool records numbers accounts maps limits parents words free-queue removal-list addresses states owners free-map active updating images used
+abbrev pub allOf : List Frame → Pool → List ℕ → List ℕ → List ℕ → List ℕ → List ℕ → List ℕ → List ℕ → List ℕ → List ℕ → List ℕ → List ℕ → List ℕ → List ℕ → List ℕ → List ℕ → List ℕ → List ℕ → List ℕ → List ℕ → State
+allOf frames pool records numbers accounts maps limits parents highest words free-queue removal-list addresses states owners free-map active updating images line used =
+    stateIn line frames pool records numbers accounts maps limits parents highest words free-queue removal-list addresses states owners free-map active updating images used
 
-abbrev pub allGiven : List Frame → Pool → Ref → Ref → Ref → Ref → Ref → Ref → Ref → Ref → Ref → Ref → Ref → Ref → Ref → Ref → Ref → Ref → Ref → Ref → State
-allGiven frames pool records numbers accounts maps limits parents words free-queue removal-list addresses states owners free-map active updating images line used =
-    allOf frames pool (records .now) (numbers .now) (accounts .now) (maps .now) (limits .now) (parents .now) (words .now) (free-queue .now) (removal-list .now) (addresses .now)
+abbrev pub allGiven : List Frame → Pool → Ref → Ref → Ref → Ref → Ref → Ref → Ref → Ref → Ref → Ref → Ref → Ref → Ref → Ref → Ref → Ref → Ref → Ref → Ref → State
+allGiven frames pool records numbers accounts maps limits parents highest words free-queue removal-list addresses states owners free-map active updating images line used =
+    allOf frames pool (records .now) (numbers .now) (accounts .now) (maps .now) (limits .now) (parents .now) (highest .now) (words .now) (free-queue .now) (removal-list .now) (addresses .now)
     (states .now) (owners .now) (free-map .now) (active .now) (updating .now) (images .now) (line .now) (used .now)
 
-abbrev pub allEntered : List Frame → Pool → Table → Table → Table → Table → Table → Table → Table → Table → Table → Table → Table → Table → Table → Table → Table → Table → Table → Table → State
-allEntered frames pool records numbers accounts maps limits parents words free-queue removal-list addresses states owners free-map active updating images line used =
-    allOf frames pool (records .entry .now) (numbers .entry .now) (accounts .entry .now) (maps .entry .now) (limits .entry .now) (parents .entry .now) (words .entry .now) (free-queue .entry .now) (removal-list .entry .now) (addresses .entry .now)
+abbrev pub allEntered : List Frame → Pool → Table → Table → Table → Table → Table → Table → Table → Table → Table → Table → Table → Table → Table → Table → Table → Table → Table → Table → Table → State
+allEntered frames pool records numbers accounts maps limits parents highest words free-queue removal-list addresses states owners free-map active updating images line used =
+    allOf frames pool (records .entry .now) (numbers .entry .now) (accounts .entry .now) (maps .entry .now) (limits .entry .now) (parents .entry .now) (highest .entry .now) (words .entry .now) (free-queue .entry .now) (removal-list .entry .now) (addresses .entry .now)
     (states .entry .now) (owners .entry .now) (free-map .entry .now) (active .entry .now) (updating .entry .now) (images .entry .now) (line .entry .now) (used .entry .now)
 
-abbrev pub allLeft : List Frame → Pool → Table → Table → Table → Table → Table → Table → Table → Table → Table → Table → Table → Table → Table → Table → Table → Table → Table → Table → State
-allLeft frames pool records numbers accounts maps limits parents words free-queue removal-list addresses states owners free-map active updating images line used =
-    allOf frames pool (records .exit .now) (numbers .exit .now) (accounts .exit .now) (maps .exit .now) (limits .exit .now) (parents .exit .now) (words .exit .now) (free-queue .exit .now) (removal-list .exit .now) (addresses .exit .now)
+abbrev pub allLeft : List Frame → Pool → Table → Table → Table → Table → Table → Table → Table → Table → Table → Table → Table → Table → Table → Table → Table → Table → Table → Table → Table → State
+allLeft frames pool records numbers accounts maps limits parents highest words free-queue removal-list addresses states owners free-map active updating images line used =
+    allOf frames pool (records .exit .now) (numbers .exit .now) (accounts .exit .now) (maps .exit .now) (limits .exit .now) (parents .exit .now) (highest .exit .now) (words .exit .now) (free-queue .exit .now) (removal-list .exit .now) (addresses .exit .now)
     (states .exit .now) (owners .exit .now) (free-map .exit .now) (active .exit .now) (updating .exit .now) (images .exit .now) (line .exit .now) (used .exit .now)
 
 -- the pool of a state whose pool nothing looks at
@@ -92,10 +92,10 @@ noPool = record { hand = 0; free = 0 }
 
 -- the state of no tables: what an event sees is this with its own tables set
 abbrev pub noState : State
-noState = stateOf [] noPool [] [] [] [] [] [] [] [] [] [] [] [] [] [] [] [] []
+noState = stateOf [] noPool [] [] [] [] [] [] [] [] [] [] [] [] [] [] [] [] [] []
 
 -- two states are equal by their tables
-pub same-state : {line : List ℕ} {f f′ : List Frame} {p p′ : Pool} {a a′ b b′ c c′ d d′ e e′ s s′ g g′ h h′ i i′ j j′ k k′ l l′ m m′ n n′ o o′ q q′ r r′ : List ℕ}
-    → f ≡ f′ → p ≡ p′ → a ≡ a′ → b ≡ b′ → c ≡ c′ → d ≡ d′ → e ≡ e′ → s ≡ s′ → g ≡ g′ → h ≡ h′ → i ≡ i′ → j ≡ j′ → k ≡ k′ → l ≡ l′ → m ≡ m′ → n ≡ n′ → o ≡ o′ → q ≡ q′ → r ≡ r′
-    → stateIn line f p a b c d e s g h i j k l m n o q r ≡ stateIn line f′ p′ a′ b′ c′ d′ e′ s′ g′ h′ i′ j′ k′ l′ m′ n′ o′ q′ r′
-same-state {line} ef ep ea eb ec ed ee es eg eh ei ej ek el em en eo eq er = λ x. stateIn line (ef x) (ep x) (ea x) (eb x) (ec x) (ed x) (ee x) (es x) (eg x) (eh x) (ei x) (ej x) (ek x) (el x) (em x) (en x) (eo x) (eq x) (er x)
+pub same-state : {line : List ℕ} {f f′ : List Frame} {p p′ : Pool} {a a′ b b′ c c′ d d′ e e′ s s′ t t′ g g′ h h′ i i′ j j′ k k′ l l′ m m′ n n′ o o′ q q′ r r′ : List ℕ}
+    → f ≡ f′ → p ≡ p′ → a ≡ a′ → b ≡ b′ → c ≡ c′ → d ≡ d′ → e ≡ e′ → s ≡ s′ → t ≡ t′ → g ≡ g′ → h ≡ h′ → i ≡ i′ → j ≡ j′ → k ≡ k′ → l ≡ l′ → m ≡ m′ → n ≡ n′ → o ≡ o′ → q ≡ q′ → r ≡ r′
+    → stateIn line f p a b c d e s t g h i j k l m n o q r ≡ stateIn line f′ p′ a′ b′ c′ d′ e′ s′ t′ g′ h′ i′ j′ k′ l′ m′ n′ o′ q′ r′
+same-state {line} ef ep ea eb ec ed ee es et eg eh ei ej ek el em en eo eq er = λ x. stateIn line (ef x) (ep x) (ea x) (eb x) (ec x) (ed x) (ee x) (es x) (et x) (eg x) (eh x) (ei x) (ej x) (ek x) (el x) (em x) (en x) (eo x) (eq x) (er x)

@@ -26,6 +26,7 @@ pub mod Ledger
 pub mod Export
 pub mod Stores
 pub mod Acts
+pub mod OneNumber
 pub mod Demand3
 pub mod FromPack
 pub mod Carried

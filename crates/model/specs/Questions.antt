@@ -35,9 +35,9 @@ pub data Turning : Type 0 where
   claims : Turning
   sendsAway : ℕ → Turning
 
--- Questions are asked in the order of their numbers, but 32 just after 3, and import's 29 and 30 after 6, before 18: the place of each number.
+-- Questions are asked in the order of their numbers, but 32 just after 3, 33 just after 6, and import's 29 and 30 after that, before 18: the place of each number.
 unfoldable pub rank : ℕ → ℕ
-rank n = if (eqb n 32) 31 (if (eqb n 29) 62 (if (eqb n 30) 63 (10 * n)))
+rank n = if (eqb n 32) 31 (if (eqb n 33) 61 (if (eqb n 29) 62 (if (eqb n 30) 63 (10 * n))))
 
 module _ (z : Sizes) (st : State) where
   abbrev v : Files
@@ -93,6 +93,10 @@ module _ (z : Sizes) (st : State) where
   -- 6. Create: number in no slot?
   abbrev q6 : ℕ → Questions → Questions
   q6 n = ask 6 (each (z .slots) λ s. non (same (v .number s) n))
+
+  -- (02) 33, asked just after 6, if the number is not above the highest
+  abbrev q33 : ℕ → Questions → Questions
+  q33 n = ask 33 (below (at (st .disk .highest) 0) n)
 
   -- 7. Delete: map all 0?
   abbrev q7 : ℕ → Questions → Questions
@@ -194,7 +198,7 @@ module _ (z : Sizes) (st : State) where
   fromUp s k rule = each (z .pages) λ p. non (below p k) then rule (page s p)
 
   abbrev pub designQuestions : Design → Questions
-  designQuestions (Create s q n) = q3 (below s (z .slots) and below q (z .accounts) and below 0 n) (q32 n (q5 s (q6 n none)))
+  designQuestions (Create s q n) = q3 (below s (z .slots) and below q (z .accounts) and below 0 n) (q32 n (q5 s (q6 n (q33 n none))))
   designQuestions (Delete s) = q3 (slotRange s) (q4 s (q7 s (q9 s none)))
   designQuestions (Activate s) = q3 (slotRange s) (q4 s (q9 s none))
   designQuestions (Deactivate s) = q3 (slotRange s) (q4 s (q8 s (q10 s (q11 s (q12 s none)))))
@@ -226,8 +230,7 @@ module _ (z : Sizes) (st : State) where
   abbrev pub nextFault : Page
   nextFault = Fault (slotOf z nextPage) (nextPage % z .pages)
 
-  -- otherwise the turn faults. If the fault is accepted the request stays first; if it gives 20 the turn claims, the request staying first.
-  -- Any other number from 3 up sends it away.
+  -- otherwise the turn faults. If the fault is accepted the request stays first; if it gives 20 the turn claims, the request staying first. Any other number from 3 up sends it away.
   abbrev pub byFault : ℕ → Turning
   byFault n = if (eqb n 0) faults (if (eqb n 20) claims (sendsAway n))
 
@@ -286,7 +289,7 @@ module _ (z : Sizes) (st : State) where
 
   -- It asks 5 and 6 first.
   abbrev pub importQuestions : ℕ → ℕ → ℕ → List ℕ → Questions
-  importQuestions s q n sheet = q3 (below s (z .slots) and below q (z .accounts) and below 0 n) (q32 n (q5 s (q6 n (sheetQuestions q sheet))))
+  importQuestions s q n sheet = q3 (below s (z .slots) and below q (z .accounts) and below 0 n) (q32 n (q5 s (q6 n (q33 n (sheetQuestions q sheet)))))
 
   -- Export asks 4 and 9.
   abbrev pub exportQuestions : ℕ → ℕ → ℕ → Questions

@@ -1,15 +1,15 @@
 -- Format and restart.
 use mathlib.Core.Bool.{Bool}
-use mathlib.Core.List.{List, []}
-use Prim.Native.Nat.{ℕ, suc, _*_}
-use lib.Dec.{eqb}
+use mathlib.Core.List.{List, [], _∷_}
+use Prim.Native.Nat.{ℕ, zero, suc, _*_, max}
+use lib.Dec.{eqb, ltb}
 use lib.ListN.{replicate}
 use Rattle.tables.specs.Base.{at, if, any, find, tab}
 use Rattle.tables.specs.Queue.{packed}
 use Rattle.model.specs.declared.sizes.Sizes.{Sizes}
 use Rattle.model.specs.Lines.{FREE, FILED}
 use Rattle.model.specs.State.{Disk, State, LINE, noFrame, allPages, slotOf}
-use Rattle.model.specs.Setters.{counted}
+use Rattle.model.specs.Setters.{raise, counted}
 
 -- Format zeroes all of the disk part but the parents: those it is handed are stored, for account 0 always 0.
 unfoldable pub formatted : Sizes → List ℕ → Disk
@@ -20,6 +20,7 @@ formatted z wanted = record {
   maps = replicate (allPages z) 0;
   limits = replicate (z .accounts) 0;
   parents = tab (z .accounts) (λ a. if (eqb a 0) 0 (at wanted a)) 0;
+  highest = 0 ∷ [];
 }
 
 -- a record is listed, and the page that lists it
@@ -28,6 +29,17 @@ isListed z d r = any (allPages z) λ i. eqb (at (d .maps) i) (suc r)
 
 unfoldable pub listedAt : Sizes → Disk → ℕ → ℕ
 listedAt z d r = find (allPages z) (λ i. eqb (at (d .maps) i) (suc r)) 0
+
+-- (02) The disk keeps the highest number below 2,147,483,648 ever given; where it is lower than such a number in a slot, as on older packs, restart stores the highest of these.
+abbrev low : ℕ → ℕ
+low n = if (ltb n 2147483648) n 0
+
+unfoldable pub highestOf : Disk → ℕ → ℕ
+highestOf d zero = at (d .highest) 0
+highestOf d (suc s) = max (highestOf d s) (low (at (d .numbers) s))
+
+unfoldable pub raised : Sizes → Disk → Disk
+raised z d = raise (highestOf d (z .slots)) d
 
 -- Restart: from the disk part alone; memory may hold anything. All designs inactive, hand 0, free queue 0 to F−1, free frames zeroed.
 -- Restart empties the line.

@@ -1,6 +1,7 @@
 -- One setter for each table: an event is a chain of stores.
 use mathlib.Core.List.{List}
 use Prim.Native.Nat.{ℕ}
+use lib.ListN.{set}
 use Rattle.tables.specs.Base.{tab}
 use Rattle.model.specs.declared.sizes.Sizes.{Sizes}
 use Rattle.model.specs.declared.frame.Frame.{Frame}
@@ -11,22 +12,29 @@ abbrev pub onDisk : (Disk → Disk) → State → State
 onDisk f st = record { disk = f (st .disk); memory = st .memory }
 
 abbrev pub setRecords : List ℕ → Disk → Disk
-setRecords x d = record { records = x; numbers = d .numbers; accounts = d .accounts; maps = d .maps; limits = d .limits; parents = d .parents }
+setRecords x d = record { records = x; numbers = d .numbers; accounts = d .accounts; maps = d .maps; limits = d .limits; parents = d .parents; highest = d .highest }
 
 abbrev pub setNumbers : List ℕ → Disk → Disk
-setNumbers x d = record { records = d .records; numbers = x; accounts = d .accounts; maps = d .maps; limits = d .limits; parents = d .parents }
+setNumbers x d = record { records = d .records; numbers = x; accounts = d .accounts; maps = d .maps; limits = d .limits; parents = d .parents; highest = d .highest }
 
 abbrev pub setAccounts : List ℕ → Disk → Disk
-setAccounts x d = record { records = d .records; numbers = d .numbers; accounts = x; maps = d .maps; limits = d .limits; parents = d .parents }
+setAccounts x d = record { records = d .records; numbers = d .numbers; accounts = x; maps = d .maps; limits = d .limits; parents = d .parents; highest = d .highest }
 
 abbrev pub setMaps : List ℕ → Disk → Disk
-setMaps x d = record { records = d .records; numbers = d .numbers; accounts = d .accounts; maps = x; limits = d .limits; parents = d .parents }
+setMaps x d = record { records = d .records; numbers = d .numbers; accounts = d .accounts; maps = x; limits = d .limits; parents = d .parents; highest = d .highest }
 
 abbrev pub setLimits : List ℕ → Disk → Disk
-setLimits x d = record { records = d .records; numbers = d .numbers; accounts = d .accounts; maps = d .maps; limits = x; parents = d .parents }
+setLimits x d = record { records = d .records; numbers = d .numbers; accounts = d .accounts; maps = d .maps; limits = x; parents = d .parents; highest = d .highest }
 
 abbrev pub setParents : List ℕ → Disk → Disk
-setParents x d = record { records = d .records; numbers = d .numbers; accounts = d .accounts; maps = d .maps; limits = d .limits; parents = x }
+setParents x d = record { records = d .records; numbers = d .numbers; accounts = d .accounts; maps = d .maps; limits = d .limits; parents = x; highest = d .highest }
+
+abbrev pub setHighest : List ℕ → Disk → Disk
+setHighest x d = record { records = d .records; numbers = d .numbers; accounts = d .accounts; maps = d .maps; limits = d .limits; parents = d .parents; highest = x }
+
+-- the new highest number
+abbrev pub raise : ℕ → Disk → Disk
+raise n d = setHighest (set (d .highest) 0 n) d
 
 -- ── the memory part ──
 abbrev pub onCore : (Core → Core) → State → State

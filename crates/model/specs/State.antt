@@ -15,7 +15,8 @@ use Rattle.model.specs.declared.frame.Pool.{Pool}
 use Rattle.model.specs.Lines.{FREE, LIVE}
 use Rattle.model.specs.Payer
 
--- Disk part: R records of W words; per slot a unique number (0 = empty slot), an account, and a file map of N entries; per account a limit and a parent (account 0's is never looked at).
+-- Disk part: R records of W words; per slot a unique number (0 = empty slot), an account, and a file map of N entries; per account a limit and a parent (account 0's is never looked at);
+-- (02) and the highest number below 2,147,483,648 ever given.
 -- Map entry 0 is a page of zeros, else the entry is record number + 1.
 pub record Disk : Type 0 where
   pub records : List ℕ
@@ -24,6 +25,7 @@ pub record Disk : Type 0 where
   pub maps : List ℕ
   pub limits : List ℕ
   pub parents : List ℕ
+  pub highest : List ℕ
 
 -- The memory frames, the frames' words, the free frame queue, the removal list (frame + 1, packed at the front, then 0).
 pub record Core : Type 0 where

@@ -27,12 +27,12 @@ use Rattle.model.specs.Accounts
 use Rattle.model.specs.Pages
 use Rattle.model.specs.Writeback
 use Rattle.model.specs.Line
-use Rattle.model.specs.Restart.{formatted, restarted}
+use Rattle.model.specs.Restart.{formatted, raised, restarted}
 
 -- ── question 1: sizes within limits, every slice of its exact length? ──
 abbrev pub diskLengths : Sizes → Disk → Rule
 diskLengths z d = same (length (d .records)) (z .records * z .words) and same (length (d .numbers)) (z .slots) and same (length (d .accounts)) (z .slots)
-    and same (length (d .maps)) (allPages z) and same (length (d .limits)) (z .accounts) and same (length (d .parents)) (z .accounts)
+    and same (length (d .maps)) (allPages z) and same (length (d .limits)) (z .accounts) and same (length (d .parents)) (z .accounts) and same (length (d .highest)) 1
 
 abbrev pub memoryLengths : Sizes → Memory → Rule
 memoryLengths z m = same (length (m .core .frames)) (z .frames) and same (length (m .core .words)) (z .frames * z .words) and same (length (m .core .free-queue)) (z .frames)
@@ -112,9 +112,9 @@ formatLengths z wanted d = diskLengths z d and same (length wanted) (z .accounts
 unfoldable pub format : Sizes → List ℕ → Disk → Outcome Disk
 format z wanted d = outcome (firstNo (ask 1 (sizesFit z and formatLengths z wanted d) (ask 3 (lower (z .accounts) (at wanted)) none))) 0 d (formatted z wanted)
 
--- Restart asks 1 and 2 (disk rules only)
+-- Restart asks 1 and 2 (disk rules only); its own one store is the highest number
 unfoldable pub restart : Sizes → State → Outcome State
-restart z st = outcome (firstNo (ask 1 (allFit z st) (ask 2 (diskRules z st) none))) 0 st (restarted z (st .disk))
+restart z st = outcome (firstNo (ask 1 (allFit z st) (ask 2 (diskRules z st) none))) 0 st (restarted z (raised z (st .disk)))
 
 -- A page look asks as read; it hands back a part of the frames' words, or an empty part.
 unfoldable pub look : Sizes → State → ℕ → ℕ → Outcome (List ℕ)
@@ -154,13 +154,14 @@ in-order z st (Event.Waiting Turn) = turn-order z st (turning z st)
 -- what is asked after a number from 0 to 3 is above it
 pub rank-above : (n m : ℕ) → n ≤ 3 → 10 * n < rank m → n < m
 unfolding rank
-rank-above n m l h = go (eqb m 32) (eqb m 29) (eqb m 30) (eqb→eq m 32) (eqb→eq m 29) (eqb→eq m 30) h
+rank-above n m l h = go (eqb m 32) (eqb m 33) (eqb m 29) (eqb m 30) (eqb→eq m 32) (eqb→eq m 33) (eqb→eq m 29) (eqb→eq m 30) h
   where
-    go : (a b c : Bool) → (T a → m ≡ 32) → (T b → m ≡ 29) → (T c → m ≡ 30) → 10 * n < if a 31 (if b 62 (if c 63 (10 * m))) → n < m
-    go true b c p q r h = omega (arith, p tt, l)
-    go false true c p q r h = omega (arith, q tt, l)
-    go false false true p q r h = omega (arith, r tt, l)
-    go false false false p q r h = omega (arith, h)
+    go : (a b c d : Bool) → (T a → m ≡ 32) → (T b → m ≡ 33) → (T c → m ≡ 29) → (T d → m ≡ 30) → 10 * n < if a 31 (if b 61 (if c 62 (if d 63 (10 * m)))) → n < m
+    go true b c d p q r t h = omega (arith, p tt, l)
+    go false true c d p q r t h = omega (arith, q tt, l)
+    go false false true d p q r t h = omega (arith, r tt, l)
+    go false false false true p q r t h = omega (arith, t tt, l)
+    go false false false false p q r t h = omega (arith, h)
 
 -- so no question has the number 0, and an event's own have numbers from 3 up
 pub all-above : (z : Sizes) (st : State) (e : Event) → T (above 0 (asked z st (questions z st e)))

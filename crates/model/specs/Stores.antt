@@ -15,7 +15,7 @@ use Rattle.model.specs.declared.event.Writeback.the-variants.{Claim, Tru
 use Rattle.model.specs.declared.event.Event.{Event}
 use Rattle.model.specs.declared.event.Event.the-variants as Event
 use Rattle.model.specs.State.{Disk, State, frames, READING}
-use Rattle.model.specs.Setters.{setNumbers, setAccounts, setLimits}
+use Rattle.model.specs.Setters.{setNumbers, setAccounts, setLimits, raise}
 use Rattle.model.specs.Accounts.{shifted}
 use Rattle.model.specs.Writeback.{storeFrame, storeImage}
 use Rattle.model.specs.Import.{sheetOf, storeRecord, storeSlot, importAnswer}
@@ -48,7 +48,7 @@ module _ (z : Sizes) (st : State) where
   fillSlot s q n d = setNumbers (set (d .numbers) s n) (setAccounts (set (d .accounts) s q) d)
 
   abbrev designStores : Design → List (Disk → Disk)
-  designStores (Create s q n) = fillSlot s q n ∷ []
+  designStores (Create s q n) = raise n ∷ fillSlot s q n ∷ []
   designStores (Delete s) = fillSlot s 0 0 ∷ []
   designStores (Activate s) = []
   designStores (Deactivate s) = []
@@ -76,7 +76,7 @@ module _ (z : Sizes) (st : State) where
   -- the stores of a call that is carried out, in order: it runs these and stores nothing otherwise
   unfoldable pub stores : Call → List (Disk → Disk)
   stores (event e) = eventStores e
-  stores (importing s q n b) = tab (countIn b) (storeRecord z st s q n (sheetOf b)) 0 ++ storeSlot z st s q n (sheetOf b) ∷ []
+  stores (importing s q n b) = raise n ∷ tab (countIn b) (storeRecord z st s q n (sheetOf b)) 0 ++ storeSlot z st s q n (sheetOf b) ∷ []
 
   unfoldable pub answered : Call → ℕ
   answered (event e) = answer z st e

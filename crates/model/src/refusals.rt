@@ -87,3 +87,6 @@ pub const SHEET_SHORT: u32 = 31;
 
 // Create, import: number below 2,147,483,648?
 pub const NUMBER_HIGH: u32 = 32;
+
+// Create, import: number above the highest ever given?
+pub const NUMBER_GIVEN: u32 = 33;

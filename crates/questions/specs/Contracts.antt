@@ -17,8 +17,8 @@ use Rattle.rules.specs.Passes.{distinct, marked, usedTable, framedTable, countR
 use Rattle.questions.specs.Groups.{filePasses, framePasses, FilesLong, FramesLong}
 
 -- ── a part of what is lent, as it was passed ──
-abbrev pub diskEntered : (records numbers accounts maps limits parents : Table) → Disk
-diskEntered records numbers accounts maps limits parents = diskOf (records .entry .now) (numbers .entry .now) (accounts .entry .now) (maps .entry .now) (limits .entry .now) (parents .entry .now)
+abbrev pub diskEntered : (records numbers accounts maps limits parents highest : Table) → Disk
+diskEntered records numbers accounts maps limits parents highest = diskOf (records .entry .now) (numbers .entry .now) (accounts .entry .now) (maps .entry .now) (limits .entry .now) (parents .entry .now) (highest .entry .now)
 
 abbrev pub memoryEntered : List Frame → Pool → (words free-queue removal-list addresses states owners free-map active updating images used : Table) → Memory
 memoryEntered frames pool words free-queue removal-list addresses states owners free-map active updating images used =

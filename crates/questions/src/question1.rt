@@ -27,9 +27,10 @@ pub fn disk_lengths_fit(
     maps: &[u16],
     limits: &[u16],
     parents: &[u16],
+    highest: &[u32],
 ) -> bool
     requires { ⌜ Holds (sizesFit z) ⌝ }
-    ensures { λ r. ⌜ r ≡ test (diskLengths z (diskEntered records numbers accounts maps limits parents)) ⌝ }
+    ensures { λ r. ⌜ r ≡ test (diskLengths z (diskEntered records numbers accounts maps limits parents highest)) ⌝ }
 {
     (records.len() == z.records * z.words)
         & (numbers.len() == z.slots)
@@ -37,6 +38,7 @@ pub fn disk_lengths_fit(
         & (maps.len() == z.slots * z.pages)
         & (limits.len() == z.accounts)
         & (parents.len() == z.accounts)
+        & (highest.len() == 1)
 }
 
 // Every slice of the memory part of its exact length; `count` frames are lent.
@@ -82,13 +84,23 @@ pub fn disk_fit(
     maps: &[u16],
     limits: &[u16],
     parents: &[u16],
+    highest: &[u32],
 ) -> bool
-    ensures { λ r. ⌜ r ≡ test (sizesFit z and diskLengths z (diskEntered records numbers accounts maps limits parents)) ⌝ }
+    ensures { λ r. ⌜ r ≡ test (sizesFit z and diskLengths z (diskEntered records numbers accounts maps limits parents highest)) ⌝ }
 {
     if sizes_fit(z) {} else {
         return false;
     }
-    disk_lengths_fit(z, records, numbers, accounts, maps, limits, parents)
+    disk_lengths_fit(
+        z,
+        records,
+        numbers,
+        accounts,
+        maps,
+        limits,
+        parents,
+        highest,
+    )
 }
 
 // Question 1 of every other call; `count` frames are lent.
@@ -101,6 +113,7 @@ pub fn all_fit(
     maps: &[u16],
     limits: &[u16],
     parents: &[u16],
+    highest: &[u32],
     words: &[u32],
     free_queue: &[u16],
     removal_list: &[u16],
@@ -113,12 +126,21 @@ pub fn all_fit(
     images: &[u16],
     used: &[u16],
 ) -> bool
-    ensures { λ r. ⌜ ((frames : List Frame) (pool : Pool) → length frames ≡ count → r ≡ test (allFit z (entered frames pool records numbers accounts maps limits parents words «free_queue» «removal_list» addresses states owners «free_map» active updating images used))) ⌝ }
+    ensures { λ r. ⌜ ((frames : List Frame) (pool : Pool) → length frames ≡ count → r ≡ test (allFit z (entered frames pool records numbers accounts maps limits parents highest words «free_queue» «removal_list» addresses states owners «free_map» active updating images used))) ⌝ }
 {
     if sizes_fit(z) {} else {
         return false;
     }
-    disk_lengths_fit(z, records, numbers, accounts, maps, limits, parents)
+    disk_lengths_fit(
+        z,
+        records,
+        numbers,
+        accounts,
+        maps,
+        limits,
+        parents,
+        highest,
+    )
         & memory_lengths_fit(
             z,
             count,

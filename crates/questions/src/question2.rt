@@ -23,9 +23,10 @@ pub fn disk_rules(
     maps: &[u16],
     limits: &[u16],
     parents: &[u16],
+    highest: &[u32],
 ) -> bool
-    requires { ⌜ Holds (sizesFit z and diskLengths z (diskOf (now records) (now numbers) (now accounts) (now maps) (now limits) (now parents))) ⌝ }
-    ensures { λ r. ⌜ ((m : Memory) → r ≡ test (diskRules z (record { disk = diskEntered records numbers accounts maps limits parents; memory = m }))) ⌝ }
+    requires { ⌜ Holds (sizesFit z and diskLengths z (diskOf (now records) (now numbers) (now accounts) (now maps) (now limits) (now parents) (now highest))) ⌝ }
+    ensures { λ r. ⌜ ((m : Memory) → r ≡ test (diskRules z (record { disk = diskEntered records numbers accounts maps limits parents highest; memory = m }))) ⌝ }
 {
     let mut listed: [u32; RECORD_MARKS] = [0; RECORD_MARKS];
     crate::groups::disk(z, numbers, accounts, maps, parents, &mut listed)
@@ -43,6 +44,7 @@ pub fn all_rules(
     maps: &[u16],
     limits: &[u16],
     parents: &[u16],
+    highest: &[u32],
     words: &[u32],
     free_queue: &[u16],
     removal_list: &[u16],
@@ -55,8 +57,8 @@ pub fn all_rules(
     images: &[u16],
     used: &[u16],
 ) -> bool
-    requires { ⌜ Holds (allFit z (given (take count (unpacked (now frames))) pool records numbers accounts maps limits parents words «free_queue» «removal_list» addresses states owners «free_map» active updating images used)) ⌝ }
-    ensures { λ r. ⌜ r ≡ test (allRules z (entered (take count (unpacked (now (frames .entry)))) pool records numbers accounts maps limits parents words «free_queue» «removal_list» addresses states owners «free_map» active updating images used)) ⌝ }
+    requires { ⌜ Holds (allFit z (given (take count (unpacked (now frames))) pool records numbers accounts maps limits parents highest words «free_queue» «removal_list» addresses states owners «free_map» active updating images used)) ⌝ }
+    ensures { λ r. ⌜ r ≡ test (allRules z (entered (take count (unpacked (now (frames .entry)))) pool records numbers accounts maps limits parents highest words «free_queue» «removal_list» addresses states owners «free_map» active updating images used)) ⌝ }
 {
     let mut listed: [u32; RECORD_MARKS] = [0; RECORD_MARKS];
     if crate::groups::disk(z, numbers, accounts, maps, parents, &mut listed) {} else {

@@ -67,7 +67,7 @@ pub record Ran (s before after : List ℕ) (from count : ℕ) (st : State) (to s
 -- ── all of it ──
 -- the tables before anything is done
 abbrev pub blank : State
-blank = allOf (replicate 2 noFrame) noPool (zeros 8) (zeros 2) (zeros 2) (zeros 6) (zeros 1) (zeros 1)
+blank = allOf (replicate 2 noFrame) noPool (zeros 8) (zeros 2) (zeros 2) (zeros 6) (zeros 1) (zeros 1) (zeros 1)
     (zeros 4) (zeros 2) (zeros 2) (zeros 6) (zeros 4) (zeros 4) (zeros 1) (zeros 2) (zeros 2) (zeros 6) (zeros 32) (zeros 1)
 
 unfoldable pub output : List ℕ → List ℕ

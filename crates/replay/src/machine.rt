@@ -53,6 +53,7 @@ pub fn carry(
     maps: &mut [u16; 6],
     limits: &mut [u16; 1],
     parents: &[u16; 1],
+    highest: &mut [u32; 1],
     frame_words: &mut [u32; 4],
     free_queue: &mut [u16; 2],
     removal_list: &mut [u16; 2],
@@ -67,8 +68,8 @@ pub fn carry(
     used: &mut [u16; 1],
 ) -> Pooled
     ensures { λ r.
-        ⌜ record { answer = r .answer; left = allLeft (framesOf (r .frames) 2) (r .pool) records numbers accounts maps limits parents «frame_words» «free_queue» «removal_list» addresses states owners «free_map» active updating images line used }
-        ≡ carried (allEntered (framesOf (held .frames) 2) (held .pool) records numbers accounts maps limits parents «frame_words» «free_queue» «removal_list» addresses states owners «free_map» active updating images line used) asked ⌝ }
+        ⌜ record { answer = r .answer; left = allLeft (framesOf (r .frames) 2) (r .pool) records numbers accounts maps limits parents highest «frame_words» «free_queue» «removal_list» addresses states owners «free_map» active updating images line used }
+        ≡ carried (allEntered (framesOf (held .frames) 2) (held .pool) records numbers accounts maps limits parents highest «frame_words» «free_queue» «removal_list» addresses states owners «free_map» active updating images line used) asked ⌝ }
 {
     let frames = held.frames;
     let pool = held.pool;
@@ -84,6 +85,7 @@ pub fn carry(
             maps,
             limits,
             parents,
+            highest,
             frame_words,
             free_queue,
             removal_list,
@@ -110,6 +112,7 @@ pub fn carry(
         maps,
         limits,
         parents,
+        highest,
         frame_words,
         free_queue,
         removal_list,
@@ -142,6 +145,7 @@ pub fn start(
     maps: &mut [u16; 6],
     limits: &mut [u16; 1],
     parents: &mut [u16; 1],
+    highest: &mut [u32; 1],
     frame_words: &mut [u32; 4],
     free_queue: &mut [u16; 2],
     removal_list: &mut [u16; 2],
@@ -156,8 +160,8 @@ pub fn start(
     used: &mut [u16; 1],
 ) -> Pooled
     ensures { λ r.
-        ⌜ record { answer = r .answer; left = allLeft (framesOf (r .frames) 2) (r .pool) records numbers accounts maps limits parents «frame_words» «free_queue» «removal_list» addresses states owners «free_map» active updating images line used }
-        ≡ startedFrom (allEntered (framesOf (replicate 64 noFrame) 2) noPool records numbers accounts maps limits parents «frame_words» «free_queue» «removal_list» addresses states owners «free_map» active updating images line used) ⌝ }
+        ⌜ record { answer = r .answer; left = allLeft (framesOf (r .frames) 2) (r .pool) records numbers accounts maps limits parents highest «frame_words» «free_queue» «removal_list» addresses states owners «free_map» active updating images line used }
+        ≡ startedFrom (allEntered (framesOf (replicate 64 noFrame) 2) noPool records numbers accounts maps limits parents highest «frame_words» «free_queue» «removal_list» addresses states owners «free_map» active updating images line used) ⌝ }
 {
     let wanted = [0u16; 1];
     calls::format(
@@ -169,6 +173,7 @@ pub fn start(
         maps,
         limits,
         parents,
+        highest,
     );
     carry(
         cut(),
@@ -179,6 +184,7 @@ pub fn start(
         maps,
         limits,
         parents,
+        highest,
         frame_words,
         free_queue,
         removal_list,

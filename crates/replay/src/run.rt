@@ -75,6 +75,7 @@ pub fn run() {
     let mut maps = [0u16; 6];
     let mut limits = [0u16; 1];
     let mut parents = [0u16; 1];
+    let mut highest = [0u32; 1];
     let mut frame_words = [0u32; 4];
     let mut free_queue = [0u16; 2];
     let mut removal_list = [0u16; 2];
@@ -94,6 +95,7 @@ pub fn run() {
         &mut maps,
         &mut limits,
         &mut parents,
+        &mut highest,
         &mut frame_words,
         &mut free_queue,
         &mut removal_list,
@@ -128,6 +130,7 @@ pub fn run() {
             &mut maps,
             &mut limits,
             &parents,
+            &mut highest,
             &mut frame_words,
             &mut free_queue,
             &mut removal_list,

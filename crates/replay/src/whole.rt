@@ -33,6 +33,7 @@ pub fn whole_fields(
     maps: &mut [u16; 6],
     limits: &mut [u16; 1],
     parents: &[u16; 1],
+    highest: &mut [u32; 1],
     frame_words: &mut [u32; 4],
     free_queue: &mut [u16; 2],
     removal_list: &mut [u16; 2],
@@ -50,9 +51,9 @@ pub fn whole_fields(
     ensures { λ r. ⌜ isWhole (fieldAt (now (input .entry)) (r .place)) && room (r .size) (r .n) ≡ false ⌝ }
     ensures { λ r.
         ⌜ Ran (now (input .entry)) (now (out .entry)) (now (out .exit)) from count
-        (allEntered (framesOf (before .frames) 2) (before .pool) records numbers accounts maps limits parents «frame_words» «free_queue» «removal_list» addresses states owners «free_map» active updating images line used)
+        (allEntered (framesOf (before .frames) 2) (before .pool) records numbers accounts maps limits parents highest «frame_words» «free_queue» «removal_list» addresses states owners «free_map» active updating images line used)
         (r .place) (r .size) (r .n)
-        (allLeft (framesOf (r .held .frames) 2) (r .held .pool) records numbers accounts maps limits parents «frame_words» «free_queue» «removal_list» addresses states owners «free_map» active updating images line used) ⌝ }
+        (allLeft (framesOf (r .held .frames) 2) (r .held .pool) records numbers accounts maps limits parents highest «frame_words» «free_queue» «removal_list» addresses states owners «free_map» active updating images line used) ⌝ }
 {
     let mut held = before;
     let mut place = from;
@@ -71,6 +72,7 @@ pub fn whole_fields(
             maps,
             limits,
             parents,
+            highest,
             frame_words,
             free_queue,
             removal_list,

@@ -15,10 +15,11 @@ use Rattle.model.specs.Laws.Ruled.{OnDisk, disk-ruled}
 use Rattle.model.specs.Lent.{stateOf, same-state}
 use Rattle.model.specs.Laws.Fit.{Fit, fit}
 use Rattle.model.specs.Setters.{counted}
-use Rattle.model.specs.Restart.{restarted, isListed, listedAt}
+use Rattle.model.specs.Restart.{raised, restarted, isListed, listedAt}
 use Rattle.model.specs.Laws.Own.{refusal}
 use Rattle.model.specs.Step.{Outcome, outcome, allFit, restart}
 use Rattle.restarts.specs.Restarts.{seen}
+use Rattle.restarts.specs.Numbers.{numbered, raised-seen}
 
 -- the restarted memory looks at the accounts, the maps, the limits and the parents alone
 pub restarted-seen : (z : Sizes) (d : Disk) → restarted z (seen (d .accounts) (d .maps) (d .limits) (d .parents)) .memory ≡ restarted z d .memory
@@ -30,18 +31,19 @@ pub restarted-whole : (z : Sizes) (d : Disk) → record { disk = d; memory = res
 unfolding restarted counted
 restarted-whole z d = ap (λ (m : Memory). record { disk = d; memory = m }) (restarted-seen z d)
 
--- .. table by table
+-- .. table by table, the highest number raised
 module _ (z : Sizes) (d : Disk) where
   abbrev m : Memory
   m = restarted z (seen (d .accounts) (d .maps) (d .limits) (d .parents)) .memory
 
-  pub restarted-tables : {frames : List Frame} {pool : Pool} {words free-queue removal-list addresses states owners free-map active updating images used : List ℕ}
-      → frames ≡ m .core .frames → pool ≡ m .held .pool → words ≡ m .core .words → free-queue ≡ m .core .free-queue → removal-list ≡ m .core .removal-list
+  pub restarted-tables : {frames : List Frame} {pool : Pool} {highest words free-queue removal-list addresses states owners free-map active updating images used : List ℕ}
+      → highest ≡ raised z (numbered (d .numbers) (d .highest)) .highest → frames ≡ m .core .frames → pool ≡ m .held .pool → words ≡ m .core .words → free-queue ≡ m .core .free-queue → removal-list ≡ m .core .removal-list
       → addresses ≡ m .held .addresses → states ≡ m .held .states → owners ≡ m .held .owners → free-map ≡ m .held .free-map
       → active ≡ m .slots .active → updating ≡ m .slots .updating → images ≡ m .slots .images → used ≡ m .used
-      → stateOf frames pool (d .records) (d .numbers) (d .accounts) (d .maps) (d .limits) (d .parents) words free-queue removal-list addresses states owners free-map active updating images used ≡ restarted z d
-  unfolding restarted counted
-  restarted-tables f p w q r a s o e c u i n = same-state f p refl refl refl refl refl refl w q r a s o e c u i n ∙ restarted-whole z d
+      → stateOf frames pool (d .records) (d .numbers) (d .accounts) (d .maps) (d .limits) (d .parents) highest words free-queue removal-list addresses states owners free-map active updating images used
+      ≡ restarted z (raised z d)
+  unfolding restarted counted raised
+  restarted-tables h f p w q r a s o e c u i n = same-state f p refl refl refl refl refl refl (h ∙ raised-seen d z) w q r a s o e c u i n ∙ restarted-whole z (raised z d)
 
 module _ (z : Sizes) (st : State) where
   -- questions 1 and 2, tested
@@ -52,7 +54,7 @@ module _ (z : Sizes) (st : State) where
   disk-told e = disk-ruled z st (sound (diskRules z st) (rw (← e) tt))
 
   abbrev by : Bool → Bool → Outcome State
-  by a b = outcome (if a (if b 0 2) 1) 0 st (restarted z (st .disk))
+  by a b = outcome (if a (if b 0 2) 1) 0 st (restarted z (raised z (st .disk)))
 
   pub restart-unfit : false ≡ test (allFit z st) → refusal 1 st ≡ restart z st
   unfolding restart firstNo
@@ -62,6 +64,6 @@ module _ (z : Sizes) (st : State) where
   unfolding restart firstNo
   restart-unruled e r = ap (λ (b : Bool). by true b) r ∙ ap (λ (a : Bool). by a (test (diskRules z st))) e
 
-  pub restart-done : true ≡ test (allFit z st) → true ≡ test (diskRules z st) → refusal 0 (restarted z (st .disk)) ≡ restart z st
+  pub restart-done : true ≡ test (allFit z st) → true ≡ test (diskRules z st) → refusal 0 (restarted z (raised z (st .disk))) ≡ restart z st
   unfolding restart firstNo
   restart-done e r = ap (λ (b : Bool). by true b) r ∙ ap (λ (a : Bool). by a (test (diskRules z st))) e

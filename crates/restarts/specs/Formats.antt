@@ -20,11 +20,12 @@ use Rattle.model.specs.Step.{Outcome, outcome, formatLengths, format}
 -- as many zeros as each table is long; the wanted parents
 abbrev pub zeroed : List ℕ → Disk → Disk
 zeroed wanted d = diskOf (replicate (length (d .records)) 0) (replicate (length (d .numbers)) 0) (replicate (length (d .accounts)) 0) (replicate (length (d .maps)) 0) (replicate (length (d .limits)) 0)
-    (tab (length (d .parents)) (λ a. if (eqb a 0) 0 (at wanted a)) 0)
+    (tab (length (d .parents)) (λ a. if (eqb a 0) 0 (at wanted a)) 0) (replicate (length (d .highest)) 0)
 
 pub formatted-long : (z : Sizes) (wanted : List ℕ) (d : Disk) → DiskFit z d → zeroed wanted d ≡ formatted z wanted
 unfolding formatted
 formatted-long z wanted d h = λ x. diskOf (replicate (h .records x) 0) (replicate (h .numbers x) 0) (replicate (h .accounts x) 0) (replicate (h .maps x) 0) (replicate (h .limits x) 0) (tab (h .parents x) (λ a. if (eqb a 0) 0 (at wanted a)) 0)
+    (replicate (h .highest x) 0)
 
 abbrev pub formatsTo : ℕ → Disk → Outcome Disk
 formatsTo n d = record { answer = record { refusal = n; result = 0 }; left = d }

@@ -35,7 +35,7 @@ use Rattle.restarts.specs.Counts.{listedUsed, used-alike, used-inactive}
 
 -- the tables that restart reads; no definition of it looks at the others
 abbrev pub seen : List ℕ → List ℕ → List ℕ → List ℕ → Disk
-seen accounts maps limits parents = diskOf [] [] accounts maps limits parents
+seen accounts maps limits parents = diskOf [] [] accounts maps limits parents []
 
 -- hand 0, and so many free records
 abbrev pub poolOf : ℕ → Pool

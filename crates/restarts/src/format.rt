@@ -31,6 +31,7 @@ pub fn format_tables(
     limits: &mut [u16],
     wanted: &[u16],
     parents: &mut [u16],
+    highest: &mut [u32],
 )
     ensures records { λ _. ⌜ now (records .exit) ≡ replicate (length (now (records .entry))) 0 ⌝ }
     ensures numbers { λ _. ⌜ now (numbers .exit) ≡ replicate (length (now (numbers .entry))) 0 ⌝ }
@@ -38,6 +39,7 @@ pub fn format_tables(
     ensures maps { λ _. ⌜ now (maps .exit) ≡ replicate (length (now (maps .entry))) 0 ⌝ }
     ensures limits { λ _. ⌜ now (limits .exit) ≡ replicate (length (now (limits .entry))) 0 ⌝ }
     ensures parents { λ _. ⌜ now (parents .exit) ≡ tab (length (now (parents .entry))) (λ a. if (eqb a 0) 0 (at (now (wanted .entry)) a)) 0 ⌝ }
+    ensures highest { λ _. ⌜ now (highest .exit) ≡ replicate (length (now (highest .entry))) 0 ⌝ }
 {
     zero32(records);
     zero32(numbers);
@@ -45,4 +47,5 @@ pub fn format_tables(
     zero16(maps);
     zero16(limits);
     store_parents(wanted, parents);
+    zero32(highest);
 }

@@ -18,7 +18,7 @@ use Rattle.model.specs.declared.sizes.Sizes.{Sizes}
 use Rattle.model.specs.declared.event.Answer.{Answer}
 use Rattle.model.specs.declared.frame.Pool.{Pool}
 use Rattle.model.specs.State.{Disk, State, files, frames, usedOf, freeCount}
-use Rattle.model.specs.Setters.{counted}
+use Rattle.model.specs.Setters.{raise, counted}
 use Rattle.model.specs.Parts.{ofSlot}
 use Rattle.model.specs.Payer.{payer}
 use Rattle.model.specs.Pool.{taken}
@@ -39,11 +39,11 @@ use Rattle.calls.specs.Common.{common, common-passes}
 
 -- the tables of a state that an import changes, and the state with others in their place
 abbrev pub tablesIn : State → Tables
-tablesIn st = tablesOf (st .memory .held .pool) (st .disk .records) (st .disk .numbers) (st .disk .accounts) (st .disk .maps) (st .memory .held .states) (st .memory .held .owners) (st .memory .held .free-map) (st .memory .used)
+tablesIn st = tablesOf (st .memory .held .pool) (st .disk .records) (st .disk .numbers) (st .disk .accounts) (st .disk .maps) (st .disk .highest) (st .memory .held .states) (st .memory .held .owners) (st .memory .held .free-map) (st .memory .used)
 
 abbrev pub with : State → Tables → State
 with st t = let m = st .memory in let d = st .disk in
-    stateIn (m .line) (m .core .frames) (t .pool) (t .records) (t .numbers) (t .accounts) (t .maps) (d .limits) (d .parents) (m .core .words) (m .core .free-queue) (m .core .removal-list)
+    stateIn (m .line) (m .core .frames) (t .pool) (t .records) (t .numbers) (t .accounts) (t .maps) (d .limits) (d .parents) (t .highest) (m .core .words) (m .core .free-queue) (m .core .removal-list)
     (m .held .addresses) (t .states) (t .owners) (t .free-map) (m .slots .active) (m .slots .updating) (m .slots .images) (t .used)
 
 module _ (z : Sizes) (st : State) (s q n : ℕ) (b : List ℕ) where
@@ -92,25 +92,26 @@ module _ (z : Sizes) (st : State) (s q n : ℕ) (b : List ℕ) where
     used-left = tab-entries (z .accounts) _ (usedMore (st .memory .used) pays c) (length-set (st .memory .used) pays _ ∙ k .fit .memory .used) used-now
 
     -- the stores of records leave the other tables of the disk alone
-    made-same : (k : ℕ) → (let d = made z st s q n h k (st .disk) in
-        (d .numbers ≡ st .disk .numbers) × (d .accounts ≡ st .disk .accounts) × (d .maps ≡ st .disk .maps) × (d .limits ≡ st .disk .limits) × (d .parents ≡ st .disk .parents))
+    made-same : (x : Disk) (k : ℕ) → (let d = made z st s q n h k x in
+        (d .numbers ≡ x .numbers) × (d .accounts ≡ x .accounts) × (d .maps ≡ x .maps) × (d .limits ≡ x .limits) × (d .parents ≡ x .parents) × (d .highest ≡ x .highest))
     unfolding made storeRecord
-    made-same zero = (refl, refl, refl, refl, refl)
-    made-same (suc k) = made-same k
+    made-same x zero = (refl, refl, refl, refl, refl, refl)
+    made-same x (suc k) = made-same x k
 
     pub import-left : with st (importedTables z s q n b (st .disk .limits) (st .disk .parents) (tablesIn st)) ≡ imported z st s q n h
     unfolding importedTables imported counted storeSlot
     import-left =
         let took : taking z seen′ s c ≡ taking z st s c = sym (same-taking z st s c) in
-        let (numbers, accounts, maps, limits, parents) = made-same c in
+        let (numbers, accounts, maps, limits, parents, highest) = made-same (raise n (st .disk)) c in
         same-state refl
         (λ i. record { hand = taken z (took i .last) (st .memory .held .pool) .hand; free = free-left i })
-        (sym (same-records z st s q n h c (st .disk)))
+        (sym (same-records z st s q n h c (raise n (st .disk))))
         (ap (λ (l : List ℕ). set l s n) (sym numbers))
         (ap (λ (l : List ℕ). set l s q) (sym accounts))
         (λ i. store (sym maps i) (ofSlot z s) (λ j. sym (same-entry z st s q n h (j % z .pages)) i))
         (sym limits)
         (sym parents)
+        (sym highest)
         refl
         refl
         refl

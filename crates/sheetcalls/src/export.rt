@@ -26,6 +26,7 @@ pub fn export_core(
     maps: &[u16],
     limits: &[u16],
     parents: &[u16],
+    highest: &[u32],
     frame_words: &[u32],
     free_queue: &[u16],
     removal_list: &[u16],
@@ -40,7 +41,7 @@ pub fn export_core(
     used: &[u16],
 ) -> Answer
     ensures { λ r. ⌜ handed r (now (sheet .exit)) ≡ export sizes
-        (allEntered (framesOf frames lent) pool records numbers accounts maps limits parents
+        (allEntered (framesOf frames lent) pool records numbers accounts maps limits parents highest
         «frame_words» «free_queue» «removal_list» addresses states owners «free_map» active updating images line used) slot (now (sheet .entry)) ⌝ }
 {
     let packed = pack_all(frames);
@@ -55,6 +56,7 @@ pub fn export_core(
         maps,
         limits,
         parents,
+        highest,
         frame_words,
         free_queue,
         removal_list,

@@ -29,6 +29,7 @@ pub fn import_core(
     maps: &mut [u16],
     limits: &[u16],
     parents: &[u16],
+    highest: &mut [u32],
     frame_words: &[u32],
     free_queue: &[u16],
     removal_list: &[u16],
@@ -43,10 +44,10 @@ pub fn import_core(
     used: &mut [u16],
 ) -> Imported
     ensures { λ r. ⌜ leaves (r .answer)
-        (allLeft (framesOf frames lent) (r .pool) records numbers accounts maps limits parents
+        (allLeft (framesOf frames lent) (r .pool) records numbers accounts maps limits parents highest
         «frame_words» «free_queue» «removal_list» addresses states owners «free_map» active updating images line used)
         ≡ import sizes
-        (allEntered (framesOf frames lent) pool records numbers accounts maps limits parents
+        (allEntered (framesOf frames lent) pool records numbers accounts maps limits parents highest
         «frame_words» «free_queue» «removal_list» addresses states owners «free_map» active updating images line used) slot account number (now (sheet .entry)) ⌝ }
 {
     let packed = pack_all(frames);
@@ -61,6 +62,7 @@ pub fn import_core(
         maps,
         limits,
         parents,
+        highest,
         frame_words,
         free_queue,
         removal_list,
@@ -91,6 +93,7 @@ pub fn import_core(
         maps,
         limits,
         parents,
+        highest,
         states,
         owners,
         free_map,

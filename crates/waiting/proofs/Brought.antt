@@ -49,7 +49,7 @@ module _ (z : Sizes) (st : State) (k : Kept z st) (w : Waiting z st) (away : ¬ 
   -- all tables, with those new that a turn changes
   abbrev after : List ℕ → List Frame → Pool → List ℕ → List ℕ → List ℕ → List ℕ → List ℕ → List ℕ → List ℕ → List ℕ → State
   after line fs pool ws fq rl ads ss os fm us =
-      stateIn line fs pool (disk .records) (disk .numbers) (disk .accounts) (disk .maps) (disk .limits) (disk .parents) ws fq rl ads ss os fm (slots .active) (slots .updating) (slots .images) us
+      stateIn line fs pool (disk .records) (disk .numbers) (disk .accounts) (disk .maps) (disk .limits) (disk .parents) (disk .highest) ws fq rl ads ss os fm (slots .active) (slots .updating) (slots .images) us
 
   module _ {fs : List Frame} (pool : Pool) {ws fq rl ads ss os fm : List ℕ} {a : Answer} (l : FaultLeft z sees (slotOf z i) (i % z .pages) fs pool ws fq rl ads ss os fm)
       (e : a ≡ own z sees (Event.Page (Fault (slotOf z i) (i % z .pages))) .answer) where

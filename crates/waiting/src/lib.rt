@@ -28,6 +28,7 @@ pub fn waiting_event(
     maps: &[u16],
     limits: &[u16],
     parents: &[u16],
+    highest: &[u32],
     frame_words: &mut [u32],
     free_queue: &mut [u16],
     removal_list: &mut [u16],
@@ -42,13 +43,13 @@ pub fn waiting_event(
     used: &mut [u16],
 ) -> Worked
     requires { ⌜ Kept sizes
-        (allGiven (framesGiven sizes frames) pool records numbers accounts maps limits parents
+        (allGiven (framesGiven sizes frames) pool records numbers accounts maps limits parents highest
         «frame_words» «free_queue» «removal_list» addresses states owners «free_map» active updating images line used) ⌝ }
     ensures { λ r. ⌜ leaves (r .answer)
-        (allLeft (framesLeft sizes frames) (deposited (r .deposited) (taken sizes (r .taken) pool)) records numbers accounts maps limits parents
+        (allLeft (framesLeft sizes frames) (deposited (r .deposited) (taken sizes (r .taken) pool)) records numbers accounts maps limits parents highest
         «frame_words» «free_queue» «removal_list» addresses states owners «free_map» active updating images line used)
         ≡ own sizes
-        (allEntered (framesEntered sizes frames) pool records numbers accounts maps limits parents
+        (allEntered (framesEntered sizes frames) pool records numbers accounts maps limits parents highest
         «frame_words» «free_queue» «removal_list» addresses states owners «free_map» active updating images line used)
         (Event.Waiting event) ⌝ }
 {
@@ -71,6 +72,7 @@ pub fn waiting_event(
             maps,
             limits,
             parents,
+            highest,
             frame_words,
             free_queue,
             removal_list,

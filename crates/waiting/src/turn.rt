@@ -103,6 +103,7 @@ fn fetch(
     maps: &[u16],
     limits: &[u16],
     parents: &[u16],
+    highest: &[u32],
     frame_words: &mut [u32],
     free_queue: &mut [u16],
     removal_list: &mut [u16],
@@ -117,14 +118,14 @@ fn fetch(
     used: &mut [u16],
 ) -> Worked
     requires { ⌜ Kept sizes
-        (allGiven (framesGiven sizes frames) pool records numbers accounts maps limits parents
+        (allGiven (framesGiven sizes frames) pool records numbers accounts maps limits parents highest
         «frame_words» «free_queue» «removal_list» addresses states owners «free_map» active updating images line used)
         × (0 < size (now line)) × (i ≡ first (now line)) × ¬ (frameIn (sizes .frames) (unpacked (now frames)) i < sizes .frames) ⌝ }
     ensures { λ r. ⌜ leaves (r .answer)
-        (allLeft (framesLeft sizes frames) (deposited (r .deposited) (taken sizes (r .taken) pool)) records numbers accounts maps limits parents
+        (allLeft (framesLeft sizes frames) (deposited (r .deposited) (taken sizes (r .taken) pool)) records numbers accounts maps limits parents highest
         «frame_words» «free_queue» «removal_list» addresses states owners «free_map» active updating images line used)
         ≡ own sizes
-        (allEntered (framesEntered sizes frames) pool records numbers accounts maps limits parents
+        (allEntered (framesEntered sizes frames) pool records numbers accounts maps limits parents highest
         «frame_words» «free_queue» «removal_list» addresses states owners «free_map» active updating images line used)
         (Event.Waiting Waiting.Turn) ⌝ }
 {
@@ -174,6 +175,7 @@ pub fn turn(
     maps: &[u16],
     limits: &[u16],
     parents: &[u16],
+    highest: &[u32],
     frame_words: &mut [u32],
     free_queue: &mut [u16],
     removal_list: &mut [u16],
@@ -188,13 +190,13 @@ pub fn turn(
     used: &mut [u16],
 ) -> Worked
     requires { ⌜ Kept sizes
-        (allGiven (framesGiven sizes frames) pool records numbers accounts maps limits parents
+        (allGiven (framesGiven sizes frames) pool records numbers accounts maps limits parents highest
         «frame_words» «free_queue» «removal_list» addresses states owners «free_map» active updating images line used) ⌝ }
     ensures { λ r. ⌜ leaves (r .answer)
-        (allLeft (framesLeft sizes frames) (deposited (r .deposited) (taken sizes (r .taken) pool)) records numbers accounts maps limits parents
+        (allLeft (framesLeft sizes frames) (deposited (r .deposited) (taken sizes (r .taken) pool)) records numbers accounts maps limits parents highest
         «frame_words» «free_queue» «removal_list» addresses states owners «free_map» active updating images line used)
         ≡ own sizes
-        (allEntered (framesEntered sizes frames) pool records numbers accounts maps limits parents
+        (allEntered (framesEntered sizes frames) pool records numbers accounts maps limits parents highest
         «frame_words» «free_queue» «removal_list» addresses states owners «free_map» active updating images line used)
         (Event.Waiting Waiting.Turn) ⌝ }
 {
@@ -218,6 +220,7 @@ pub fn turn(
         maps,
         limits,
         parents,
+        highest,
         frame_words,
         free_queue,
         removal_list,

@@ -231,23 +231,23 @@ module _ (z : Sizes) (st : State) (fit : Fit z st) (ruled : Ruled z st) where
     claimed = carried z st claim
 
     abbrev Left : State → Type 0
-    Left x = x ≡ stateIn (st .memory .line) (x .memory .core .frames) (st .memory .held .pool) (st .disk .records) (st .disk .numbers) (st .disk .accounts) (st .disk .maps) (st .disk .limits) (st .disk .parents)
+    Left x = x ≡ stateIn (st .memory .line) (x .memory .core .frames) (st .memory .held .pool) (st .disk .records) (st .disk .numbers) (st .disk .accounts) (st .disk .maps) (st .disk .limits) (st .disk .parents) (st .disk .highest)
         (st .memory .core .words) (x .memory .core .free-queue) (x .memory .core .removal-list) (st .memory .held .addresses) (x .memory .held .states) (st .memory .held .owners) (st .memory .held .free-map)
         (st .memory .slots .active) (st .memory .slots .updating) (st .memory .slots .images) (usedThen z st)
 
     left-writes : beginsWrite z st ≡ true → Left (counted z writes)
     unfolding counted payer usedThen
-    left-writes e = same-state refl (pool-kept z st fit (ruled .counts) writes (λ r b. refl) refl) refl refl refl refl refl refl refl refl refl refl refl refl
+    left-writes e = same-state refl (pool-kept z st fit (ruled .counts) writes (λ r b. refl) refl) refl refl refl refl refl refl refl refl refl refl refl refl refl
         (map-kept z st fit (ruled .counts) writes (λ r b. refl)) refl refl refl (used-kept z st fit (ruled .counts) writes (λ s. refl) writes-stay ∙ rw e)
 
     left-nulls : beginsWrite z st ≡ false → c .frame f .modified ≡ 1 → Left (counted z nulls)
     unfolding counted freeFrame usedThen
-    left-nulls e m = same-state refl (pool-kept z st fit (ruled .counts) nulls nulled-free refl) refl refl refl refl refl refl refl refl refl refl refl refl
+    left-nulls e m = same-state refl (pool-kept z st fit (ruled .counts) nulls nulled-free refl) refl refl refl refl refl refl refl refl refl refl refl refl refl
         (map-kept z st fit (ruled .counts) nulls nulled-free) refl refl refl (sym (nulled-less m) ∙ rw (e, eq-eqb _ _ m))
 
     left-frees : beginsWrite z st ≡ false → ¬ (c .frame f .modified ≡ 1) → Left (counted z frees)
     unfolding counted freeFrame usedThen
-    left-frees e m = same-state refl (pool-kept z st fit (ruled .counts) frees (λ r b. refl) refl) refl refl refl refl refl refl refl refl refl refl refl refl
+    left-frees e m = same-state refl (pool-kept z st fit (ruled .counts) frees (λ r b. refl) refl) refl refl refl refl refl refl refl refl refl refl refl refl refl
         (map-kept z st fit (ruled .counts) frees (λ r b. refl)) refl refl refl
         (frees-same m ∙ rw (e, ne-eqb _ _ m))
 

@@ -190,28 +190,28 @@ module _ (z : Sizes) (st : State) (fit : Fit z st) (ruled : Ruled z st) (f good 
 
   -- what page done leaves
   abbrev Left : State → Type 0
-  Left x = x ≡ stateIn (st .memory .line) (x .memory .core .frames) (st .memory .held .pool) (x .disk .records) (st .disk .numbers) (st .disk .accounts) (st .disk .maps) (st .disk .limits) (st .disk .parents)
+  Left x = x ≡ stateIn (st .memory .line) (x .memory .core .frames) (st .memory .held .pool) (x .disk .records) (st .disk .numbers) (st .disk .accounts) (st .disk .maps) (st .disk .limits) (st .disk .parents) (st .disk .highest)
       (x .memory .core .words) (x .memory .core .free-queue) (x .memory .core .removal-list) (st .memory .held .addresses) (x .memory .held .states) (st .memory .held .owners) (st .memory .held .free-map)
       (st .memory .slots .active) (st .memory .slots .updating) (st .memory .slots .images) (st .memory .used)
 
   left-read-good : old .transfer ≡ READING → Left (counted z (Writeback.readGood z st f))
   unfolding Writeback.readGood counted payer
-  left-read-good e = same-state refl (pool-kept z st fit (ruled .counts) (Writeback.readGood z st f) (read-good-stays e .free) refl) refl refl refl refl refl refl refl refl refl refl refl refl
+  left-read-good e = same-state refl (pool-kept z st fit (ruled .counts) (Writeback.readGood z st f) (read-good-stays e .free) refl) refl refl refl refl refl refl refl refl refl refl refl refl refl
       (map-kept z st fit (ruled .counts) (Writeback.readGood z st f) (read-good-stays e .free)) refl refl refl (used-kept z st fit (ruled .counts) (Writeback.readGood z st f) (λ s. refl) (read-good-stays e .pages))
 
   left-read-failed : old .transfer ≡ READING → Left (counted z (Writeback.readFailed z st f))
   unfolding Writeback.readFailed Writeback.freeFrame counted payer
-  left-read-failed e = same-state refl (pool-kept z st fit (ruled .counts) (Writeback.readFailed z st f) (read-failed-stays e .free) refl) refl refl refl refl refl refl refl refl refl refl refl refl
+  left-read-failed e = same-state refl (pool-kept z st fit (ruled .counts) (Writeback.readFailed z st f) (read-failed-stays e .free) refl) refl refl refl refl refl refl refl refl refl refl refl refl refl
       (map-kept z st fit (ruled .counts) (Writeback.readFailed z st f) (read-failed-stays e .free)) refl refl refl (used-kept z st fit (ruled .counts) (Writeback.readFailed z st f) (λ s. refl) (read-failed-stays e .pages))
 
   left-write-good : ¬ (old .transfer ≡ READING) → Left (counted z (Writeback.writeGood z st f))
   unfolding Writeback.writeGood Writeback.storeFrame Writeback.freeFrame counted payer
-  left-write-good e = same-state refl (pool-kept z st fit (ruled .counts) (Writeback.writeGood z st f) (write-good-stays e .free) refl) refl refl refl refl refl refl refl refl refl refl refl refl
+  left-write-good e = same-state refl (pool-kept z st fit (ruled .counts) (Writeback.writeGood z st f) (write-good-stays e .free) refl) refl refl refl refl refl refl refl refl refl refl refl refl refl
       (map-kept z st fit (ruled .counts) (Writeback.writeGood z st f) (write-good-stays e .free)) refl refl refl (used-kept z st fit (ruled .counts) (Writeback.writeGood z st f) (λ s. refl) (write-good-stays e .pages))
 
   left-write-failed : ¬ (old .transfer ≡ READING) → Left (counted z (Writeback.writeFailed z st f))
   unfolding Writeback.writeFailed counted payer
-  left-write-failed e = same-state refl (pool-kept z st fit (ruled .counts) (Writeback.writeFailed z st f) (write-failed-stays e .free) refl) refl refl refl refl refl refl refl refl refl refl refl refl
+  left-write-failed e = same-state refl (pool-kept z st fit (ruled .counts) (Writeback.writeFailed z st f) (write-failed-stays e .free) refl) refl refl refl refl refl refl refl refl refl refl refl refl refl
       (map-kept z st fit (ruled .counts) (Writeback.writeFailed z st f) (write-failed-stays e .free)) refl refl refl (used-kept z st fit (ruled .counts) (Writeback.writeFailed z st f) (λ s. refl) (write-failed-stays e .pages))
 
   pub page-done-left : Left done

@@ -6,33 +6,8 @@ use crate::events::pages::take_record;
 use crate::keeper::Keeper;
 use crate::questions;
 use crate::sheet::Sheet;
-use crate::tables::{Disk, FILED};
-
-/// One store that an import makes to the disk.
-#[derive(Clone, Debug, PartialEq, Eq)]
-pub enum Store {
-    /// A page's words go into the record that it takes.
-    Record { record: usize, words: Vec<u32> },
-    /// Number, account and whole map, the last.
-    Slot { slot: usize, number: u32, account: u16, map: Vec<u16> },
-}
-
-impl Store {
-    pub fn make(&self, disk: &mut Disk) {
-        match self {
-            Store::Record { record, words } => {
-                let start = record * words.len();
-                disk.records[start..start + words.len()].copy_from_slice(words);
-            }
-            Store::Slot { slot, number, account, map } => {
-                let start = slot * map.len();
-                disk.numbers[*slot] = *number;
-                disk.accounts[*slot] = *account;
-                disk.maps[start..start + map.len()].copy_from_slice(map);
-            }
-        }
-    }
-}
+use crate::stores::Store;
+use crate::tables::FILED;
 
 impl Keeper {
     /// What a slot's design says on the disk: its listed pages that are not all zeros.
@@ -105,9 +80,9 @@ impl Keeper {
     }
 
     /// Takes the records of a sheet's pages, the first by the hand, each next one near the one before it; gives the stores in their
-    /// order. Memory is as the import leaves it, the disk as it was.
+    /// order: the highest number, the records, the slot. Memory is as the import leaves it, the disk as it was.
     pub fn take_in(&mut self, slot: usize, account: usize, number: u32, sheet: &Sheet) -> Vec<Store> {
-        let (mut stores, mut map, mut last) = (Vec::new(), vec![0; self.sizes.pages], None);
+        let (mut stores, mut map, mut last) = (vec![Store::Highest { number }], vec![0; self.sizes.pages], None);
         for (page, words) in &sheet.woven {
             let record = take_record(self, slot, last, FILED);
             stores.push(Store::Record { record, words: words.clone() });

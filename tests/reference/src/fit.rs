@@ -10,6 +10,7 @@ pub fn disk_fits(sizes: &Sizes, disk: &Disk) -> bool {
         && disk.maps.len() == sizes.all_pages()
         && disk.limits.len() == sizes.accounts
         && disk.parents.len() == sizes.accounts
+        && disk.highest.len() == 1
 }
 
 pub fn memory_fits(sizes: &Sizes, memory: &Memory) -> bool {

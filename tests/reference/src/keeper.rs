@@ -32,7 +32,7 @@ impl Keeper {
         Answer::done(0)
     }
 
-    /// Builds memory anew from the disk part alone.
+    /// Builds memory anew from the disk part alone, and stores the highest number where a slot has a higher one.
     pub fn restart(&mut self) -> Answer {
         if !fit::disk_fits(&self.sizes, &self.disk) || !fit::memory_fits(&self.sizes, &self.memory) {
             return Answer::refused(1);
@@ -40,6 +40,7 @@ impl Keeper {
         if !rules::disk::kept(&self.sizes, &self.disk) {
             return Answer::refused(2);
         }
+        self.disk.highest[0] = restart::highest(&self.disk);
         self.memory = restart::memory(&self.sizes, &self.disk);
         Answer::done(0)
     }

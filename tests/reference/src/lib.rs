@@ -17,4 +17,5 @@ pub mod queue; // the free queue, the removal list and the waiting line
 pub mod restart; // memory built anew from the disk part
 pub mod rules; // question 2
 pub mod sheet; // design sheets: what one says, printed and parsed
+pub mod stores; // the stores that a create and an import make to the disk
 pub mod tables; // sizes and tables

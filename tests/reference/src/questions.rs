@@ -1,5 +1,5 @@
-//! Questions 3 to 27, asked in number order, and 32 just after 3; each says yes to the events that it does not concern. Of import it has
-//! 3, 32, 5 and 6, of export 3, 4 and 9: carry.rs asks what they ask of a sheet.
+//! Questions 3 to 27, asked in number order, 32 just after 3 and 33 just after 6; each says yes to the events that it does not concern. Of
+//! import it has 3, 32, 5, 6 and 33, of export 3, 4 and 9: carry.rs asks what they ask of a sheet.
 
 use crate::accounts;
 use crate::event::Event;
@@ -15,12 +15,13 @@ pub const HIGH: u32 = 2_147_483_648;
 
 type Question = fn(&Keeper, Event) -> bool;
 
-const ASKED: [(u32, Question); 24] = [
+const ASKED: [(u32, Question); 25] = [
     (3, in_range),
     (32, number_low),
     (4, slot_filled),
     (5, slot_empty),
     (6, number_new),
+    (33, number_above),
     (7, map_zero),
     (8, active),
     (9, inactive),
@@ -98,6 +99,14 @@ fn slot_empty(keeper: &Keeper, event: Event) -> bool {
 fn number_new(keeper: &Keeper, event: Event) -> bool {
     match event {
         Event::Create { number, .. } | Event::Import { number, .. } => !keeper.disk.numbers.contains(&number),
+        _ => true,
+    }
+}
+
+/// A number is never given twice: each is above all that were.
+fn number_above(keeper: &Keeper, event: Event) -> bool {
+    match event {
+        Event::Create { number, .. } | Event::Import { number, .. } => number > keeper.disk.highest[0],
         _ => true,
     }
 }

@@ -1,7 +1,14 @@
-//! Memory as restart leaves it, from the disk part alone.
+//! What restart leaves: the memory from the disk part alone, and the highest number.
 
 use crate::accounts::payer;
+use crate::questions::HIGH;
 use crate::tables::{Disk, Memory, Pool, Sizes, FILED, FREE};
+
+/// The highest of itself and of the numbers below 2,147,483,648 that stand in slots: an older pack has a lower one.
+pub fn highest(disk: &Disk) -> u32 {
+    let low = disk.numbers.iter().copied().filter(|&number| number < HIGH);
+    low.fold(disk.highest[0], u32::max)
+}
 
 pub fn memory(sizes: &Sizes, disk: &Disk) -> Memory {
     let mut memory = Memory::zeros(sizes);

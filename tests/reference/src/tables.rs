@@ -79,6 +79,8 @@ pub struct Disk {
     pub maps: Vec<u16>,
     pub limits: Vec<u16>,
     pub parents: Vec<u16>,
+    /// One number: the highest below 2,147,483,648 ever given.
+    pub highest: Vec<u32>,
 }
 
 /// Queues hold frame + 1, packed at the front; addresses and images hold record + 1, or 0; the line holds flat page numbers + 1.
@@ -110,6 +112,7 @@ impl Disk {
             maps: vec![0; sizes.all_pages()],
             limits: vec![0; sizes.accounts],
             parents: vec![0; sizes.accounts],
+            highest: vec![0],
         }
     }
 }

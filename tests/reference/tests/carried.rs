@@ -1,15 +1,16 @@
 //! A design carried to another board: exported there, imported here and read, it shows equal words on every page, after a cut too. And a
 //! cut inside an import: before its last store the slot is empty and all else is as it was.
 
-use reference::carry::Store;
 use reference::drive::boards::{board, page_sizes, sizes};
 use reference::drive::random::Random;
 use reference::drive::{cut, sheets, Subject};
 use reference::event::{Answer, Request};
 use reference::keeper::Keeper;
 use reference::linked;
+use reference::questions::HIGH;
 use reference::rules;
 use reference::sheet::Sheet;
+use reference::stores::Store;
 use reference::tables::{Disk, Sizes, FREE, READING};
 
 const BOARDS: u64 = 6_000;
@@ -57,7 +58,12 @@ fn texts(keeper: &Keeper, slot: usize) -> Vec<Vec<u32>> {
     (0..keeper.sizes.pages).map(|page| sheet.text(page)).collect()
 }
 
-/// Another board of the same W and N with an empty slot, whose accounts may have any number of pages.
+/// The number that a board can give next.
+fn next(keeper: &Keeper) -> u32 {
+    keeper.disk.highest[0] + 1
+}
+
+/// Another board of the same W and N with an empty slot and numbers left to give, whose accounts may have any number of pages.
 fn other_board(random: &mut Random, words: usize, pages: usize) -> Option<(Keeper, usize)> {
     let sizes = Sizes { records: random.up_to(60), ..sizes(random, words, pages) };
     let mut keeper = board(random.next(), sizes, 80);
@@ -65,15 +71,16 @@ fn other_board(random: &mut Random, words: usize, pages: usize) -> Option<(Keepe
         keeper.apply(Request { kind: 0x0F, first: account as u32, second: 65_535, third: 0, fourth: 0 });
     }
     let slot = random.find(keeper.sizes.slots, |slot| keeper.disk.numbers[slot] == 0)?;
-    Some((keeper, slot))
+    (keeper.disk.highest[0] < HIGH - 2).then_some((keeper, slot))
 }
 
 /// A board and a design at rest on it: one that a list of events made, the one with most pages, or one that came by a sheet.
 fn design(random: &mut Random, words: usize, pages: usize) -> Option<(Keeper, usize)> {
     if random.percent(50) {
         let (mut keeper, slot) = other_board(random, words, pages)?;
-        let sheet = sheets::of_form(random, words, pages, 4_000).print();
-        let answer = keeper.import(slot, 0, 4_000, &sheet);
+        let number = next(&keeper);
+        let sheet = sheets::of_form(random, words, pages, number).print();
+        let answer = keeper.import(slot, 0, number, &sheet);
         return (answer.refusal == 0).then_some((keeper, slot));
     }
     let keeper = board(random.next(), sizes(random, words, pages), 200);
@@ -101,7 +108,7 @@ fn carry(subject: &Subject, from: (&Keeper, usize), to: (&Keeper, usize), seed: 
     assert_eq!(answer.refusal, 0, "{}: export", subject.name);
     bytes.truncate(answer.result as usize);
     let account = random.below(keeper.sizes.accounts);
-    let answer = (subject.import)(&mut keeper, slot, account, 5_000, &bytes);
+    let answer = (subject.import)(&mut keeper, slot, account, next(to.0), &bytes);
     if answer == Answer::refused(19) {
         read.full += 1;
         return;
@@ -151,14 +158,15 @@ fn cut_after(subject: &Subject, start: &Keeper, stores: &[Store], seed: u64) -> 
 fn written(stores: &[Store]) -> Vec<usize> {
     let record = |store: &Store| match store {
         Store::Record { record, .. } => Some(*record),
-        Store::Slot { .. } => None,
+        _ => None,
     };
     stores.iter().filter_map(record).collect()
 }
 
-/// All is equal but the words of these records, and they are free.
-fn but_for(after: &Keeper, plain: &Keeper, records: &[usize]) {
+/// All is equal but the words of these records, which are free, and the highest number.
+fn but_for(after: &Keeper, plain: &Keeper, highest: u32, records: &[usize]) {
     let mut wanted = plain.clone();
+    wanted.disk.highest[0] = highest;
     for &record in records {
         assert_eq!(after.memory.states[record], FREE);
         let words = plain.words_of_record(record);
@@ -181,9 +189,10 @@ fn taken_in(after: &Keeper, plain: &Keeper, slot: usize, sheet: &Sheet) {
 /// A cut after each of the import's stores, by one keeper; the cuts.
 fn cut_inside(subject: &Subject, start: &Keeper, slot: usize, sheet: &Sheet, seed: u64) -> u64 {
     let (account, bytes) = (Random::new(seed).below(start.sizes.accounts), sheet.print());
-    let stores = start.clone().take_in(slot, account, 5_000, sheet);
+    let number = next(start);
+    let stores = start.clone().take_in(slot, account, number, sheet);
     let mut whole = start.clone();
-    assert_eq!((subject.import)(&mut whole, slot, account, 5_000, &bytes), Answer::done(sheet.number));
+    assert_eq!((subject.import)(&mut whole, slot, account, number, &bytes), Answer::done(sheet.number));
     let mut disk = start.disk.clone();
     stores.iter().for_each(|store| store.make(&mut disk));
     assert!(whole.disk == disk, "{}: an import stored something else", subject.name);
@@ -192,10 +201,13 @@ fn cut_inside(subject: &Subject, start: &Keeper, slot: usize, sheet: &Sheet, see
         let mut after = cut_after(subject, start, &stores[..made], seed);
         assert_eq!((after.disk.numbers[slot], after.disk.accounts[slot]), (0, 0));
         assert!(after.disk.maps[after.pages_of(slot)].iter().all(|&entry| entry == 0));
-        but_for(&after, &plain, &written(&stores[..made]));
-        // what was refused or not before is so now
+        but_for(&after, &plain, if made > 0 { number } else { number - 1 }, &written(&stores[..made]));
+        // the number is skipped; under the next one, what was refused or not before is so now
         let mut again = plain.clone();
-        let answers = [&mut after, &mut again].map(|keeper| (subject.import)(keeper, slot, account, 5_000, &bytes));
+        if made > 0 {
+            assert_eq!((subject.import)(&mut after, slot, account, number, &bytes), Answer::refused(33));
+        }
+        let answers = [&mut after, &mut again].map(|keeper| (subject.import)(keeper, slot, account, number + 1, &bytes));
         assert_eq!(answers[0], answers[1]);
     }
     taken_in(&cut_after(subject, start, &stores, seed), &plain, slot, sheet);
@@ -209,7 +221,7 @@ fn cuts_inside_an_import() {
         let mut random = Random::new(!seed);
         let (words, pages) = page_sizes(&mut random);
         let Some((start, slot)) = other_board(&mut random, words, pages) else { continue };
-        let sheet = sheets::of_form(&mut random, words, pages, 5_000);
+        let sheet = sheets::of_form(&mut random, words, pages, next(&start));
         if sheet.woven.len() <= start.memory.pool.free as usize {
             let seed = random.next();
             cuts += linked::all().iter().map(|own| cut_inside(own, &start, slot, &sheet, seed)).sum::<u64>();

@@ -43,7 +43,7 @@ fn sheet(number: u32) -> Vec<u8> {
 fn the_bound() {
     assert_eq!(HIGH, 2_147_483_648);
     let before = pack(5);
-    for number in [1, 2_147_483_646, 2_147_483_647] {
+    for number in [6, 2_147_483_646, 2_147_483_647] {
         assert_eq!(apply(&before, 0x01, &[1, 1, number], Answer::done(0)).disk.numbers, [5, number, 0]);
         assert_eq!(import(&before, [1, 1], number, &sheet(9), Answer::done(9)).disk.numbers, [5, number, 0]);
     }
@@ -106,7 +106,7 @@ fn a_sheet_of_an_older_board() {
 }
 
 /// A design's life from a pack to its delete: each event, its values and its answer.
-const LIFE: [(u32, [u32; 4], u32, u32); 34] = [
+const LIFE: [(u32, [u32; 4], u32, u32); 33] = [
     (0x02, [0, 0, 0, 0], 7, 0), // delete: the map lists pages
     (0x01, [0, 0, 9, 0], 5, 0), // create: the slot is filled
     (0x03, [0, 0, 0, 0], 0, 0), // activate
@@ -140,7 +140,6 @@ const LIFE: [(u32, [u32; 4], u32, u32); 34] = [
     (0x04, [0, 0, 0, 0], 0, 0),
     (0x02, [0, 0, 0, 0], 0, 0), // delete
     (0x02, [0, 0, 0, 0], 4, 0),
-    (0x01, [0, 0, 9, 0], 0, 0), // the slot is free for another
 ];
 
 #[test]
@@ -151,7 +150,9 @@ fn a_life() {
             println!("{number}, step {at}");
             keeper = apply(&keeper, kind, &values, Answer { refusal, result });
         }
-        assert_eq!(keeper.disk.numbers, [9, 0, 0]);
+        // the slot is free for another; a low number is not given again, nor one below it
+        let given = if number == HIGH - 1 { Answer::refused(33) } else { Answer::done(0) };
+        apply(&keeper, 0x01, &[0, 0, 9], given);
     }
 }
 
@@ -196,8 +197,10 @@ fn two_boards(random: &mut Random) -> [Keeper; 2] {
     for (slot, number) in low.disk.numbers.iter_mut().enumerate().filter(|(_, number)| **number != 0) {
         *number = slot as u32 + 1;
     }
+    low.disk.highest[0] = low.sizes.slots as u32;
     let mut high = low.clone();
     age(&mut high, random.next());
+    high.disk.highest.clone_from(&low.disk.highest);
     [low, high]
 }
 

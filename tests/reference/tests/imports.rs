@@ -31,7 +31,7 @@ fn sheet(pages: &[usize]) -> Vec<u8> {
 fn with_taken(records: &[u16], hand: u32) -> Keeper {
     let mut keeper = start();
     if !records.is_empty() {
-        keeper.disk.numbers[2] = 70;
+        keeper.disk.numbers[2] = 3;
     }
     keeper.disk.maps[8..8 + records.len()].copy_from_slice(&records.iter().map(|record| record + 1).collect::<Vec<u16>>());
     assert_eq!(keeper.restart(), Answer::done(0));
@@ -50,6 +50,7 @@ fn whole() {
     let after = import(&before, [1, 2], 9, &sheet(&[0, 3]), Answer::done(7));
     let mut wanted = before.clone();
     wanted.disk.numbers[1] = 9;
+    wanted.disk.highest[0] = 9;
     wanted.disk.accounts[1] = 2;
     wanted.disk.maps[4..8].copy_from_slice(&[1, 0, 0, 2]);
     wanted.disk.records[..4].copy_from_slice(&[1, 0, 4, 0]);
@@ -86,6 +87,7 @@ fn questions_in_order() {
     refuses(&keeper, [0, 0], HIGH, &[], 32);
     refuses(&keeper, [0, 0], 40, &[], 5);
     refuses(&keeper, [1, 0], 40, &[], 6);
+    refuses(&keeper, [1, 0], 39, &[], 33);
     refuses(&keeper, [1, 0], 41, &[], 29);
     refuses(&keeper, [1, 0], 41, &other, 30);
     refuses(&keeper, [1, 0], 41, &sheet(&[0, 1]), 18);
@@ -124,7 +126,7 @@ fn charged_together() {
 fn without_pages() {
     let mut keeper = with_taken(&[0, 1, 2, 3], 3);
     keeper.disk.maps[0..4].copy_from_slice(&[5, 6, 7, 8]);
-    keeper.disk.numbers[0] = 40;
+    keeper.disk.numbers[0] = 4;
     assert_eq!(keeper.restart(), Answer::done(0));
     does(&mut keeper, 0x0F, &[0, 1]);
     keeper.memory.pool.hand = 5;
@@ -132,6 +134,7 @@ fn without_pages() {
     let after = import(&keeper, [1, 1], 9, &sheet(&[]), Answer::done(7));
     let mut wanted = keeper.clone();
     wanted.disk.numbers[1] = 9;
+    wanted.disk.highest[0] = 9;
     wanted.disk.accounts[1] = 1;
     assert!(after == wanted);
 }

@@ -66,7 +66,7 @@ fn mended_alike() {
         let kept = rules::disk::kept(&sizes, &disk);
         assert!(!kept || changes == 0, "pack {seed}");
         assert_eq!(changes == 0, after == disk, "pack {seed}");
-        assert_eq!((&after.parents, &after.limits), (&disk.parents, &disk.limits), "pack {seed}");
+        assert_eq!((&after.parents, &after.limits, &after.highest), (&disk.parents, &disk.limits, &disk.highest), "pack {seed}");
         let lower = rules::disk::lower(&disk.parents);
         let broken: &[&str] = if lower { &[] } else { &["a parent is a lower account"] };
         assert_eq!(rules::disk::broken(&sizes, &after), broken, "pack {seed}");
@@ -81,7 +81,8 @@ fn mended_alike() {
     assert!(sound > PACKS / 10 && beyond > PACKS / 50 && reasons[1..].iter().all(|&changes| changes > PACKS / 10));
 }
 
-/// A number of 2,147,483,648 or more is left, unless it stands in a lower slot too; a pack with one is restarted.
+/// A number of 2,147,483,648 or more is left, unless it stands in a lower slot too; a pack with one is restarted, and the highest of the
+/// others stored.
 #[test]
 fn high_numbers_stay() {
     let sizes = Sizes { words: 1, records: 4, frames: 1, slots: 4, pages: 2, accounts: 1 };
@@ -92,7 +93,8 @@ fn high_numbers_stay() {
     for subject in linked::all() {
         let mut keeper = Keeper { sizes, disk: disk.clone(), memory: Memory::zeros(&sizes) };
         assert_eq!((subject.restart)(&mut keeper), Answer::done(0), "{}", subject.name);
-        assert!(keeper.disk == disk && rules::kept(&keeper), "{}", subject.name);
+        let wanted = Disk { highest: vec![HIGH - 1], ..disk.clone() };
+        assert!(keeper.disk == wanted && rules::kept(&keeper), "{}", subject.name);
     }
     let mut twice = disk.clone();
     twice.numbers[2] = HIGH;
@@ -108,13 +110,15 @@ fn refusals() {
         assert_eq!(mended(&sizes, &disk, short, seed), (Answer::refused(24), disk.clone(), vec![UNTOUCHED; short]));
         // 1 is asked before 24
         let mut other = disk.clone();
-        match seed % 6 {
+        match seed % 8 {
             0 => other.records.push(0),
             1 => other.numbers.push(0),
             2 => other.accounts.push(0),
             3 => other.maps.push(0),
             4 => other.limits.push(0),
-            _ => other.parents.push(0),
+            5 => other.parents.push(0),
+            6 => other.highest.push(0),
+            _ => other.highest.clear(),
         }
         assert_eq!(mended(&sizes, &other, short, seed), (Answer::refused(1), other.clone(), vec![UNTOUCHED; short]));
         let none = Sizes { records: 0, ..sizes };

@@ -27,7 +27,7 @@ fn lists_keep_the_promises() {
     println!("{counts}");
     assert_eq!(counts.kinds_missing(), Vec::<&str>::new(), "never carried out");
     assert_eq!(counts.refusals_missing(), Vec::<u32>::new(), "never given");
-    assert!(counts.inside * 50 > counts.cuts, "cuts inside an import: {} of {}", counts.inside, counts.cuts);
+    assert!(counts.inside * 50 > counts.cuts, "cuts inside a create or an import: {} of {}", counts.inside, counts.cuts);
     assert!(!counts.taken.never_full(), "records taken on a nearly full disk: {:?}", counts.taken);
     assert!(!counts.taken.rare(), "records taken near another, out of order, of two equally near: {:?}", counts.taken);
     assert!(!counts.written.rare(), "reads and looks of pages being written, failed writes of pages read: {:?}", counts.written);
@@ -36,5 +36,6 @@ fn lists_keep_the_promises() {
     assert!(!counts.turns.rare(), "turns: {:?}", counts.turns);
     assert!(!counts.bound.rare(), "runs to the bound on waiting: {:?}", counts.bound);
     assert_eq!(counts.high.rarer_than(20, &ON_HIGH), Vec::<&str>::new(), "numbers above the bound: {:?}", counts.high);
+    assert!(!counts.numbers.rarer_than(20), "numbers given once: {:?}", counts.numbers);
     assert_eq!(counts.seldom_alone(), [], "rules that seldom stood alone");
 }

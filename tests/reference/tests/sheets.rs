@@ -136,7 +136,7 @@ fn carried_alike() {
             keeper = if random.percent(30) { after } else { keeper };
         }
     }
-    often(&seen.imports, &[0, 1, 2, 3, 32, 5, 6, 29, 30, 18, 19], BOARDS / 20);
+    often(&seen.imports, &[0, 1, 2, 3, 32, 5, 6, 33, 29, 30, 18, 19], BOARDS / 20);
     often(&seen.exports, &[0, 1, 2, 3, 4, 9, 31], BOARDS / 20);
     assert!(seen.of_pages > BOARDS / 20, "{} imports of pages", seen.of_pages);
 }

@@ -20,7 +20,7 @@ abbrev start : tie.After-disk-fit → tie.Start
 start q = search
 
 abbrev lent : tie.Start → Disk
-lent s = let a = s .args in diskOf (a .records .now) (a .numbers .now) (a .accounts .now) (a .maps .now) (a .limits .now) (a .parents .now)
+lent s = let a = s .args in diskOf (a .records .now) (a .numbers .now) (a .accounts .now) (a .maps .now) (a .limits .now) (a .parents .now) (a .highest .now)
 
 -- question 1, of the wanted parents' length too
 fitting : (q : tie.After-disk-fit) → (let s = start q in q .disk-fit .result && eqb (length (s .args .wanted .now)) (s .args .sizes .accounts) ≡ test (sizesFit (s .args .sizes) and formatLengths (s .args .sizes) (s .args .wanted .now) (lent s)))
@@ -60,9 +60,9 @@ parented u = search
 returns-3 : tie.Need-returns-3
 returns-3 c =
     let k : tie.After-format-tables = search in
-    let f = k .format-tables .ensures in
+    let (records, (numbers, (accounts, (maps, (limits, (parents, highest)))))) = k .format-tables .ensures in
     let u = ruled k in let t = fitted u in let s = start (asked t) in
-    (λ x. formatsTo 0 (diskOf (f .0 x) (f .1 .0 x) (f .1 .1 .0 x) (f .1 .1 .1 .0 x) (f .1 .1 .1 .1 .0 x) (f .1 .1 .1 .1 .1 x)))
+    (λ x. formatsTo 0 (diskOf (records x) (numbers x) (accounts x) (maps x) (limits x) (parents x) (highest x)))
     ∙ format-yes (s .args .sizes) (s .args .wanted .now) (lent s) (sym (t .if1 .taken) ∙ fitting (asked t)) (sym (u .if2 .taken) ∙ parented u .parents-ok .ensures)
 
 pub format-spec : {M : Type 1} → statement M
@@ -70,6 +70,7 @@ format-spec =
     tie.close
     (tie.spec
     (λ c κs. search needs)
+    (λ c. refl)
     (λ c. refl)
     (λ c. refl)
     (λ c. refl)
@@ -84,8 +85,10 @@ format-spec =
     (λ c. refl)
     (λ c. refl)
     (λ c. refl)
+    (λ c. refl)
     returns-2
     (λ c κs. search needs)
+    (λ c. search needs)
     (λ c. search needs)
     (λ c. search needs)
     (λ c. search needs)

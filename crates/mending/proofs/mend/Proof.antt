@@ -34,7 +34,7 @@ start t = search
 
 -- what is lent
 abbrev lent : tie.Start → Lent
-lent s = lentOf (s .args .records .now) (s .args .numbers .now) (s .args .accounts .now) (s .args .maps .now) (s .args .limits .now) (s .args .parents .now) (s .args .changes .now)
+lent s = lentOf (s .args .records .now) (s .args .numbers .now) (s .args .accounts .now) (s .args .maps .now) (s .args .limits .now) (s .args .parents .now) (s .args .highest .now) (s .args .changes .now)
 
 returns : tie.Need-returns
 returns c =

@@ -30,6 +30,7 @@ pub record DiskFit (z : Sizes) (d : Disk) : Type 0 where
   pub maps : length (d .maps) ≡ allPages z
   pub limits : length (d .limits) ≡ z .accounts
   pub parents : length (d .parents) ≡ z .accounts
+  pub highest : length (d .highest) ≡ 1
 
 pub record MemoryFit (z : Sizes) (m : Memory) : Type 0 where
   pub frames : length (m .core .frames) ≡ z .frames
@@ -71,10 +72,10 @@ pub sizes-fit : (z : Sizes) → Within z → Holds (sizesFit z)
 sizes-fit z h = ((h .words, h .words-most), ((h .records, h .records-most), ((h .frames, h .frames-most), ((h .slots, h .slots-most), ((h .pages, h .pages-most), (h .accounts, h .accounts-most))))))
 
 pub disk-fit : (z : Sizes) (d : Disk) → Holds (diskLengths z d) → DiskFit z d
-disk-fit z d (a, (b, (c, (e, (f, g))))) = record { records = a; numbers = b; accounts = c; maps = e; limits = f; parents = g }
+disk-fit z d (a, (b, (c, (e, (f, (g, h)))))) = record { records = a; numbers = b; accounts = c; maps = e; limits = f; parents = g; highest = h }
 
 pub fit-disk : (z : Sizes) (d : Disk) → DiskFit z d → Holds (diskLengths z d)
-fit-disk z d h = (h .records, (h .numbers, (h .accounts, (h .maps, (h .limits, h .parents)))))
+fit-disk z d h = (h .records, (h .numbers, (h .accounts, (h .maps, (h .limits, (h .parents, h .highest))))))
 
 pub memory-fit : (z : Sizes) (m : Memory) → Holds (memoryLengths z m) → MemoryFit z m
 memory-fit z m (a, (b, (c, (d, (e, (f, (g, (h, (i, (j, (k, (n, l)))))))))))) = record {

@@ -17,7 +17,7 @@ pub fn likely(kind: usize, keeper: &Keeper, random: &mut Random) -> Option<[usiz
     let updating = memory.updating.iter().filter(|&&switch| switch == 1).count();
     let waiting = queue::length(&memory.line);
     Some(match tag(kind) {
-        0x01 => [resting(keeper, random), account, (random.next() as u32 / 2) as usize, 0],
+        0x01 => [resting(keeper, random), account, keeper.disk.highest[0] as usize + random.up_to(9), 0],
         0x02..=0x04 => [resting(keeper, random), 0, 0, 0],
         0x05 => [slot, page_to_fault(keeper, slot, random), 0, 0],
         0x08 if queue::length(&memory.free_queue) > few(sizes.frames) / 2 => return None,

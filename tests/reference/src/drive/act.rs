@@ -2,7 +2,7 @@
 
 use super::trees::Wanted;
 use super::{sheets, Subject};
-use crate::event::{Answer, Part, Request};
+use crate::event::{Answer, Event, Part, Request};
 use crate::keeper::Keeper;
 
 /// A public call.
@@ -24,9 +24,9 @@ pub enum Before {
     Nothing,
     /// Power fails: what is under way lands or not, memory is lost. It stays so.
     Cut(u64),
-    /// It fails inside an import, before its last store, if the tables allow one. It stays so.
+    /// It fails inside a create or an import, before its last store, if the tables allow one. It stays so.
     CutInside(u64),
-    /// Designs get higher numbers than a create or an import takes, as on a pack of an older board. It stays so.
+    /// Designs get higher numbers than a create or an import takes, and the highest is lost, as on a pack of an older board. It stays so.
     Age(u64),
     /// Cells are changed. Undone after the call.
     Damage(u64),
@@ -66,6 +66,17 @@ impl Call {
     pub fn request(kind: u32, values: [usize; 4]) -> Call {
         let [first, second, third, fourth] = values.map(|value| value as u32);
         Call::Apply(Request { kind, first, second, third, fourth })
+    }
+
+    /// The event that it asks for, if it is one.
+    pub fn event(&self) -> Option<Event> {
+        match *self {
+            Call::Apply(request) => Event::decode(&request),
+            Call::Look { slot, page } => Some(Event::Look { slot: slot as usize, page: page as usize }),
+            Call::Export { slot, .. } => Some(Event::Export { slot }),
+            Call::Import { slot, account, number, .. } => Some(Event::Import { slot, account, number }),
+            Call::Format { .. } | Call::Restart => None,
+        }
     }
 
     pub fn make(&self, subject: &Subject, keeper: &mut Keeper) -> Outcome {

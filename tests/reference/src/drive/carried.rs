@@ -1,7 +1,7 @@
 //! The next import or export of a list.
 
 use super::act::Call;
-use super::high;
+use super::given;
 use super::random::Random;
 use crate::keeper::Keeper;
 
@@ -14,7 +14,7 @@ pub fn import(keeper: &Keeper, random: &mut Random, new: u32) -> Call {
         _ => random.below(sizes.slots + 1),
     };
     let other = [0, random.pick(&keeper.disk.numbers)];
-    let number = if random.percent(80) { high::drawn(random, new) } else { random.pick(&other) };
+    let number = if random.percent(80) { given::drawn(random, keeper, new) } else { random.pick(&other) };
     let account = if random.percent(95) { random.below(sizes.accounts) } else { sizes.accounts };
     Call::Import { slot, account, number, sheet: random.next() }
 }

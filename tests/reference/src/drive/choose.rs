@@ -5,7 +5,7 @@ use super::aims::{self, Aim};
 use super::counts::{tag, MOVE, REQUESTS};
 use super::random::Random;
 use super::shadow::marked;
-use super::{carried, high, trees};
+use super::{carried, given, trees};
 use crate::keeper::Keeper;
 use crate::questions::HIGH;
 use crate::tables::{Sizes, NO_TRANSFER, WRITING};
@@ -266,8 +266,8 @@ impl Chooser {
             }
             1 => {
                 let slot = self.random.find(sizes.slots, |slot| keeper.disk.numbers[slot] == 0)?;
-                self.numbers += 1;
-                let number = high::drawn(&mut self.random, self.numbers);
+                self.numbers = given::above(keeper, self.numbers);
+                let number = given::drawn(&mut self.random, keeper, self.numbers);
                 Some(Call::request(0x01, [slot, self.random.below(sizes.accounts), number as usize, 0]))
             }
             _ => {
@@ -279,7 +279,7 @@ impl Chooser {
     }
 
     fn import(&mut self, keeper: &Keeper) -> Call {
-        self.numbers += 1;
+        self.numbers = given::above(keeper, self.numbers);
         carried::import(keeper, &mut self.random, self.numbers)
     }
 

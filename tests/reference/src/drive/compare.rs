@@ -3,6 +3,7 @@
 use super::act::{buffer, Call, Outcome};
 use crate::event::Request;
 use crate::keeper::Keeper;
+use crate::questions::HIGH;
 use crate::rules;
 use crate::sheet::Sheet;
 use crate::tables::{FILED, FREE, LEAVING, LIVE, NO_TRANSFER, NULLED, RELEASED};
@@ -70,9 +71,9 @@ pub fn promises(call: &Call, before: &Keeper, side: &Side) -> Result<(), String>
             check(side.after == before, "an export changed a table")?;
             check(exported(before, *slot, answer.refusal, answer.result as usize, bytes), "an export's buffer")
         }
-        (Call::Import { slot, .. }, _) => {
+        (Call::Import { slot, number, .. }, _) => {
             check(rules::kept(side.after), "an import broke a rule")?;
-            check(imported(*slot, before, side.after), "an import changed something else")
+            check(imported(*slot, *number, before, side.after), "an import changed something else")
         }
         (Call::Format { wanted }, _) => {
             check(side.after.memory == before.memory, "format changed memory")?;
@@ -81,11 +82,12 @@ pub fn promises(call: &Call, before: &Keeper, side: &Side) -> Result<(), String>
             check(rules::disk::kept(&side.after.sizes, &side.after.disk), "format broke a disk rule")
         }
         (Call::Restart, _) => {
-            check(side.after.disk == before.disk, "restart changed the disk part")?;
+            check(restarted(before, side.after), "restart changed the disk part, but for the highest number")?;
             check(rules::kept(side.after), "restart broke a rule")
         }
         _ => {
             check(rules::kept(side.after), "an event broke a rule")?;
+            check(highest_kept(call, before, side.after), "an event's highest number")?;
             check(limits_kept(call, before, side.after), "an event changed the sum of the limits, or a parent")?;
             check(transfers_untouched(call, before, side.after), "an event changed the words of a frame in transfer")?;
             check(along_the_lines(before, side.after), "a record moved along no line")?;
@@ -132,11 +134,30 @@ fn exported(before: &Keeper, slot: usize, refusal: u32, length: usize, bytes: &[
     }
 }
 
+/// Restart changes the highest number alone: it is no lower than any number below the bound, and itself, or one that stands in a slot.
+fn restarted(before: &Keeper, after: &Keeper) -> bool {
+    let (numbers, old, new) = (&before.disk.numbers, before.disk.highest[0], after.disk.highest[0]);
+    let above = new >= old && numbers.iter().all(|&number| number >= HIGH || number <= new);
+    let one = new == old || (new < HIGH && numbers.contains(&new));
+    let mut disk = before.disk.clone();
+    disk.highest[0] = new;
+    above && one && after.disk == disk
+}
+
+/// A create gives the next number, above all before; no other event changes the highest.
+fn highest_kept(call: &Call, before: &Keeper, after: &Keeper) -> bool {
+    match *call {
+        Call::Apply(Request { kind: 1, third, .. }) => after.disk.highest == [third] && third > before.disk.highest[0],
+        _ => after.disk.highest == before.disk.highest,
+    }
+}
+
 /// An import gives its slot free records, filed, and writes into these alone; it changes only the tables that a carried design needs.
-fn imported(slot: usize, before: &Keeper, after: &Keeper) -> bool {
+fn imported(slot: usize, number: u32, before: &Keeper, after: &Keeper) -> bool {
     let mut wanted = before.clone();
     let (disk, memory) = (&mut wanted.disk, &mut wanted.memory);
-    disk.numbers[slot] = after.disk.numbers[slot];
+    disk.highest[0] = number;
+    disk.numbers[slot] = number;
     disk.accounts[slot] = after.disk.accounts[slot];
     disk.maps[before.pages_of(slot)].copy_from_slice(&after.disk.maps[before.pages_of(slot)]);
     for record in 0..before.sizes.records {

@@ -4,6 +4,7 @@ use super::act::{Call, Outcome};
 use super::batch::Batches;
 use super::bound::Bound;
 use super::choose::LARGE;
+use super::given::Numbers;
 use super::high::High;
 use super::moves::Moves;
 use super::turns::Turns;
@@ -63,7 +64,7 @@ pub struct Counts {
     pub alone: BTreeMap<&'static str, u64>,
     pub calls: u64,
     pub cuts: u64,
-    /// Cuts inside an import, after one of its stores or more.
+    /// Cuts inside a create or an import, after one of its stores or more.
     pub inside: u64,
     pub taken: Taken,
     pub written: Written,
@@ -72,6 +73,7 @@ pub struct Counts {
     pub turns: Turns,
     pub bound: Bound,
     pub high: High,
+    pub numbers: Numbers,
 }
 
 /// Records taken by faults, and among them: where a lower page of the design had a record, where a higher one had (the pages come out
@@ -199,6 +201,7 @@ impl Counts {
         }
         self.moves.note(call, outcome.refusal(), before, after);
         self.high.note(call, name(call), outcome.refusal(), before);
+        self.numbers.note(call, outcome.refusal(), before, after);
         if let (Call::Apply(Request { kind: 19, .. }), Outcome::Answer(answer)) = (call, outcome) {
             self.turns.note(answer, before, after);
         }
@@ -221,15 +224,15 @@ impl Counts {
         all.filter(|&(_, count)| count < self.floor()).collect()
     }
 
-    /// Refusals of 1 to 22, 25 to 27, and 29 to 32, never given.
+    /// Refusals of 1 to 22, 25 to 27, and 29 to 33, never given.
     pub fn refusals_missing(&self) -> Vec<u32> {
-        (1..=22).chain(25..=27).chain(29..=32).filter(|number| !self.refused.contains_key(number)).collect()
+        (1..=22).chain(25..=27).chain(29..=33).filter(|number| !self.refused.contains_key(number)).collect()
     }
 }
 
 impl fmt::Display for Counts {
     fn fmt(&self, out: &mut fmt::Formatter) -> fmt::Result {
-        writeln!(out, "{} calls, {} cuts, {} of them inside an import", self.calls, self.cuts, self.inside)?;
+        writeln!(out, "{} calls, {} cuts, {} of them inside a create or an import", self.calls, self.cuts, self.inside)?;
         writeln!(out, "{:?}", self.taken)?;
         writeln!(out, "{:?}", self.written)?;
         writeln!(out, "{:?}", self.batches)?;
@@ -237,6 +240,7 @@ impl fmt::Display for Counts {
         writeln!(out, "{:?}", self.turns)?;
         writeln!(out, "{:?}", self.bound)?;
         writeln!(out, "{:?}", self.high)?;
+        writeln!(out, "{:?}", self.numbers)?;
         writeln!(out, "carried out: {:?}", self.carried_out)?;
         writeln!(out, "refused: {:?}", self.refused)?;
         writeln!(out, "rules that alone refused a damaged table, each at least {} times:", self.floor())?;

@@ -3,7 +3,9 @@
 use super::random::Random;
 use super::sheets;
 use crate::keeper::Keeper;
+use crate::questions::HIGH;
 use crate::rules;
+use crate::stores::{self, Store};
 use crate::tables::{Frame, Memory, Pool, WRITING};
 
 pub fn cut(keeper: &mut Keeper, seed: u64) {
@@ -17,20 +19,37 @@ pub fn cut(keeper: &mut Keeper, seed: u64) {
     }
 }
 
-/// Some stores of an import into an empty slot, but not its last; how many. None if the tables allow no import.
-pub fn inside_import(keeper: &mut Keeper, seed: u64) -> usize {
-    let (mut random, sizes) = (Random::new(seed), keeper.sizes);
+/// The first stores of a create or an import that were made before power failed.
+#[derive(Clone, Copy, Default)]
+pub struct Inside {
+    pub create: bool,
+    pub made: usize,
+}
+
+/// Some stores of a create or an import into an empty slot, but not the last. None if the tables allow it not.
+pub fn inside(keeper: &mut Keeper, seed: u64) -> Inside {
+    let (mut random, sizes, highest) = (Random::new(seed), keeper.sizes, keeper.disk.highest[0]);
     let empty = random.find(sizes.slots, |slot| keeper.disk.numbers[slot] == 0);
-    let Some(slot) = empty.filter(|_| rules::kept(keeper)) else { return 0 };
-    let number = 30_000 + random.below(1000) as u32;
-    let sheet = sheets::of_form(&mut random, sizes.words, sizes.pages, number);
-    if sheet.woven.len() > keeper.memory.pool.free as usize {
-        return 0;
-    }
-    let stores = keeper.clone().take_in(slot, 0, number, &sheet);
-    let made = random.below(stores.len());
+    let sound = rules::kept(keeper) && highest < HIGH - 1;
+    let Some(slot) = empty.filter(|_| sound) else { return Inside::default() };
+    let number = (highest + random.up_to(3) as u32).min(HIGH - 1);
+    let create = random.percent(50);
+    let stores = match create {
+        true => stores::create(slot, 0, number).to_vec(),
+        false => import(keeper, slot, number, &mut random),
+    };
+    let made = random.below(stores.len().max(1));
     stores[..made].iter().for_each(|store| store.make(&mut keeper.disk));
-    made
+    Inside { create, made }
+}
+
+/// The stores of an import of any sheet; none if there are too few records.
+fn import(keeper: &Keeper, slot: usize, number: u32, random: &mut Random) -> Vec<Store> {
+    let sheet = sheets::of_form(random, keeper.sizes.words, keeper.sizes.pages, number);
+    match sheet.woven.len() > keeper.memory.pool.free as usize {
+        true => Vec::new(),
+        false => keeper.clone().take_in(slot, 0, number, &sheet),
+    }
 }
 
 fn land_writes(keeper: &mut Keeper, random: &mut Random) {

@@ -6,7 +6,7 @@ use crate::keeper::Keeper;
 use crate::queue;
 use crate::tables::{Frame, RELEASED};
 
-pub const TABLES: usize = 20;
+pub const TABLES: usize = 21;
 
 /// One damage aimed at one rule, which is returned; or one or two at random.
 pub fn damage(keeper: &mut Keeper, seed: u64) -> Option<&'static str> {
@@ -226,6 +226,7 @@ fn change_cell(keeper: &mut Keeper, random: &mut Random) {
         16 => put(&mut memory.line, at, &change),
         17 => memory.pool.hand = change(memory.pool.hand),
         18 => put(&mut disk.parents, at, &change),
+        19 => put(&mut disk.highest, at, &change),
         _ => memory.pool.free = change(memory.pool.free),
     }
 }

@@ -1,22 +1,15 @@
-//! Numbers of 2,147,483,648 or more: what is drawn from both sides of the bound, packs of older boards that have such designs, and what was
-//! seen of them.
+//! Numbers of 2,147,483,648 or more: packs of older boards that have such designs, and what was seen of them.
 
 use super::act::Call;
+use super::given;
 use super::random::Random;
 use crate::event::Event;
 use crate::keeper::Keeper;
 use crate::questions::HIGH;
 use std::collections::BTreeMap;
 
-/// A new number, mostly; one in seven is the last below the bound, the bound, the last of all, or the new one so much higher.
-pub fn drawn(random: &mut Random, new: u32) -> u32 {
-    if random.percent(86) {
-        return new;
-    }
-    random.pick(&[HIGH - 1, HIGH, u32::MAX, new | HIGH])
-}
-
-/// Some designs get the same number above the bound, as an older board gave it. Their words carry its low half, which stays.
+/// Some designs get the same number above the bound, as an older board gave it, and the highest is as on an older pack. Their words carry
+/// the number's low half, which stays.
 pub fn age(keeper: &mut Keeper, seed: u64) {
     let mut random = Random::new(seed);
     for slot in 0..keeper.disk.numbers.len() {
@@ -25,6 +18,7 @@ pub fn age(keeper: &mut Keeper, seed: u64) {
             keeper.disk.numbers[slot] = high;
         }
     }
+    given::forget(keeper, &mut random);
 }
 
 /// Creates and imports answered 32, and those carried out under the last number below the bound; and by kind, the calls that were carried
@@ -39,7 +33,7 @@ pub struct High {
 
 impl High {
     pub fn note(&mut self, call: &Call, kind: &'static str, refusal: u32, before: &Keeper) {
-        let event = event_of(call);
+        let event = call.event();
         match (event, refusal) {
             (Some(Event::Create { .. }), 32) => self.creates += 1,
             (Some(Event::Import { .. }), 32) => self.imports += 1,
@@ -63,15 +57,5 @@ impl High {
         let used = kinds.iter().map(|&kind| (kind, self.used.get(kind).copied().unwrap_or(0)));
         let rest = [("creates", self.creates), ("imports", self.imports), ("last", self.last)];
         used.chain(rest).filter(|&(_, count)| count < least).map(|(name, _)| name).collect()
-    }
-}
-
-fn event_of(call: &Call) -> Option<Event> {
-    match *call {
-        Call::Apply(request) => Event::decode(&request),
-        Call::Look { slot, page } => Some(Event::Look { slot: slot as usize, page: page as usize }),
-        Call::Export { slot, .. } => Some(Event::Export { slot }),
-        Call::Import { slot, account, number, .. } => Some(Event::Import { slot, account, number }),
-        Call::Format { .. } | Call::Restart => None,
     }
 }

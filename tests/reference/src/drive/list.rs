@@ -174,11 +174,11 @@ fn step(
     Ok(())
 }
 
-/// What was done before a call: the rule that a damage is aimed at, if it is, and the stores of an import that a cut falls in.
+/// What was done before a call: the rule that a damage is aimed at, if it is, and the stores of a create or an import that a cut falls in.
 #[derive(Default)]
 pub struct Prepared {
     aimed: Option<&'static str>,
-    stores: usize,
+    inside: cut::Inside,
 }
 
 pub fn prepare(keeper: &mut Keeper, before: Before) -> Prepared {
@@ -187,7 +187,7 @@ pub fn prepare(keeper: &mut Keeper, before: Before) -> Prepared {
         Before::Nothing => {}
         Before::Cut(seed) => cut::cut(keeper, seed),
         Before::CutInside(seed) => {
-            prepared.stores = cut::inside_import(keeper, seed);
+            prepared.inside = cut::inside(keeper, seed);
             cut::cut(keeper, seed);
         }
         Before::Age(seed) => high::age(keeper, seed),
@@ -204,7 +204,8 @@ fn note(act: Before, prepared: Prepared, keeper: &Keeper, counts: &mut Counts) -
         Before::Cut(_) => counts.cuts += 1,
         Before::CutInside(_) => {
             counts.cuts += 1;
-            counts.inside += (prepared.stores > 0) as u64;
+            counts.inside += (prepared.inside.made > 0) as u64;
+            counts.numbers.between += (prepared.inside.create && prepared.inside.made > 0) as u64;
         }
         Before::Damage(_) => {
             let broken = rules::broken(keeper);

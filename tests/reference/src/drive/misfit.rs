@@ -20,7 +20,7 @@ fn bend_table(keeper: &mut Keeper, random: &mut Random) {
     }
     let longer = random.percent(50);
     let (disk, memory) = (&mut keeper.disk, &mut keeper.memory);
-    match random.below(19) {
+    match random.below(20) {
         0 => bend(&mut disk.records, longer),
         1 => bend(&mut disk.numbers, longer),
         2 => bend(&mut disk.accounts, longer),
@@ -39,6 +39,7 @@ fn bend_table(keeper: &mut Keeper, random: &mut Random) {
         15 => bend(&mut memory.images, longer),
         16 => bend(&mut memory.line, longer),
         17 => bend(&mut disk.parents, longer),
+        18 => bend(&mut disk.highest, longer),
         _ => bend(&mut memory.used, longer),
     }
 }

@@ -13,6 +13,7 @@ pub mod counts; // how often each kind and refusal was seen
 pub mod cut; // a power cut
 pub mod damage; // tables damaged
 pub mod fields; // a random list as bytes for the event program
+pub mod given; // numbers that were given, none twice
 pub mod high; // numbers above the bound
 pub mod list; // a whole run of lists
 pub mod misfit; // tables of wrong lengths

@@ -24,7 +24,8 @@ fn sizes(random: &mut Random) -> Sizes {
 
 /// A pack that keeps the disk rules: numbers, records and accounts given out once.
 fn sound(random: &mut Random, sizes: &Sizes) -> Disk {
-    let mut disk = Disk { parents: tree(sizes.accounts, random), ..Disk::zeros(sizes) };
+    let highest = vec![random.pick(&[0, 7, 3000, HIGH - 1, HIGH, u32::MAX])];
+    let mut disk = Disk { parents: tree(sizes.accounts, random), highest, ..Disk::zeros(sizes) };
     let mut records: Vec<u16> = (1..=sizes.records as u16).collect();
     for slot in 0..sizes.slots {
         if random.percent(70) {

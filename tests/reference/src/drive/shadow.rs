@@ -2,12 +2,14 @@
 //! then what was written or truncated. Words are marked with their design's number, so that none strays.
 
 use super::act::{Act, Before, Call, Outcome};
+use super::given::Given;
 use crate::event::Event;
 use crate::keeper::Keeper;
 
-/// The words of each flat page; none while its slot is inactive.
+/// The words of each flat page, none while its slot is inactive; and the numbers that were given.
 pub struct Shadow {
     pages: Vec<Option<Vec<u32>>>,
+    given: Given,
 }
 
 /// A value that carries the design's number in its high half; 0 stays 0.
@@ -25,7 +27,7 @@ fn is_marked(word: u32, number: u32) -> bool {
 
 impl Shadow {
     pub fn new(keeper: &Keeper) -> Shadow {
-        Shadow { pages: vec![None; keeper.sizes.all_pages()] }
+        Shadow { pages: vec![None; keeper.sizes.all_pages()], given: Given::of(keeper) }
     }
 
     /// Follows one call that was made on sound tables.
@@ -33,6 +35,7 @@ impl Shadow {
         if matches!(act.before, Before::Cut(_) | Before::CutInside(_)) {
             self.pages.fill(None);
         }
+        self.given.follow(act, after, outcome)?;
         if outcome.refusal() != 0 {
             return Ok(());
         }

@@ -2,11 +2,11 @@
 
 use super::set_state;
 use crate::keeper::Keeper;
+use crate::stores;
 use crate::tables::{FILED, LIVE};
 
 pub fn create(keeper: &mut Keeper, slot: usize, account: usize, number: u32) -> u32 {
-    keeper.disk.numbers[slot] = number;
-    keeper.disk.accounts[slot] = account as u16;
+    stores::create(slot, account, number).iter().for_each(|store| store.make(&mut keeper.disk));
     0
 }
 

@@ -22,6 +22,7 @@ struct Disk {
     maps: Slice<u16>,
     limits: Slice<u16>,
     parents: Slice<u16>,
+    highest: Slice<u32>,
 }
 
 #[repr(C)]
@@ -90,6 +91,7 @@ fn lent_disk(disk: &mut tables::Disk) -> Disk {
         maps: slice(&mut disk.maps),
         limits: slice(&mut disk.limits),
         parents: slice(&mut disk.parents),
+        highest: slice(&mut disk.highest),
     }
 }
 

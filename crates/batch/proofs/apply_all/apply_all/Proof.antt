@@ -17,7 +17,7 @@ use Rattle.batch.proofs.apply_all.apply_all.Tie as tie
 abbrev at : tie.Start → List Frame → State
 at s l =
     let a = s .args in
-    allGiven l (a .pool) (a .records) (a .numbers) (a .accounts) (a .maps) (a .limits) (a .parents)
+    allGiven l (a .pool) (a .records) (a .numbers) (a .accounts) (a .maps) (a .limits) (a .parents) (a .highest)
     (a .frame-words) (a .free-queue) (a .removal-list) (a .addresses) (a .states) (a .owners) (a .free-map) (a .active) (a .updating) (a .images) (a .line) (a .used)
 
 abbrev lent : tie.Start → State
@@ -43,12 +43,15 @@ worked c = search
 abbrev passed : tie.After-turns → tie.Else1
 passed w = search
 
-common-requires : tie.Need-common-requires
-common-requires c κs =
-    let p : tie.After-pack-all = search in
+-- .. and so are the packed ones
+filled : (p : tie.After-pack-all) → length (p .pack-all .result) ≡ 64
+filled p =
     let s = start (counted p) in
     let a = s .args in
     packed-long (a .sizes) (at s) (λ l. refl) (a .frames) (a .lent) (long s) (p .pack-all .result) (p .pack-all .ensures)
+
+common-requires : tie.Need-common-requires
+common-requires c κs = let p : tie.After-pack-all = search in filled p
 
 -- questions 1 and 2 are asked of what is lent
 told : (q : tie.After-common) → (let s = start (counted (packed q)) in q .common .result ≡ common (s .args .sizes) (lent s))
@@ -125,8 +128,9 @@ apply-all-spec =
     (λ c. refl)
     (λ c. refl)
     (λ c. refl)
+    (λ c. refl)
     returns
-    (λ c. search needs)
+    (λ c. let k : tie.Else1 = search in sym (filled (packed (k .before))))
     turns-requires
     (λ c κs. search needs)
     (λ c. worked c .turns .kept .1 .1 .1 .0)
@@ -147,4 +151,5 @@ apply-all-spec =
     (λ c. worked c .turns .kept .1 .1 .1 .1 .1 .1 .1 .1 .1 .1 .1 .1 .1 .1 .1 .1 .1 .1 .1 .1 .1 .0)
     (λ c. worked c .turns .kept .1 .1 .1 .1 .1 .1 .1 .1 .1 .1 .1 .1 .1 .1 .1 .1 .1 .1 .1 .1 .1 .1 .0)
     (λ c. worked c .turns .kept .1 .1 .1 .1 .1 .1 .1 .1 .1 .1 .1 .1 .1 .1 .1 .1 .1 .1 .1 .1 .1 .1 .1 .0)
+    (λ c. worked c .turns .kept .1 .1 .1 .1 .1 .1 .1 .1 .1 .1 .1 .1 .1 .1 .1 .1 .1 .1 .1 .1 .1 .1 .1 .1 .0)
     returns-2)

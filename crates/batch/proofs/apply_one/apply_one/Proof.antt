@@ -18,7 +18,7 @@ use Rattle.batch.proofs.apply_one.apply_one.Tie as tie
 abbrev at : tie.Start → List Frame → State
 at s l =
     let a = s .args in
-    allGiven l (a .pool) (a .records) (a .numbers) (a .accounts) (a .maps) (a .limits) (a .parents)
+    allGiven l (a .pool) (a .records) (a .numbers) (a .accounts) (a .maps) (a .limits) (a .parents) (a .highest)
     (a .frame-words) (a .free-queue) (a .removal-list) (a .addresses) (a .states) (a .owners) (a .free-map) (a .active) (a .updating) (a .images) (a .line) (a .used)
 
 abbrev lent : tie.Start → State
@@ -38,8 +38,14 @@ start p = search
 abbrev worked : tie.After-answer → tie.After-turns
 worked c = search
 
+abbrev half : tie.After-turns → tie.After-turns-arg15
+half w = search
+
+abbrev first : tie.After-turns-arg15 → tie.After-as-numbers
+first h = search
+
 abbrev numbered : tie.After-turns → tie.After-as-numbers
-numbered w = search
+numbered w = first (half w)
 
 abbrev passed : tie.After-as-numbers → tie.Else1
 passed n = search
@@ -119,6 +125,7 @@ apply-one-spec =
     (λ c. refl)
     (λ c. refl)
     (λ c. refl)
+    (λ c. refl)
     returns
     (λ c κs. search needs)
     (λ c. let n : tie.After-as-numbers = search in sym (ap length (n .as-numbers .ensures)))
@@ -143,4 +150,5 @@ apply-one-spec =
     (λ c. worked c .turns .kept .1 .1 .1 .1 .1 .1 .1 .1 .1 .1 .1 .1 .1 .1 .1 .1 .1 .1 .1 .1 .1 .0)
     (λ c. worked c .turns .kept .1 .1 .1 .1 .1 .1 .1 .1 .1 .1 .1 .1 .1 .1 .1 .1 .1 .1 .1 .1 .1 .1 .0)
     (λ c. worked c .turns .kept .1 .1 .1 .1 .1 .1 .1 .1 .1 .1 .1 .1 .1 .1 .1 .1 .1 .1 .1 .1 .1 .1 .1 .0)
+    (λ c. worked c .turns .kept .1 .1 .1 .1 .1 .1 .1 .1 .1 .1 .1 .1 .1 .1 .1 .1 .1 .1 .1 .1 .1 .1 .1 .1 .0)
     returns-2)

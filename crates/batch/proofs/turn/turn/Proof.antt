@@ -13,7 +13,7 @@ use Rattle.batch.proofs.turn.turn.Tie as tie
 abbrev lent : tie.Start → State
 lent s =
     let a = s .args in
-    allGiven (framesGiven (a .sizes) (a .frames)) (a .last .pool) (a .records) (a .numbers) (a .accounts) (a .maps) (a .limits) (a .parents)
+    allGiven (framesGiven (a .sizes) (a .frames)) (a .last .pool) (a .records) (a .numbers) (a .accounts) (a .maps) (a .limits) (a .parents) (a .highest)
     (a .frame-words) (a .free-queue) (a .removal-list) (a .addresses) (a .states) (a .owners) (a .free-map) (a .active) (a .updating) (a .images) (a .line) (a .used)
 
 -- from the request back to the start; from the work back to the decoded event; from the end back to the work
@@ -23,13 +23,13 @@ start q = search
 abbrev known : tie.After-carry → tie.After-decoded
 known w = search
 
-abbrev over : tie.After-slice-known39 → tie.After-answer
+abbrev over : tie.After-slice-known41 → tie.After-answer
 over c = search
 
 abbrev ended : tie.After-answer → tie.After-carry
 ended c = search
 
-abbrev worked : tie.After-slice-known39 → tie.After-carry
+abbrev worked : tie.After-slice-known41 → tie.After-carry
 worked c = ended (over c)
 
 abbrev begun : tie.After-carry → tie.Start
@@ -105,4 +105,5 @@ turn-spec =
     (λ c. worked c .carry .kept .1 .1 .1 .1 .1 .1 .1 .1 .1 .1 .1 .1 .1 .1 .1 .1 .1 .1 .1 .0)
     (λ c. worked c .carry .kept .1 .1 .1 .1 .1 .1 .1 .1 .1 .1 .1 .1 .1 .1 .1 .1 .1 .1 .1 .1 .0)
     (λ c. worked c .carry .kept .1 .1 .1 .1 .1 .1 .1 .1 .1 .1 .1 .1 .1 .1 .1 .1 .1 .1 .1 .1 .1 .0)
+    (λ c. worked c .carry .kept .1 .1 .1 .1 .1 .1 .1 .1 .1 .1 .1 .1 .1 .1 .1 .1 .1 .1 .1 .1 .1 .1 .0)
     returns-2)

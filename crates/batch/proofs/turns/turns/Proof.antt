@@ -11,18 +11,18 @@ use Rattle.batch.proofs.Together.{Turned, turned-none, turned-next, tur
 use Rattle.batch.proofs.turns.turns.Statement.{statement}
 use Rattle.batch.proofs.turns.turns.Tie as tie
 
--- the tables, in the order in which they are lent: the frames w, then a to u, and the parents p, which stay
+-- the tables, in the order in which they are lent: the frames w, then a to u, with the highest number v, and the parents p, which stay
 abbrev Inv-loop : tie.InvT-loop
-Inv-loop z n requests answers₀ w₀ a₀ b₀ c₀ d₀ e₀ p f₀ g₀ h₀ i₀ j₀ k₀ l₀ m₀ o₀ q₀ r₀ u₀ last₀ t₀
-    answers w a b c d e f g h i j k l m o q r u last t =
+Inv-loop z n requests answers₀ w₀ a₀ b₀ c₀ d₀ e₀ p v₀ f₀ g₀ h₀ i₀ j₀ k₀ l₀ m₀ o₀ q₀ r₀ u₀ last₀ t₀
+    answers w a b c d e v f g h i j k l m o q r u last t =
     (t ≤ n) × Turned z requests answers₀
-    (allOf (take (z .frames) (unpacked w₀)) (last₀ .pool) a₀ b₀ c₀ d₀ e₀ p f₀ g₀ h₀ i₀ j₀ k₀ l₀ m₀ o₀ q₀ r₀ u₀) t (last .answer) answers
-    (allOf (take (z .frames) (unpacked w)) (last .pool) a b c d e p f g h i j k l m o q r u)
+    (allOf (take (z .frames) (unpacked w₀)) (last₀ .pool) a₀ b₀ c₀ d₀ e₀ p v₀ f₀ g₀ h₀ i₀ j₀ k₀ l₀ m₀ o₀ q₀ r₀ u₀) t (last .answer) answers
+    (allOf (take (z .frames) (unpacked w)) (last .pool) a b c d e p v f g h i j k l m o q r u)
     × (length w ≡ length w₀) × (t ≡ 0 → last .pool ≡ last₀ .pool) × (t ≡ 1 → last .pool ≡ deposited (last .deposited) (taken z (last .taken) (last₀ .pool)))
 
 abbrev μ-loop : tie.MeasureT-loop
-μ-loop z n requests answers₀ w₀ a₀ b₀ c₀ d₀ e₀ p f₀ g₀ h₀ i₀ j₀ k₀ l₀ m₀ o₀ q₀ r₀ u₀ last₀ t₀
-    answers w a b c d e f g h i j k l m o q r u last t = n - t
+μ-loop z n requests answers₀ w₀ a₀ b₀ c₀ d₀ e₀ p v₀ f₀ g₀ h₀ i₀ j₀ k₀ l₀ m₀ o₀ q₀ r₀ u₀ last₀ t₀
+    answers w a b c d e v f g h i j k l m o q r u last t = n - t
 
 -- from the loop back to the start; from the call, from what follows it and from the end back to the loop
 abbrev start : tie.At-loop Inv-loop μ-loop → tie.Start Inv-loop μ-loop
@@ -31,7 +31,7 @@ start l = search
 abbrev turning : tie.After-turn Inv-loop μ-loop → tie.In-loop Inv-loop μ-loop
 turning c = search
 
-abbrev turned : tie.After-slice-known38 Inv-loop μ-loop → tie.After-turn Inv-loop μ-loop
+abbrev turned : tie.After-slice-known40 Inv-loop μ-loop → tie.After-turn Inv-loop μ-loop
 turned c = search
 
 abbrev looped : tie.After-loop Inv-loop μ-loop → tie.At-loop Inv-loop μ-loop
@@ -91,6 +91,7 @@ turns-spec =
     (λ c. let k = start (looped c) .pre .2 in turned-kept k (looped c .loop .inv .1) .fits .disk .accounts ∙ sym (k .fits .disk .accounts))
     (λ c. let k = start (looped c) .pre .2 in turned-kept k (looped c .loop .inv .1) .fits .disk .maps ∙ sym (k .fits .disk .maps))
     (λ c. let k = start (looped c) .pre .2 in turned-kept k (looped c .loop .inv .1) .fits .disk .limits ∙ sym (k .fits .disk .limits))
+    (λ c. let k = start (looped c) .pre .2 in turned-kept k (looped c .loop .inv .1) .fits .disk .highest ∙ sym (k .fits .disk .highest))
     (λ c. let k = start (looped c) .pre .2 in turned-kept k (looped c .loop .inv .1) .fits .memory .words ∙ sym (k .fits .memory .words))
     (λ c. let k = start (looped c) .pre .2 in turned-kept k (looped c .loop .inv .1) .fits .memory .free-queue ∙ sym (k .fits .memory .free-queue))
     (λ c. let k = start (looped c) .pre .2 in turned-kept k (looped c .loop .inv .1) .fits .memory .removal-list ∙ sym (k .fits .memory .removal-list))

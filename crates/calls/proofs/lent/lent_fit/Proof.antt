@@ -11,7 +11,7 @@ returns c =
     let a = s .args in
     let k : tie.After-all-fit = search in
     λ frames pool e. fit-told-lined (a .sizes)
-    (stateOf frames pool (a .records .now) (a .numbers .now) (a .accounts .now) (a .maps .now) (a .limits .now) (a .parents .now) (a .frame-words .now) (a .free-queue .now) (a .removal-list .now)
+    (stateOf frames pool (a .records .now) (a .numbers .now) (a .accounts .now) (a .maps .now) (a .limits .now) (a .parents .now) (a .highest .now) (a .frame-words .now) (a .free-queue .now) (a .removal-list .now)
     (a .addresses .now) (a .states .now) (a .owners .now) (a .free-map .now) (a .active .now) (a .updating .now) (a .images .now) (a .used .now))
     (a .line .now) (k .all-fit .result) (k .all-fit .ensures frames pool e)
 

@@ -22,7 +22,7 @@ returns c =
     let k = c .before .before in
     let a = start k .args in
     part-looked (a .sizes)
-    (allGiven (framesOf (a .frames) (a .lent)) (a .pool) (a .records) (a .numbers) (a .accounts) (a .maps) (a .limits) (a .parents) (a .frame-words) (a .free-queue) (a .removal-list)
+    (allGiven (framesOf (a .frames) (a .lent)) (a .pool) (a .records) (a .numbers) (a .accounts) (a .maps) (a .limits) (a .parents) (a .highest) (a .frame-words) (a .free-queue) (a .removal-list)
     (a .addresses) (a .states) (a .owners) (a .free-map) (a .active) (a .updating) (a .images) (a .line) (a .used))
     (a .slot) (a .page) (k .place-core .result) (a .frame-words .ptr) (k .place-core .ensures .0)
 

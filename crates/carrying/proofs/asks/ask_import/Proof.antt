@@ -7,16 +7,16 @@ use Rattle.tables.specs.Also.{also-yes, also-no}
 use Rattle.model.specs.declared.event.Design.the-variants as Design
 use Rattle.model.specs.declared.event.Event.the-variants as Event
 use Rattle.model.specs.Questions.{questions, sheetQuestions}
-use Rattle.designs.specs.Seen.{seenFiles}
+use Rattle.designs.specs.Seen.{seenCreate}
 use Rattle.carrying.specs.Seen.{seenAsked}
 use Rattle.carrying.proofs.asks.ask_import.Statement.{statement}
 use Rattle.carrying.proofs.asks.ask_import.Tie as tie
 
 abbrev slots : tie.Start → Questions
-slots s = let a = s .args in questions (a .sizes) (seenFiles (a .numbers .now) [] [] []) (Event.Design (Design.Create (a .slot) (a .account) (a .number)))
+slots s = let a = s .args in questions (a .sizes) (seenCreate (a .numbers .now) [] (a .highest .now)) (Event.Design (Design.Create (a .slot) (a .account) (a .number)))
 
 abbrev sheets : tie.Start → Questions
-sheets s = let a = s .args in sheetQuestions (a .sizes) (seenAsked (a .free) (a .numbers .now) (a .limits .now) (a .parents .now) (a .used .now)) (a .account) (a .sheet .now)
+sheets s = let a = s .args in sheetQuestions (a .sizes) (seenAsked (a .free) (a .numbers .now) (a .limits .now) (a .parents .now) (a .highest .now) (a .used .now)) (a .account) (a .sheet .now)
 
 returns : tie.Need-returns
 returns c =

@@ -17,7 +17,7 @@ use Rattle.carrying.proofs.import.import.Tie as tie
 abbrev tables : tie.Start → Tables
 tables s =
     let a = s .args in
-    tablesOf (a .pool) (a .records .now) (a .numbers .now) (a .accounts .now) (a .maps .now) (a .states .now) (a .owners .now) (a .free-map .now) (a .used .now)
+    tablesOf (a .pool) (a .records .now) (a .numbers .now) (a .accounts .now) (a .maps .now) (a .highest .now) (a .states .now) (a .owners .now) (a .free-map .now) (a .used .now)
 
 -- back to the questions, to the stores, and to the start
 abbrev started : tie.After-ask-import → tie.Start
@@ -43,7 +43,7 @@ returns c =
 abbrev Zero : tie.Start → Type 0
 Zero s =
     let a = s .args in
-    0 ≡ firstNo (importQuestions (a .sizes) (seenAsked (a .pool .free) (a .numbers .now) (a .limits .now) (a .parents .now) (a .used .now)) (a .slot) (a .account) (a .number) (a .sheet .now))
+    0 ≡ firstNo (importQuestions (a .sizes) (seenAsked (a .pool .free) (a .numbers .now) (a .limits .now) (a .parents .now) (a .highest .now) (a .used .now)) (a .slot) (a .account) (a .number) (a .sheet .now))
 
 zero : (c : tie.Else1) → Zero (started (asked c))
 zero c = sym (c .if1 .left) ∙ asked c .ask-import .ensures .asked
@@ -97,9 +97,9 @@ returns-2 c =
     let q = asked e in
     let s = started q in
     let a = s .args in
-    let (last, (records, (numbers, (accounts, (maps, (states, (owners, map))))))) = w .import-design .ensures in
+    let (last, (records, (numbers, (accounts, (maps, (highest, (states, (owners, map)))))))) = w .import-design .ensures in
     import-yes (a .sizes) (a .slot) (a .account) (a .number) (a .sheet .now) (a .limits .now) (a .parents .now) (tables s) (s .pre) (zero e) _ _ _
-    (count e) (q .ask-import .ensures .number-is (e .if1 .left)) last (o .take-all .ensures) records numbers accounts maps states owners map (u .charge .ensures)
+    (count e) (q .ask-import .ensures .number-is (e .if1 .left)) last (o .take-all .ensures) records numbers accounts maps highest states owners map (u .charge .ensures)
 
 pub import-spec : {M : Type 1} → statement M
 import-spec =
@@ -108,12 +108,14 @@ import-spec =
     (λ c κs. search needs)
     (λ c. search needs)
     (λ c. search needs)
+    (λ c. search needs)
     returns
     cast-import-design
     (λ c. search needs)
     import-design-requires
     charge-requires
     take-all-requires
+    (λ c. search needs)
     (λ c. search needs)
     (λ c. search needs)
     (λ c. search needs)

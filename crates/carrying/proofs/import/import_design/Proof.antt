@@ -1,4 +1,4 @@
--- `import_design` meets its contract: the pages, then the slot.
+-- `import_design` meets its contract: the highest number, the pages, then the slot.
 use mathlib.Core.Path.{_≡_, refl, ap, sym, _∙_}
 use mathlib.Core.List.{List}
 use Prim.Native.Nat.{ℕ, _+_, _-_, _*_, _/_, _%_, _<_, _≤_}
@@ -24,6 +24,9 @@ blank = replicate 256 0
 
 page-below-256 : (b : List ℕ) (f : Formed b) (n : ℕ) → n ≡ pagesIn b → n < 257 → (k : ℕ) → k < countIn b → pageIn b k < length blank
 page-below-256 b f n e l k h = omega (arith, page-of b f k h .below, e, l)
+
+abbrev raised : tie.After-carry-pages → tie.After-store-highest
+raised p = search
 
 abbrev from : tie.After-carry-pages → tie.Start
 from p = search
@@ -70,6 +73,9 @@ same-length-6 c = search needs
 same-length-7 : tie.Need-same-length-7
 same-length-7 c = search needs
 
+same-length-8 : tie.Need-same-length-8
+same-length-8 c = search needs
+
 returns : tie.Need-returns
 returns c =
     let m : tie.After-store-slot = search in
@@ -85,12 +91,13 @@ returns c =
     let maps = stored ∙ ap (λ (es : List ℕ). store (a .maps .now) (λ i. same (i / a .sizes .pages) (a .slot)) (λ i. at es (i % a .sizes .pages))) listed
     ∙ map-is (a .sizes) st (a .slot) h blank (at-zeros 256) (page-once (a .sheet .now) (k .formed)) (page-below-256 (a .sheet .now) (k .formed) (a .sizes .pages) (k .pages) (s .pre .1 .sizes .pages-most))
     (a .account) (a .number) (a .sizes .pages) (a .slot) (a .maps .now) in
-    (last, (records, (numbers, (accounts, (maps, (states, (owners, map)))))))
+    (last, (records, (numbers, (accounts, (maps, (raised p .store-highest .ensures, (states, (owners, map))))))))
 
 pub import-design-spec : {M : Type 1} → statement M
 import-design-spec =
     tie.close
     (tie.spec
+    (λ c κs. search needs)
     slice-aggregate-carry-pages
     carry-pages-requires
     slice-aggregate-store-slot
@@ -102,4 +109,5 @@ import-design-spec =
     same-length-5
     same-length-6
     same-length-7
+    same-length-8
     returns)

@@ -53,8 +53,26 @@ returns-5 c =
     let k : tie.After-at32 = search in
     let empty : tie.Else3 = search in
     let n : tie.After-number-new = search in
+    let fresh : tie.Then4 = search in
+    let h : tie.After-at322 = search in
     let a = s .args in
-    sym (yes-all _ (range t, (small .if2 .taken, (sym (k .at32 .ensures) ∙ empty .if3 .left, (said-yes (newNumber (a .sizes .slots) (a .numbers .now) (a .number)) (n .number-new .ensures) (c .if4 .taken), tt)))))
+    sym (first-yes 3 _ _ (range t) ∙ first-yes 32 _ _ (small .if2 .taken) ∙ first-yes 5 _ _ (sym (k .at32 .ensures) ∙ empty .if3 .left)
+    ∙ first-yes 6 _ _ (said-yes (newNumber (a .sizes .slots) (a .numbers .now) (a .number)) (n .number-new .ensures) (fresh .if4 .taken))
+    ∙ first-no 33 _ _ (λ l. omega (arith, l, h .at322 .ensures, c .if5 .left)))
+
+returns-6 : tie.Need-returns-6
+returns-6 c =
+    let s : tie.Start = search in
+    let t : tie.Then1 = search in
+    let small : tie.Then2 = search in
+    let k : tie.After-at32 = search in
+    let empty : tie.Else3 = search in
+    let n : tie.After-number-new = search in
+    let fresh : tie.Then4 = search in
+    let h : tie.After-at322 = search in
+    let a = s .args in
+    let new = said-yes (newNumber (a .sizes .slots) (a .numbers .now) (a .number)) (n .number-new .ensures) (fresh .if4 .taken) in
+    sym (yes-all _ (range t, (small .if2 .taken, (sym (k .at32 .ensures) ∙ empty .if3 .left, (new, (omega (arith, h .at322 .ensures, c .if5 .taken), tt))))))
 
 pub ask-create-spec : {M : Type 1} → statement M
-ask-create-spec = tie.close (tie.spec returns returns-2 (λ c κs. search needs) returns-3 (λ c κs. search needs) returns-4 returns-5)
+ask-create-spec = tie.close (tie.spec returns returns-2 (λ c κs. search needs) returns-3 (λ c κs. search needs) returns-4 (λ c κs. search needs) returns-5 returns-6)

@@ -27,8 +27,8 @@ returns c =
 
 returns-2 : tie.Need-returns-2
 returns-2 c =
-    let stored : tie.After-put16 = search in
-    let numbered : tie.After-put32 = search in
+    let filled : tie.After-fill-slot = search in
+    let (numbers, accounts) = filled .fill-slot .ensures in
     let b : tie.Else1 = search in
     let k : tie.After-ask-delete = search in
     let s : tie.Start = search in
@@ -36,10 +36,10 @@ returns-2 c =
     let o = carried-out (a .sizes) (state s) (event s) (k .ask-delete .result) (k .ask-delete .ensures) (b .if1 .left) in (
       λ i. o i .answer,
       (
-        numbered .put32 .ensures ∙ delete-numbers (a .sizes) (state s) (a .slot) ∙ (λ i. o i .left .disk .numbers),
-        stored .put16 .ensures ∙ delete-accounts (a .sizes) (state s) (a .slot) ∙ (λ i. o i .left .disk .accounts),
+        numbers ∙ delete-numbers (a .sizes) (state s) (a .slot) ∙ (λ i. o i .left .disk .numbers),
+        accounts ∙ delete-accounts (a .sizes) (state s) (a .slot) ∙ (λ i. o i .left .disk .accounts),
       ),
     )
 
 pub delete-spec : {M : Type 1} → statement M
-delete-spec = tie.close (tie.spec (λ c κs. search needs) (λ c. search needs) returns (λ c κs. search needs) (λ c κs. search needs) (λ c. search needs) (λ c. search needs) returns-2)
+delete-spec = tie.close (tie.spec (λ c κs. search needs) (λ c. search needs) returns (λ c κs. search needs) (λ c. search needs) (λ c. search needs) returns-2)

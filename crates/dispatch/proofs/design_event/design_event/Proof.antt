@@ -41,7 +41,8 @@ deactivate-requires c κs =
 returns : tie.Need-returns
 returns c =
     let k : tie.After-create = search in let m : tie.After-event = search in
-    let d = k .create .ensures in rw (m .event .given .1) (create-own _ _ (start m .pre) _ _ _ (d .0) (d .1 .0) (d .1 .1))
+    let (answer, (numbers, (accounts, highest))) = k .create .ensures in
+    rw (m .event .given .1) (create-own _ _ (start m .pre) _ _ _ answer numbers accounts highest)
 
 returns-2 : tie.Need-returns-2
 returns-2 c =
@@ -70,6 +71,7 @@ design-event-spec =
     activate-requires
     (λ c. search needs)
     deactivate-requires
+    (λ c. search needs)
     (λ c. search needs)
     (λ c. search needs)
     returns

@@ -1,4 +1,4 @@
--- The six tests are the rule's; the products are small.
+-- The seven tests are the rule's; the products are small.
 use mathlib.Core.Bool.{and-assoc}
 use native.Mathlib.Omega.{arith}
 use Rattle.tables.specs.Rule.{test}

@@ -25,7 +25,7 @@ use Rattle.questions.proofs.question2.all_rules.Tie as tie
 abbrev lent : tie.Start → State
 lent s =
     let a = s .args in
-    stateOf (take (a .count) (unpacked (a .frames .now))) (a .pool) (a .records .now) (a .numbers .now) (a .accounts .now) (a .maps .now) (a .limits .now) (a .parents .now) (a .words .now) (a .free-queue .now) (a .removal-list .now)
+    stateOf (take (a .count) (unpacked (a .frames .now))) (a .pool) (a .records .now) (a .numbers .now) (a .accounts .now) (a .maps .now) (a .limits .now) (a .parents .now) (a .highest .now) (a .words .now) (a .free-queue .now) (a .removal-list .now)
     (a .addresses .now) (a .states .now) (a .owners .now) (a .free-map .now) (a .active .now) (a .updating .now) (a .images .now) (a .used .now)
 
 fits : (s : tie.Start) → Fit (s .args .z) (lent s)

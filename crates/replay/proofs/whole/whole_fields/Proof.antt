@@ -8,18 +8,18 @@ use Rattle.replay.proofs.Printed.{At, at-first, at-room, at-more, at-la
 use Rattle.replay.proofs.whole.whole_fields.Statement.{statement}
 use Rattle.replay.proofs.whole.whole_fields.Tie as tie
 
--- the tables, in the order in which they are lent: a to u, and the parents p, which stay
+-- the tables, in the order in which they are lent: a to u, with the highest number v, and the parents p, which stay
 abbrev Inv-loop : tie.InvT-loop
-Inv-loop input from out₀ count a₀ b₀ c₀ d₀ e₀ p f₀ g₀ h₀ i₀ j₀ k₀ l₀ m₀ o₀ q₀ r₀ u₀ held₀ place₀ size₀ n₀ step₀
-    out a b c d e f g h i j k l m o q r u held place size n step =
+Inv-loop input from out₀ count a₀ b₀ c₀ d₀ e₀ p v₀ f₀ g₀ h₀ i₀ j₀ k₀ l₀ m₀ o₀ q₀ r₀ u₀ held₀ place₀ size₀ n₀ step₀
+    out a b c d e v f g h i j k l m o q r u held place size n step =
     At input out₀ from count
-    (allOf (framesOf (held₀ .frames) 2) (held₀ .pool) a₀ b₀ c₀ d₀ e₀ p f₀ g₀ h₀ i₀ j₀ k₀ l₀ m₀ o₀ q₀ r₀ u₀)
+    (allOf (framesOf (held₀ .frames) 2) (held₀ .pool) a₀ b₀ c₀ d₀ e₀ p v₀ f₀ g₀ h₀ i₀ j₀ k₀ l₀ m₀ o₀ q₀ r₀ u₀)
     place size n step out
-    (allOf (framesOf (held .frames) 2) (held .pool) a b c d e p f g h i j k l m o q r u)
+    (allOf (framesOf (held .frames) 2) (held .pool) a b c d e p v f g h i j k l m o q r u)
 
 abbrev μ-loop : tie.MeasureT-loop
-μ-loop input from out₀ count a₀ b₀ c₀ d₀ e₀ p f₀ g₀ h₀ i₀ j₀ k₀ l₀ m₀ o₀ q₀ r₀ u₀ held₀ place₀ size₀ n₀ step₀
-    out a b c d e f g h i j k l m o q r u held place size n step =
+μ-loop input from out₀ count a₀ b₀ c₀ d₀ e₀ p v₀ f₀ g₀ h₀ i₀ j₀ k₀ l₀ m₀ o₀ q₀ r₀ u₀ held₀ place₀ size₀ n₀ step₀
+    out a b c d e v f g h i j k l m o q r u held place size n step =
     18446744073709551615 - n
 
 -- the places before the calls

@@ -19,7 +19,7 @@ use Rattle.waiting.proofs.turn.fetch.Tie as tie
 abbrev lent : tie.Start → State
 lent s =
     let a = s .args in
-    allGiven (framesGiven (a .sizes) (a .frames)) (a .pool) (a .records) (a .numbers) (a .accounts) (a .maps) (a .limits) (a .parents) (a .frame-words) (a .free-queue) (a .removal-list)
+    allGiven (framesGiven (a .sizes) (a .frames)) (a .pool) (a .records) (a .numbers) (a .accounts) (a .maps) (a .limits) (a .parents) (a .highest) (a .frame-words) (a .free-queue) (a .removal-list)
     (a .addresses) (a .states) (a .owners) (a .free-map) (a .active) (a .updating) (a .images) (a .line) (a .used)
 
 -- ── the places ──
