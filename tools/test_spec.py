@@ -131,6 +131,13 @@ class Whole(unittest.TestCase):
         self.all_said("Export", {"pageText", "exported", "export"})
         self.all_said("Stores", {"Call", "stores", "made", "first"})
 
+    def test_isolation(self):
+        rules = set(re.findall(r"[a-z]+Like", re.search(r"wordsLike = (.*)", source("isolation", "Shown")).group(1)))
+        self.all_said("Shown", rules | {"wordsLike", "Shown"}, "isolation")
+        twin = re.search(r"pub data Twin .*?\n\n", source("isolation", "Twins"), re.S).group()
+        self.all_said("Twins", set(re.findall(r"^  (\w+) :", twin, re.M)), "isolation")
+        self.all_said("Answers", set(re.findall(r"^  pub (\w+) :", source("isolation", "Answers"), re.M)), "isolation")
+
     def test_edges(self):
         names = set(re.findall(r"^ *(e\d+(?:-\w+)?) :", source("edges", "Edges"), re.M))
         self.all_said("Edges", names, "edges")

@@ -51,6 +51,19 @@ pub record Sound (z : Sizes) (d : Disk) : Type 0 where
   pub lengths : Holds (diskLengths z d)
   pub rules : (m : Memory) → Holds (diskRules z (record { disk = d; memory = m }))
 
+-- whatever the parents, sizes and lengths fit
+pub record Fits (z : Sizes) (d : Disk) : Type 0 where
+  pub sizes : Holds (sizesFit z)
+  pub lengths : Holds (diskLengths z d)
+
+pub mended-fits : (z : Sizes) (l : Lent) → mend z l .answer .refusal ≡ 0 → Fits z (mend z l .left .disk)
+unfolding mend
+mended-fits z l = go (mendAnswer z l) refl
+  where
+    go : (n : ℕ) → mendAnswer z l ≡ n → (let o = outcome n (length (allChanges z (packOf (l .disk)))) l (mendedLent z l) in o .answer .refusal ≡ 0 → Fits z (o .left .disk))
+    go zero e h = let a = all-yes 0 (ask 1 (sizesFit z and diskLengths z (l .disk)) (ask 24 (non (below (length (l .list)) (4 * allPlaces z))) none)) tt e in record { sizes = a .0 .0; lengths = mended-lengths z (l .disk) (a .0 .0) (a .0 .1) }
+    go (suc n) e h = absurd (omega (arith, h))
+
 -- where each account but 0 has a lower parent
 pub mended-sound : (z : Sizes) (l : Lent) → Holds (lower (z .accounts) (at (l .disk .parents))) → mend z l .answer .refusal ≡ 0 → Sound z (mend z l .left .disk)
 unfolding mend
@@ -80,7 +93,7 @@ mended-once z l = go (mendAnswer z l) refl
         map-once z (packOf (l .disk)) (pack-fit z (l .disk) (a .0 .0) (a .0 .1)) (within z (a .0 .0) .accounts)
     go (suc n) e h = absurd (omega (arith, h))
 
-differ : true ≡ false → ⊥
+pub differ : true ≡ false → ⊥
 differ x = let y : _≡_ {A = ℕ} 0 1 = cc in omega arith
 
 -- Demand 3 holds also for lists from a mended pack, its claims on a last finished write only where there is one since mending; whatever its parents: if one is not lower, every restart is refused.

@@ -1,0 +1,23 @@
+-- Another mill's pattern cannot show: the relation between two boards is kept by every act, and the theorem.
+pub mod Reworded
+pub mod Told
+pub mod Ledgers
+pub mod Landed
+pub mod Standing
+pub mod StandingAlong
+pub mod Alike
+pub mod Events
+pub mod Handed
+pub mod Exports
+pub mod Importing
+pub mod Imports
+pub mod Restarts
+pub mod Stored
+pub mod Cuts
+pub mod Isolated
+pub mod ListCall
+pub mod Numbers
+pub mod ByNumber
+pub mod AnswersBy
+pub mod IsolatedBy
+pub mod Applied
