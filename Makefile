@@ -5,7 +5,7 @@
 # make sheet: what the sheet SHEET holds, with a picture of its weave.
 # make docs: what the documents take from the code, and whatever repeats the lent tables. make bench: the keeper's speed beside the C port's and the reference's (docs/BENCHMARKS.md).
 # make plug: kills a weaver on a file disk, KILLS times, and checks every promise. make break: a wrong definition, WRONG, refused before your eyes.
-# make timeline: a list of events, LIST, as one HTML file to look at. make misses: the misses of a list of page uses, TRACE, for 1 to 64 frames. (docs/TESTS.md; what these are made of is tested, not proved.)
+# make timeline: a list of events, LIST, as one HTML file to look at. make misses: the misses of a list of page uses, TRACE, for 1 to 64 frames, and its reads from the disk with a chip of 1 to 256 pages. (docs/TESTS.md; what these are made of is tested, not proved.)
 # make cross: the library for another processor, TARGET. make cross-test: each of them beside x86-64's own, by emulation (docs/USING.md, "Another processor").
 .PHONY: test replay starts mend convert export import sheet named-pack named-files named-export named-import named-sheet mutants docs bench plug break misses timeline cross cross-test
 LIST = examples/two-mills.txt

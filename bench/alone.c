@@ -18,7 +18,7 @@ static uint16_t addresses[N];
 static uint32_t map[R / 32];
 static struct pool pool;
 static struct keeper keeper = {
-    .sizes = {1, R, MOST_FRAMES, MOST_SLOTS, N, MOST_ACCOUNTS},
+    .sizes = {1, R, MOST_FRAMES, MOST_SLOTS, N, MOST_ACCOUNTS, 1},
     .memory = {.addresses = {addresses, N}, .free_map = {map, R / 32}, .pool = &pool},
 };
 

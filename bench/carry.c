@@ -21,8 +21,8 @@ static const char *const names[KINDS] = {"export", "import"};
 enum { NONE_ZERO, FIRST_ZERO, LAST_ALONE, HALF_ZERO, HALF_PAGES, DESIGNS };
 static const char *const designs[DESIGNS] = /* by their words */
     {"none is 0", "the first of each page is 0", "all but the last of each page are 0", "half are 0, by chance", "half of the pages are zeros, by chance"};
-static const KeeperSizes middle = {64, 512, 16, 16, 64, 4};
-static const KeeperSizes largest = {KEEPER_MOST_WORDS, KEEPER_MOST_RECORDS, KEEPER_MOST_FRAMES, KEEPER_MOST_SLOTS, KEEPER_MOST_PAGES, KEEPER_MOST_ACCOUNTS};
+static const KeeperSizes middle = {64, 512, 16, 16, 64, 4, 32};
+static const KeeperSizes largest = {KEEPER_MOST_WORDS, KEEPER_MOST_RECORDS, KEEPER_MOST_FRAMES, KEEPER_MOST_SLOTS, KEEPER_MOST_PAGES, KEEPER_MOST_ACCOUNTS, KEEPER_MOST_CHIP};
 
 static Keeper lent;
 static struct keeper port; /* the same tables */
@@ -51,13 +51,13 @@ static void lay(KeeperSizes z)
     if (keeper_place(&lent, z, block, bytes) != KEEPER_PLACED)
         fail("no block");
     port = (struct keeper){
-        {z.words, z.records, z.frames, z.slots, z.pages, z.accounts},
+        {z.words, z.records, z.frames, z.slots, z.pages, z.accounts, z.chip},
         {SLICE(lent.records, z.records * z.words), SLICE(lent.numbers, z.slots), SLICE(lent.accounts, z.slots), SLICE(lent.maps, pages),
          SLICE(lent.limits, z.accounts), SLICE(lent.parents, z.accounts), SLICE(lent.highest, 1)},
         {SLICE((struct frame *)lent.frames, z.frames), SLICE(lent.frame_words, z.frames * z.words), SLICE(lent.free_queue, z.frames),
          SLICE(lent.removal_list, z.frames), SLICE(lent.addresses, pages), SLICE(lent.states, z.records), SLICE(lent.owners, z.records),
          SLICE(lent.free_map, (z.records + 31) / 32), SLICE(lent.active, z.slots), SLICE(lent.updating, z.slots), SLICE(lent.images, pages),
-         SLICE(lent.line, LINE), SLICE(lent.used, z.accounts), (struct pool *)lent.pool},
+         SLICE(lent.chip_words, z.chip * z.words), SLICE(lent.chip_records, z.chip), SLICE(lent.chip_next, 1), SLICE(lent.line, LINE), SLICE(lent.used, z.accounts), (struct pool *)lent.pool},
     };
     memory_bytes = (size_t)(block + bytes - (unsigned char *)lent.frames);
     memory_before = space(memory_bytes);

@@ -6,5 +6,5 @@ vectors=${1:-}
 cd "$(dirname "$0")/.."
 mkdir -p target/c
 gcc -O2 -Wall -Wextra -Werror -std=c11 -o target/c/replay \
-    bench/replay.c bench/keeper.c bench/accounts.c bench/mend.c bench/rules.c bench/questions.c bench/events.c bench/sheets.c
+    bench/replay.c bench/keeper.c bench/accounts.c bench/mend.c bench/rules.c bench/questions.c bench/events.c bench/chip.c bench/sheets.c
 exec tests/compare.sh target/c/replay "${vectors:-tests/vectors}"

@@ -73,6 +73,7 @@ static void deactivate(struct keeper *k, size_t slot)
         m->addresses.at[page] = 0;
     }
     m->active.at[slot] = 0;
+    chip_drop_stale(k);
 }
 
 #ifdef OLD_SEARCH
@@ -182,10 +183,15 @@ static uint32_t fault(struct keeper *k, size_t page)
     take_out(m->free_queue, number);
     *frame = (struct frame){.page = (uint16_t)(page + 1)};
     if (holds(k, page, LIVE)) {
-        frame->transfer = READING;
-        return (uint32_t)number;
+        const uint32_t *copy = chip_copy(k, m->addresses.at[page] - 1u);
+        if (copy == NULL) {
+            frame->transfer = READING;
+            return (uint32_t)number;
+        }
+        memcpy(words_in(k, number), copy, k->sizes.words * sizeof(uint32_t));
+    } else {
+        memset(words_in(k, number), 0, k->sizes.words * sizeof(uint32_t));
     }
-    memset(words_in(k, number), 0, k->sizes.words * sizeof(uint32_t));
     if (m->addresses.at[page] == 0)
         take_record(k, page);
     frame->initial = 1;
@@ -243,6 +249,7 @@ static uint32_t claim(struct keeper *k)
             return looks;
         }
         m->states.at[m->addresses.at[page] - 1] = NULLED;
+        chip_drop(k, m->addresses.at[page] - 1u);
         --*used_of(k, page);
     }
     free_frame(k, number);
@@ -264,6 +271,7 @@ static void truncate(struct keeper *k, size_t from, size_t end)
             m->states.at[m->addresses.at[page] - 1] = RELEASED;
         m->addresses.at[page] = 0;
     }
+    chip_drop_stale(k);
 }
 
 static void update(struct keeper *k, size_t slot)
@@ -320,6 +328,8 @@ static void page_done(struct keeper *k, size_t number, bool good)
         *frame = (struct frame){.page = frame->page, .used = frame->used, .modified = 1};
         push_end(k->memory.removal_list, number);
     }
+    if (good)
+        chip_put(k, record);
 }
 
 static void name_slot(struct keeper *k, size_t slot, uint16_t account, uint32_t number)

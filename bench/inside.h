@@ -27,6 +27,10 @@ uint32_t refuses_move(const struct keeper *k, const struct request *r);
 void move_pages(struct keeper *k, const struct request *r);
 void set_limit(struct keeper *k, size_t account, uint32_t pages);
 bool are_lower(const uint16_t *parents, size_t count);
+const uint32_t *chip_copy(const struct keeper *k, size_t record);
+void chip_put(struct keeper *k, size_t record);
+void chip_drop(struct keeper *k, size_t record);
+void chip_drop_stale(struct keeper *k);
 
 /* The frame that a page is in, or -1. */
 static inline int frame_of(const struct keeper *k, size_t page)

@@ -41,6 +41,9 @@ static void clear_memory(struct memory *m)
     memset(m->active.at, 0, m->active.len);
     memset(m->updating.at, 0, m->updating.len);
     memset(m->images.at, 0, m->images.len * sizeof *m->images.at);
+    memset(m->chip_words.at, 0, m->chip_words.len * sizeof *m->chip_words.at);
+    memset(m->chip_records.at, 0, m->chip_records.len * sizeof *m->chip_records.at);
+    m->chip_next.at[0] = 0;
     memset(m->line.at, 0, m->line.len * sizeof *m->line.at);
     memset(m->used.at, 0, m->used.len * sizeof *m->used.at);
     *m->pool = (struct pool){0};

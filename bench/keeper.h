@@ -7,7 +7,7 @@
 
 enum {
     MOST_WORDS = 1024, MOST_RECORDS = 4096, MOST_FRAMES = 64,
-    MOST_SLOTS = 64, MOST_PAGES = 256, MOST_ACCOUNTS = 16
+    MOST_SLOTS = 64, MOST_PAGES = 256, MOST_ACCOUNTS = 16, MOST_CHIP = 256
 };
 enum { LINE = 32 }; /* requests that can wait */
 enum { FREE, FILED, NULLED, LIVE, RELEASED, LEAVING }; /* states of a record */
@@ -18,7 +18,7 @@ enum { /* kinds of request; CUT is the event program's own, those after it the l
     MOVE, JOIN, TURN
 };
 
-struct sizes { size_t words, records, frames, slots, pages, accounts; };
+struct sizes { size_t words, records, frames, slots, pages, accounts, chip; };
 
 /* page: 0 for none, else the flat page number + 1 */
 struct frame { uint16_t page; uint8_t used, modified, wired, initial, transfer; };
@@ -54,6 +54,9 @@ struct memory {
     struct bytes active;
     struct bytes updating;
     struct halves images;
+    struct words chip_words;
+    struct halves chip_records;
+    struct halves chip_next;
     struct halves line;
     struct halves used;
     struct pool *pool;

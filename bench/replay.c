@@ -3,7 +3,7 @@
 #include <string.h>
 #include "keeper.h"
 
-enum { W = 2, R = 4, F = 2, S = 2, N = 3, Q = 1 };
+enum { W = 2, R = 4, F = 2, S = 2, N = 3, Q = 1, B = 2 };
 
 #define SLICE(table) {table, sizeof table / sizeof *table}
 
@@ -26,12 +26,15 @@ static uint32_t free_map[(R + 31) / 32];
 static uint8_t active[S];
 static uint8_t updating[S];
 static uint16_t images[S * N];
+static uint32_t chip_words[B * W];
+static uint16_t chip_records[B];
+static uint16_t chip_next[1];
 static uint16_t line[32];
 static uint16_t used[Q];
 static struct pool pool;
 
 static struct keeper keeper = {
-    .sizes = {W, R, F, S, N, Q},
+    .sizes = {W, R, F, S, N, Q, B},
     .disk = {
         SLICE(records),
         SLICE(numbers),
@@ -53,6 +56,9 @@ static struct keeper keeper = {
         SLICE(active),
         SLICE(updating),
         SLICE(images),
+        SLICE(chip_words),
+        SLICE(chip_records),
+        SLICE(chip_next),
         SLICE(line),
         SLICE(used),
         &pool,
@@ -104,6 +110,9 @@ static struct answer cut_and_restart(void)
     memset(frame_words, 0xA5, sizeof frame_words);
     memset(addresses, 0xA5, sizeof addresses);
     memset(states, 0xA5, sizeof states);
+    memset(chip_words, 0xA5, sizeof chip_words);
+    memset(chip_records, 0xA5, sizeof chip_records);
+    memset(chip_next, 0xA5, sizeof chip_next);
     memset(line, 0xA5, sizeof line);
     return keeper_restart(&keeper);
 }

@@ -7,7 +7,8 @@ static bool up_to(size_t n, size_t most) { return n >= 1 && n <= most; }
 static bool sizes_within(const struct sizes *z)
 {
     return up_to(z->words, MOST_WORDS) && up_to(z->records, MOST_RECORDS) && up_to(z->frames, MOST_FRAMES)
-        && up_to(z->slots, MOST_SLOTS) && up_to(z->pages, MOST_PAGES) && up_to(z->accounts, MOST_ACCOUNTS);
+        && up_to(z->slots, MOST_SLOTS) && up_to(z->pages, MOST_PAGES) && up_to(z->accounts, MOST_ACCOUNTS)
+        && up_to(z->chip, MOST_CHIP);
 }
 
 bool fits_disk(const struct keeper *k)
@@ -28,7 +29,8 @@ bool fits_memory(const struct keeper *k)
         && m->free_queue.len == z->frames && m->removal_list.len == z->frames && m->addresses.len == pages
         && m->states.len == z->records && m->owners.len == z->records
         && m->free_map.len == (z->records + 31) / 32 && m->active.len == z->slots
-        && m->updating.len == z->slots && m->images.len == pages && m->line.len == LINE && m->used.len == z->accounts;
+        && m->updating.len == z->slots && m->images.len == pages && m->chip_words.len == z->chip * z->words
+        && m->chip_records.len == z->chip && m->chip_next.len == 1 && m->line.len == LINE && m->used.len == z->accounts;
 }
 
 /* Marks of entries seen, one bit an entry. */
@@ -261,6 +263,34 @@ static bool counts_ok(const struct keeper *k, const struct tally *t)
     return true;
 }
 
+/* Many words at a time: all places may be empty. */
+static bool zeros(const uint32_t *words, size_t count)
+{
+    return words[0] == 0 && memcmp(words, words + 1, (count - 1) * sizeof *words) == 0;
+}
+
+/* A copy is of a live record, equal to it, and the only one; an empty place holds zeros. */
+static bool chip_ok(const struct keeper *k)
+{
+    const struct memory *m = &k->memory;
+    size_t words = k->sizes.words;
+    struct marks copied = {{0}};
+    for (size_t place = 0; place < k->sizes.chip; place++) {
+        uint16_t entry = m->chip_records.at[place];
+        const uint32_t *own = m->chip_words.at + place * words;
+        if (entry == 0) {
+            if (!zeros(own, words))
+                return false;
+            continue;
+        }
+        if (entry > k->sizes.records || m->states.at[entry - 1] != LIVE || !mark(&copied, entry))
+            return false;
+        if (memcmp(own, k->disk.records.at + (size_t)(entry - 1) * words, words * sizeof *own) != 0)
+            return false;
+    }
+    return m->chip_next.at[0] < k->sizes.chip;
+}
+
 /* Asked once the disk rules hold. */
 bool keeps_memory_rules(const struct keeper *k)
 {
@@ -271,5 +301,6 @@ bool keeps_memory_rules(const struct keeper *k)
     memset(t.used, 0, sizeof t.used);
     t.held = t.filed = 0;
     return queue_ok(k, k->memory.free_queue.at, &t, true) && queue_ok(k, k->memory.removal_list.at, &t, false)
-        && frames_ok(k, &t) && slots_ok(k, &t) && records_ok(k, &t) && counts_ok(k, &t) && line_ok(k);
+        && frames_ok(k, &t) && slots_ok(k, &t) && records_ok(k, &t) && counts_ok(k, &t) && line_ok(k)
+        && chip_ok(k);
 }

@@ -4,6 +4,7 @@
 run.py [--into FILE]    measures and prints the tables; or puts them into FILE, in place of all below its heading '## Tables'
 run.py --search         measures and prints the table of the search for a free record alone
 run.py --sheets         measures and prints the table of design sheets
+run.py --chip           measures and prints the table of the chip
 """
 import datetime
 import os
@@ -21,20 +22,21 @@ SEARCH = OUT / "search"
 ALONE = OUT / "alone"
 SEARCH_ALONE = OUT / "search_alone"
 CARRY = OUT / "carry"
+CHIPS = OUT / "chips"
 GCC = ["gcc", "-O2", "-Wall", "-Wextra", "-Werror"]
-PORT = ["keeper", "accounts", "rules", "questions", "events", "sheets"]
+PORT = ["keeper", "accounts", "rules", "questions", "events", "chip", "sheets"]
 # what the C port's files share; in the port with the old search each name is another
 CALLS = ["keeper_format", "keeper_restart", "keeper_apply", "keeper_apply_all", "keeper_mend", "keeper_page_look", "keeper_export", "keeper_import"]
 INSIDE = [
     "fits_disk", "fits_memory", "keeps_disk_rules", "keeps_memory_rules", "first_refusal", "treatment", "carry_out", "refuses_move", "move_pages", "set_limit", "are_lower",
-    "common", "refuses_create", "pick_by_hand", "pick_near", "take",
+    "common", "refuses_create", "pick_by_hand", "pick_near", "take", "chip_copy", "chip_put", "chip_drop", "chip_drop_stale",
 ]
 BUILD = "cargo build --quiet --offline --profile bench-run --manifest-path tests/reference/Cargo.toml --target-dir target/cargo --bin bench"
 # callgrind counts a repeated string instruction once a step: in the counting run the C library is to use none
 NO_REPEATS = {"GLIBC_TUNABLES": "glibc.cpu.hwcaps=-ERMS,-FSRM"}
 SIZES = ["smallest", "middle", "largest"]
 # where design sheets are measured
-CARRIED = {"middle": "W 64 R 512 F 16 S 16 N 64 Q 4", "largest": "W 1024 R 4096 F 64 S 64 N 256 Q 16"}
+CARRIED = {"middle": "W 64 R 512 F 16 S 16 N 64 Q 4 B 32", "largest": "W 1024 R 4096 F 64 S 64 N 256 Q 16 B 256"}
 SECONDS = "20"
 HEADING = "## Tables"
 # the mean leaves these out: they are no events of a running keeper
@@ -171,6 +173,20 @@ def sheets(names):
     yield ""
 
 
+def chip():
+    """The table of the chip, at the largest sizes but for B."""
+    print("chip ..", file=sys.stderr)
+    output(*GCC, "-std=gnu11", "-o", str(CHIPS), "bench/chips.c", *built_port("c"), str(LIBRARY))
+    times, counts = fields(output(str(CHIPS), SECONDS)), counted_calls(CHIPS, 2)
+    yield "### The chip: W 1024 R 4096 F 64 S 64 N 256 Q 16\n"
+    yield "Nanoseconds an event, single calls and lists; instructions of the whole call. 512 records are live, and a filled place has the copy of one.\n"
+    yield "| call | keeper | C | keeper/C | instructions keeper/C | keeper instructions | C instructions |\n|---|" + "--:|" * 6
+    for case, (own, other) in counts.items():
+        keeper, c_port = map(float, times[case])
+        yield f"| {case} | {keeper:,.0f} | {c_port:,.0f} | {keeper / c_port:.2f} | {own / other:.2f} | {own:,} | {other:,} |"
+    yield ""
+
+
 def ratios(_, keeper, c_port, reference, keeper_count, c_count):
     return f"{keeper / c_port:.2f} | {keeper / reference:.2f} | {keeper_count / c_count:.2f}"
 
@@ -220,20 +236,21 @@ def machine():
 
 def main():
     into = pathlib.Path(sys.argv[2]) if sys.argv[1:2] == ["--into"] and len(sys.argv) == 3 else None
-    alone = sys.argv[1] if sys.argv[1:] in (["--search"], ["--sheets"]) else None
+    tables = {"--search": search, "--sheets": lambda: sheets(CARRIED), "--chip": chip}
+    alone = tables.get(sys.argv[1]) if len(sys.argv) == 2 else None
     if sys.argv[1:] and not into and not alone:
         sys.exit(__doc__)
     if not LIBRARY.exists():
         sys.exit("run.py: the keeper's library is not built: make bench, or rt staticlib keeper")
     OUT.mkdir(parents=True, exist_ok=True)
     if alone:
-        print("\n".join([*machine(), *(search() if alone == "--search" else sheets(CARRIED))]))
+        print("\n".join([*machine(), *alone()]))
         return
-    searches, carried = list(search()), list(sheets(CARRIED))
+    searches, carried, chips = list(search()), list(sheets(CARRIED)), list(chip())
     subprocess.run(BUILD.split(), cwd=ROOT, check=True)
     sizes = [measured(size) for size in SIZES]
     lists = [line for size, (name, _, _) in zip(SIZES, sizes) for line in lists_table(name, size)]
-    lines = [*machine(), *summary(sizes), *searches, *carried, *(line for size in sizes for line in table(*size)), *lists]
+    lines = [*machine(), *summary(sizes), *searches, *carried, *chips, *(line for size in sizes for line in table(*size)), *lists]
     text = "\n".join(lines)
     if into:
         above = into.read_text().split(HEADING)[0]

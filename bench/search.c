@@ -19,7 +19,7 @@
 struct answer old_port_apply(struct keeper *keeper, struct request request);
 
 /* one word a record: the words of a page are not what is measured */
-enum { W = 1, F = MOST_FRAMES, S = MOST_SLOTS, N = MOST_PAGES, Q = MOST_ACCOUNTS, TURNS = SIDES };
+enum { W = 1, F = MOST_FRAMES, S = MOST_SLOTS, N = MOST_PAGES, Q = MOST_ACCOUNTS, B = 1, TURNS = SIDES };
 #include "timing.h"
 
 static struct {
@@ -34,18 +34,20 @@ static struct tables {
     uint8_t states[R], owners[R];
     uint32_t free_map[R / 32];
     uint8_t active[S], updating[S];
-    uint16_t images[S * N], line[LINE], used[Q];
+    uint16_t images[S * N];
+    uint32_t chip_words[B * W];
+    uint16_t chip_records[B], chip_next[1], line[LINE], used[Q];
     struct pool pool;
 } memory, start;
 
 #define SLICE(table) {table, sizeof table / sizeof *table}
 static struct keeper keeper = {
-    {W, R, F, S, N, Q},
+    {W, R, F, S, N, Q, B},
     {SLICE(disk.records), SLICE(disk.numbers), SLICE(disk.accounts), SLICE(disk.maps), SLICE(disk.limits), SLICE(disk.parents),
      SLICE(disk.highest)},
     {SLICE(memory.frames), SLICE(memory.frame_words), SLICE(memory.free_queue), SLICE(memory.removal_list), SLICE(memory.addresses),
      SLICE(memory.states), SLICE(memory.owners), SLICE(memory.free_map), SLICE(memory.active), SLICE(memory.updating), SLICE(memory.images),
-     SLICE(memory.line), SLICE(memory.used), &memory.pool},
+     SLICE(memory.chip_words), SLICE(memory.chip_records), SLICE(memory.chip_next), SLICE(memory.line), SLICE(memory.used), &memory.pool},
 };
 
 /* All records but one are listed by designs that are not active; slot 0's is. */
@@ -81,14 +83,14 @@ __attribute__((noinline)) static size_t call(int side, size_t page)
         return c_port_apply(&keeper, request).refusal;
     if (side == 2)
         return old_port_apply(&keeper, request).refusal;
-    KeeperSizes sizes = {W, R, F, S, N, Q};
+    KeeperSizes sizes = {W, R, F, S, N, Q, B};
     KeeperRequest asked = {FAULT, 0, (uint32_t)page, 0, 0};
     struct disk *d = &keeper.disk;
     struct memory *m = &keeper.memory;
     return keeper_apply(sizes, asked, (KeeperFrame *)m->frames.at, m->frames.len, (KeeperPool *)m->pool, LENT(d->records), LENT(d->numbers),
                         LENT(d->accounts), LENT(d->maps), LENT(d->limits), LENT(d->parents), LENT(d->highest), LENT(m->frame_words),
                         LENT(m->free_queue), LENT(m->removal_list), LENT(m->addresses), LENT(m->states), LENT(m->owners), LENT(m->free_map), LENT(m->active), LENT(m->updating),
-                        LENT(m->images), LENT(m->line), LENT(m->used)).refusal;
+                        LENT(m->images), LENT(m->chip_words), LENT(m->chip_records), LENT(m->chip_next), LENT(m->line), LENT(m->used)).refusal;
 }
 
 /* The fault was carried out, the page has that record, and the hand stands past it. */

@@ -12,22 +12,26 @@ int filedisk_refused(FileDisk *disk, int answer, const char *line)
 /* ── the header block ── */
 static const char MAGIC[8] = {'K', 'E', 'E', 'P', 'D', 'I', 'S', 'K'};
 
-/* Where its numbers are, 4 bytes each; the widths follow the sizes, the lengths the widths; the checksum of all before ends the block. */
-enum { VERSION = 8, SIZE_COUNT = 12, TABLE_COUNT = 16, SIZES = 20, WIDTHS = SIZES + 4 * KEEPER_SIZE_COUNT, SUM = FILEDISK_BLOCK - 4 };
+/* Where its numbers are, 4 bytes each; the widths follow the sizes, the lengths the widths; the checksum of all before ends the block. The sizes are the
+ * first of the keeper's: B stands in no header. */
+enum { STORED_SIZES = 6, VERSION = 8, SIZE_COUNT = 12, TABLE_COUNT = 16, SIZES = 20, WIDTHS = SIZES + 4 * STORED_SIZES, SUM = FILEDISK_BLOCK - 4 };
 
 /* How many tables each version has, the first of those that there are now; versions before FRAMELESS have F among their sizes. */
 enum { FRAMELESS = 3 };
 static const uint32_t TABLES[FILEDISK_VERSION + 1] = {0, 5, 6, 6, KEEPER_DISK_COUNT};
 KEEPER_ASSERT(FILEDISK_VERSION == 4 && KEEPER_DISK_COUNT == 7, "another table is another version of the layout");
+KEEPER_ASSERT(KEEPER_SIZE_COUNT == STORED_SIZES + 1, "another size is part of a disk, or not");
 
 static uint32_t field(const unsigned char *block, size_t at)
 {
     return (uint32_t)filedisk_get(block + at, 4);
 }
 
-static int is_frames(size_t size)
+/* F and B: no table of the disk part has its length by them. */
+static int is_memory(size_t size)
 {
-    return keeper_size((KeeperSizes){0, 0, 0, 0, 0, 0}, size).letter == 'F';
+    const char letter = keeper_size((KeeperSizes){0, 0, 0, 0, 0, 0, 0}, size).letter;
+    return letter == 'F' || letter == 'B';
 }
 
 /* Where the tables are for these sizes. */
@@ -52,15 +56,18 @@ static void plan(FileDisk *disk, FileBlocks blocks, KeeperSizes sizes, uint32_t 
 
 static void put_sizes(unsigned char *block, KeeperSizes sizes, uint32_t version)
 {
-    for (size_t size = 0; size < KEEPER_SIZE_COUNT; size++)
-        filedisk_put(block + SIZES + 4 * size, 4, version >= FRAMELESS && is_frames(size) ? 0 : keeper_size(sizes, size).value);
+    for (size_t size = 0; size < STORED_SIZES; size++)
+        filedisk_put(block + SIZES + 4 * size, 4, version >= FRAMELESS && is_memory(size) ? 0 : keeper_size(sizes, size).value);
 }
 
 static KeeperSizes get_sizes(const unsigned char *block)
 {
     uint32_t values[KEEPER_SIZE_COUNT];
-    for (size_t size = 0; size < KEEPER_SIZE_COUNT; size++)
-        values[size] = field(block, SIZES + 4 * size) == 0 && is_frames(size) ? 1 : field(block, SIZES + 4 * size);
+    for (size_t size = 0; size < KEEPER_SIZE_COUNT; size++) {
+        values[size] = size < STORED_SIZES ? field(block, SIZES + 4 * size) : 0;
+        if (values[size] == 0 && is_memory(size))
+            values[size] = 1;
+    }
     return keeper_sizes_of(values);
 }
 
@@ -70,7 +77,7 @@ static void put_header(const FileDisk *disk, KeeperSizes sizes, unsigned char *b
     memset(block, 0, FILEDISK_BLOCK);
     memcpy(block, MAGIC, sizeof MAGIC);
     filedisk_put(block + VERSION, 4, disk->version);
-    filedisk_put(block + SIZE_COUNT, 4, KEEPER_SIZE_COUNT);
+    filedisk_put(block + SIZE_COUNT, 4, STORED_SIZES);
     filedisk_put(block + TABLE_COUNT, 4, disk->tables);
     put_sizes(block, sizes, disk->version);
     for (size_t table = 0; table < disk->tables; table++) {
@@ -133,7 +140,7 @@ int filedisk_sizes(FileDisk *disk, FileBlocks blocks, KeeperSizes *sizes)
 {
     const int answer = read_header(disk, blocks, sizes);
     if (answer == FILEDISK_GOOD)
-        sizes->frames = 1;
+        sizes->frames = sizes->chip = 1;
     return answer;
 }
 
@@ -141,11 +148,11 @@ static void name_sizes(char *text, size_t room, KeeperSizes sizes)
 {
     size_t used = 0;
     for (size_t size = 0; size < KEEPER_SIZE_COUNT && used < room; size++)
-        if (!is_frames(size))
+        if (!is_memory(size))
             used += (size_t)snprintf(text + used, room - used, " %c %u", keeper_size(sizes, size).letter, (unsigned)keeper_size(sizes, size).value);
 }
 
-/* The header, if this keeper has the disk's sizes: all but F, which is no part of a disk. */
+/* The header, if this keeper has the disk's sizes: all but F and B, which are no part of a disk. */
 static int matches(FileDisk *disk, FileBlocks blocks, const Keeper *keeper)
 {
     char line[sizeof disk->line], here[80], there[80];

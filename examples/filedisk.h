@@ -8,7 +8,7 @@
  *            highest
  *
  * Version 1 has no parents, version 2 has them. Both have F among the sizes; since version 3 a 0 stands there: the number of frames is no part of
- * a disk. Version 4 has the highest number. filedisk_sizes and filedisk_read know all four, the others the last alone (make convert makes it of the
+ * a disk. Nor is the number of the chip's places, B, which stands in no header. Version 4 has the highest number. filedisk_sizes and filedisk_read know all four, the others the last alone (make convert makes it of the
  * older ones).
  *
  * A store goes to the journal first; that is synced; then it goes to its places; that is synced too. A cut in the first half leaves the
@@ -83,7 +83,8 @@ int filedisk_format(FileDisk *disk, FileBlocks blocks, Keeper *keeper, const uin
  * store is brought to its places, the disk part read, the keeper restarted; and if that changed the highest number, it is stored. */
 int filedisk_open(FileDisk *disk, FileBlocks blocks, Keeper *keeper);
 
-/* The sizes that a disk of this or an older version was formatted with, by its header; it must be as long as that says. The frames are 1. */
+/* The sizes that a disk of this or an older version was formatted with, by its header; it must be as long as that says. The frames and the
+ * chip's places are 1. */
 int filedisk_sizes(FileDisk *disk, FileBlocks blocks, KeeperSizes *sizes);
 
 /* The disk part of this or an older version into the keeper's, with the journal's store in its places; tables that it lacks are zeros. Writes

@@ -4,20 +4,20 @@
 #include <string.h>
 #include "keeper.h"
 
-enum { W = 4, R = 8, F = 3, S = 2, N = 4, Q = 2 };
+enum { W = 4, R = 8, F = 3, S = 2, N = 4, Q = 2, B = 2 };
 
-static const KeeperSizes sizes = {.words = W, .records = R, .frames = F, .slots = S, .pages = N, .accounts = Q};
+static const KeeperSizes sizes = {.words = W, .records = R, .frames = F, .slots = S, .pages = N, .accounts = Q, .chip = B};
 
 /* What survives a cut: a header block with the sizes that the disk was formatted with, and the disk part. Here the device and the
  * copy of it that is lent are one. */
 static struct {
     KeeperSizes header;
-    KEEPER_DISK_TABLES(W, R, F, S, N, Q)
+    KEEPER_DISK_TABLES(W, R, F, S, N, Q, B)
 } disk;
 
 /* What does not. */
 static struct {
-    KEEPER_MEMORY_TABLES(W, R, F, S, N, Q)
+    KEEPER_MEMORY_TABLES(W, R, F, S, N, Q, B)
 } memory;
 
 #define EVERYTHING KEEPER_LEND(memory.frames), &memory.pool, KEEPER_LEND_DISK(disk), KEEPER_LEND_MEMORY(memory)
@@ -45,7 +45,7 @@ static uint32_t ask(const char *what, uint32_t kind, uint32_t first, uint32_t se
 
 static void print_sizes(const char *before, const KeeperSizes *z)
 {
-    printf("%s W %zu R %zu F %zu S %zu N %zu Q %zu", before, z->words, z->records, z->frames, z->slots, z->pages, z->accounts);
+    printf("%s W %zu R %zu F %zu S %zu N %zu Q %zu B %zu", before, z->words, z->records, z->frames, z->slots, z->pages, z->accounts, z->chip);
 }
 
 /* Whether the disk was formatted with these sizes. Asked before every restart: the keeper itself sees only lengths, and other
@@ -167,7 +167,7 @@ int main(void)
     memset(&memory, 0xA5, sizeof memory);
 
     /* Firmware for pages of twice the words, half as many: every table of the disk part has its length there too. */
-    const KeeperSizes other = {.words = 2 * W, .records = R / 2, .frames = F, .slots = S, .pages = N, .accounts = Q};
+    const KeeperSizes other = {.words = 2 * W, .records = R / 2, .frames = F, .slots = S, .pages = N, .accounts = Q, .chip = B};
     if (opens(&other))
         refused++;
 

@@ -5,7 +5,7 @@
 #include "keeper_easy.h"
 
 enum { WORDS = 4, MILLS = 2, PAGES = 4 };
-static const KeeperSizes sizes = {.words = WORDS, .records = 8, .frames = 2, .slots = MILLS + 1, .pages = PAGES, .accounts = 1};
+static const KeeperSizes sizes = {.words = WORDS, .records = 8, .frames = 2, .slots = MILLS + 1, .pages = PAGES, .accounts = 1, .chip = 1};
 static Keeper keeper;
 
 /* The device. The lent tables are all that there is here, so each transfer ends well at once, and is reported. */

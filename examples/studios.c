@@ -7,7 +7,7 @@
 enum { HOUSE, MILL, NORTH, SOUTH, EAST, ACCOUNTS };
 static const char *const names[ACCOUNTS] = {"house", "mill", "north", "south", "east"};
 static const uint16_t parents[ACCOUNTS] = {HOUSE, HOUSE, MILL, MILL, MILL};
-static const KeeperSizes sizes = {.words = 1, .records = 16, .frames = 16, .slots = 3, .pages = 6, .accounts = ACCOUNTS};
+static const KeeperSizes sizes = {.words = 1, .records = 16, .frames = 16, .slots = 3, .pages = 6, .accounts = ACCOUNTS, .chip = 1};
 static Keeper keeper;
 static uint32_t woven[ACCOUNTS]; /* pages of each studio's design */
 

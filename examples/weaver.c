@@ -8,7 +8,7 @@
 #include "filedisk.h"
 
 enum { WORDS = 4 };
-static const KeeperSizes sizes = {.words = WORDS, .records = 16, .frames = 4, .slots = 2, .pages = 6, .accounts = 2};
+static const KeeperSizes sizes = {.words = WORDS, .records = 16, .frames = 4, .slots = 2, .pages = 6, .accounts = 2, .chip = 4};
 static Keeper keeper;
 static FileDisk disk;
 

@@ -23,12 +23,13 @@ enum {
     KEEPER_MOST_FRAMES = 64,    /* F */
     KEEPER_MOST_SLOTS = 64,     /* S, design slots */
     KEEPER_MOST_PAGES = 256,    /* N, pages in a design */
-    KEEPER_MOST_ACCOUNTS = 16   /* Q */
+    KEEPER_MOST_ACCOUNTS = 16,  /* Q */
+    KEEPER_MOST_CHIP = 256      /* B, places of the chip */
 };
 
 /* The sizes; for one disk the same ones at every call. */
 typedef struct {
-    size_t words, records, frames, slots, pages, accounts;
+    size_t words, records, frames, slots, pages, accounts, chip;
 } KeeperSizes;
 
 /* A memory frame. page: 0 for none, else slot * N + page + 1. Switches: 0 or 1. transfer: 0 none, 1 reading, 2 writing. */
@@ -84,7 +85,7 @@ enum {
 KEEPER_ASSERT(sizeof(size_t) == 8, "on x86-64 the library is for pointers of 64 bits");
 #endif
 KEEPER_ASSERT(sizeof(size_t) == 8 || sizeof(size_t) == 4, "a platform of 64 or 32 bits");
-KEEPER_ASSERT(sizeof(KeeperSizes) == 6 * sizeof(size_t), "six sizes");
+KEEPER_ASSERT(sizeof(KeeperSizes) == 7 * sizeof(size_t), "seven sizes");
 KEEPER_ASSERT(sizeof(KeeperFrame) == 8 && offsetof(KeeperFrame, transfer) == 6, "page at 0, used at 2, .., transfer at 6");
 KEEPER_ASSERT(sizeof(KeeperPool) == 8, "hand at 0, free at 4");
 KEEPER_ASSERT(sizeof(KeeperRequest) == 20, "five numbers of 4 bytes");
@@ -161,7 +162,7 @@ enum {
 
 /* tables and calls: made by tools/tables.py from tools/tables.txt */
 /* The lent tables as members of a struct, where the sizes are constants: each with exactly its length. */
-#define KEEPER_DISK_TABLES(W, R, F, S, N, Q)                                                  \
+#define KEEPER_DISK_TABLES(W, R, F, S, N, Q, B)                                               \
     uint32_t records[(R) * (W)]; /* the records' words */                                     \
     uint32_t numbers[S];         /* the slot's unique number, 0 for an empty slot */          \
     uint16_t accounts[S];        /* the slot's account */                                     \
@@ -169,7 +170,7 @@ enum {
     uint16_t limits[Q];          /* the account's limit, 0 to 65,535 pages */                 \
     uint16_t parents[Q];         /* the account's parent, a lower account; 0 for account 0 */ \
     uint32_t highest[1];         /* the highest number below 2,147,483,648 ever given */
-#define KEEPER_MEMORY_TABLES(W, R, F, S, N, Q)                                                                                                                  \
+#define KEEPER_MEMORY_TABLES(W, R, F, S, N, Q, B)                                                                                                               \
     KeeperFrame frames[F];              /* the frames: page, switches, transfer */                                                                              \
     uint32_t frame_words[(F) * (W)];    /* the frames' words */                                                                                                 \
     uint16_t free_queue[F];             /* the free frames, a queue: frame + 1, packed at the front, then 0 */                                                  \
@@ -181,6 +182,9 @@ enum {
     uint8_t active[S];                  /* the slot's active switch, 0 or 1 */                                                                                  \
     uint8_t updating[S];                /* the slot's update-under-way switch, 0 or 1 */                                                                        \
     uint16_t images[(S) * (N)];         /* map images: 0, or record + 1 */                                                                                      \
+    uint32_t chip_words[(B) * (W)];     /* the chip's words: a copy of a live record's in each place that is taken, zeros in an empty one */                    \
+    uint16_t chip_records[B];           /* whose copy the chip's place holds: record + 1, 0 for an empty place */                                               \
+    uint16_t chip_next[1];              /* the chip's place that is filled next */                                                                              \
     uint16_t line[32];                  /* the waiting line, a queue of pages: slot * N + page + 1, packed at the front, then 0 */                              \
     uint16_t used[Q];                   /* the account's used count */                                                                                          \
     KeeperPool pool;                    /* the hand, where the search for a free record starts for a page without a neighbour, and the count of free records */
@@ -206,6 +210,9 @@ enum {
     KEEPER_LEND((memory).active),       \
     KEEPER_LEND((memory).updating),     \
     KEEPER_LEND((memory).images),       \
+    KEEPER_LEND((memory).chip_words),   \
+    KEEPER_LEND((memory).chip_records), \
+    KEEPER_LEND((memory).chip_next),    \
     KEEPER_LEND((memory).line),         \
     KEEPER_LEND((memory).used)
 #define KEEPER_LEND_CHANGES(changes) (uint32_t *)(changes), sizeof(changes) / (sizeof(uint32_t)) /* an array of KeeperChange */
@@ -251,6 +258,9 @@ KeeperAnswer keeper_restart(
     uint8_t *active, size_t active_count,              /* S */
     uint8_t *updating, size_t updating_count,          /* S */
     uint16_t *images, size_t images_count,             /* S * N */
+    uint32_t *chip_words, size_t chip_words_count,     /* B * W */
+    uint16_t *chip_records, size_t chip_records_count, /* B */
+    uint16_t *chip_next, size_t chip_next_count,       /* 1 */
     uint16_t *line, size_t line_count,                 /* 32 */
     uint16_t *used, size_t used_count                  /* Q */
 );
@@ -278,6 +288,9 @@ KeeperAnswer keeper_apply(
     uint8_t *active, size_t active_count,              /* S */
     uint8_t *updating, size_t updating_count,          /* S */
     uint16_t *images, size_t images_count,             /* S * N */
+    uint32_t *chip_words, size_t chip_words_count,     /* B * W */
+    uint16_t *chip_records, size_t chip_records_count, /* B */
+    uint16_t *chip_next, size_t chip_next_count,       /* 1 */
     uint16_t *line, size_t line_count,                 /* 32 */
     uint16_t *used, size_t used_count                  /* Q */
 );
@@ -309,6 +322,9 @@ KeeperAnswer keeper_apply_all(
     uint8_t *active, size_t active_count,              /* S */
     uint8_t *updating, size_t updating_count,          /* S */
     uint16_t *images, size_t images_count,             /* S * N */
+    uint32_t *chip_words, size_t chip_words_count,     /* B * W */
+    uint16_t *chip_records, size_t chip_records_count, /* B */
+    uint16_t *chip_next, size_t chip_next_count,       /* 1 */
     uint16_t *line, size_t line_count,                 /* 32 */
     uint16_t *used, size_t used_count                  /* Q */
 );
@@ -338,6 +354,9 @@ KeeperPart keeper_page_look(
     const uint8_t *active, size_t active_count,              /* S */
     const uint8_t *updating, size_t updating_count,          /* S */
     const uint16_t *images, size_t images_count,             /* S * N */
+    const uint32_t *chip_words, size_t chip_words_count,     /* B * W */
+    const uint16_t *chip_records, size_t chip_records_count, /* B */
+    const uint16_t *chip_next, size_t chip_next_count,       /* 1 */
     const uint16_t *line, size_t line_count,                 /* 32 */
     const uint16_t *used, size_t used_count                  /* Q */
 );
@@ -384,6 +403,9 @@ KeeperAnswer keeper_export(
     const uint8_t *active, size_t active_count,              /* S */
     const uint8_t *updating, size_t updating_count,          /* S */
     const uint16_t *images, size_t images_count,             /* S * N */
+    const uint32_t *chip_words, size_t chip_words_count,     /* B * W */
+    const uint16_t *chip_records, size_t chip_records_count, /* B */
+    const uint16_t *chip_next, size_t chip_next_count,       /* 1 */
     const uint16_t *line, size_t line_count,                 /* 32 */
     const uint16_t *used, size_t used_count                  /* Q */
 );
@@ -417,6 +439,9 @@ KeeperAnswer keeper_import(
     const uint8_t *active, size_t active_count,              /* S */
     const uint8_t *updating, size_t updating_count,          /* S */
     const uint16_t *images, size_t images_count,             /* S * N */
+    const uint32_t *chip_words, size_t chip_words_count,     /* B * W */
+    const uint16_t *chip_records, size_t chip_records_count, /* B */
+    const uint16_t *chip_next, size_t chip_next_count,       /* 1 */
     const uint16_t *line, size_t line_count,                 /* 32 */
     uint16_t *used, size_t used_count                        /* Q */
 );

@@ -73,11 +73,14 @@ enum {
     KEEPER_TABLE_ACTIVE = 15,
     KEEPER_TABLE_UPDATING = 16,
     KEEPER_TABLE_IMAGES = 17,
-    KEEPER_TABLE_LINE = 18,
-    KEEPER_TABLE_USED = 19,
-    KEEPER_TABLE_POOL = 20,
+    KEEPER_TABLE_CHIP_WORDS = 18,
+    KEEPER_TABLE_CHIP_RECORDS = 19,
+    KEEPER_TABLE_CHIP_NEXT = 20,
+    KEEPER_TABLE_LINE = 21,
+    KEEPER_TABLE_USED = 22,
+    KEEPER_TABLE_POOL = 23,
     KEEPER_DISK_COUNT = 7,
-    KEEPER_TABLE_COUNT = 21
+    KEEPER_TABLE_COUNT = 24
 };
 
 /* The sizes and all tables: a name for everything that is lent. */
@@ -101,6 +104,9 @@ typedef struct {
     uint8_t *active;        /* S: the slot's active switch, 0 or 1 */
     uint8_t *updating;      /* S: the slot's update-under-way switch, 0 or 1 */
     uint16_t *images;       /* S * N: map images: 0, or record + 1 */
+    uint32_t *chip_words;   /* B * W: the chip's words: a copy of a live record's in each place that is taken, zeros in an empty one */
+    uint16_t *chip_records; /* B: whose copy the chip's place holds: record + 1, 0 for an empty place */
+    uint16_t *chip_next;    /* 1: the chip's place that is filled next */
     uint16_t *line;         /* 32: the waiting line, a queue of pages: slot * N + page + 1, packed at the front, then 0 */
     uint16_t *used;         /* Q: the account's used count */
     KeeperPool *pool;       /* 1: the hand, where the search for a free record starts for a page without a neighbour, and the count of free records */
@@ -114,18 +120,19 @@ static inline int keeper_sizes_fit(KeeperSizes sizes)
         && sizes.frames >= 1 && sizes.frames <= KEEPER_MOST_FRAMES
         && sizes.slots >= 1 && sizes.slots <= KEEPER_MOST_SLOTS
         && sizes.pages >= 1 && sizes.pages <= KEEPER_MOST_PAGES
-        && sizes.accounts >= 1 && sizes.accounts <= KEEPER_MOST_ACCOUNTS;
+        && sizes.accounts >= 1 && sizes.accounts <= KEEPER_MOST_ACCOUNTS
+        && sizes.chip >= 1 && sizes.chip <= KEEPER_MOST_CHIP;
 }
 
 /* The sizes by their letters. */
-enum { KEEPER_SIZE_COUNT = 6 };
+enum { KEEPER_SIZE_COUNT = 7 };
 typedef struct {
     char letter;
     size_t value;
 } KeeperSize;
 static inline KeeperSize keeper_size(KeeperSizes sizes, size_t number)
 {
-    const KeeperSize all[KEEPER_SIZE_COUNT] = {{'W', sizes.words}, {'R', sizes.records}, {'F', sizes.frames}, {'S', sizes.slots}, {'N', sizes.pages}, {'Q', sizes.accounts}};
+    const KeeperSize all[KEEPER_SIZE_COUNT] = {{'W', sizes.words}, {'R', sizes.records}, {'F', sizes.frames}, {'S', sizes.slots}, {'N', sizes.pages}, {'Q', sizes.accounts}, {'B', sizes.chip}};
     return all[number];
 }
 
@@ -139,6 +146,7 @@ static inline KeeperSizes keeper_sizes_of(const uint32_t values[KEEPER_SIZE_COUN
     sizes.slots = values[3];
     sizes.pages = values[4];
     sizes.accounts = values[5];
+    sizes.chip = values[6];
     return sizes;
 }
 
@@ -165,6 +173,9 @@ static inline size_t keeper_lay(Keeper *keeper, unsigned char *block)
     keeper->active = (uint8_t *)keeper_take(block, &at, sizeof *keeper->active, sizes.slots);
     keeper->updating = (uint8_t *)keeper_take(block, &at, sizeof *keeper->updating, sizes.slots);
     keeper->images = (uint16_t *)keeper_take(block, &at, sizeof *keeper->images, sizes.slots * sizes.pages);
+    keeper->chip_words = (uint32_t *)keeper_take(block, &at, sizeof *keeper->chip_words, sizes.chip * sizes.words);
+    keeper->chip_records = (uint16_t *)keeper_take(block, &at, sizeof *keeper->chip_records, sizes.chip);
+    keeper->chip_next = (uint16_t *)keeper_take(block, &at, sizeof *keeper->chip_next, 1);
     keeper->line = (uint16_t *)keeper_take(block, &at, sizeof *keeper->line, 32);
     keeper->used = (uint16_t *)keeper_take(block, &at, sizeof *keeper->used, sizes.accounts);
     keeper->pool = (KeeperPool *)keeper_take(block, &at, sizeof *keeper->pool, 1);
@@ -194,6 +205,9 @@ static inline KeeperTable keeper_table(const Keeper *keeper, size_t number)
     case KEEPER_TABLE_ACTIVE: return keeper_described("active", keeper->active, sizeof *keeper->active, sizes.slots);
     case KEEPER_TABLE_UPDATING: return keeper_described("updating", keeper->updating, sizeof *keeper->updating, sizes.slots);
     case KEEPER_TABLE_IMAGES: return keeper_described("images", keeper->images, sizeof *keeper->images, sizes.slots * sizes.pages);
+    case KEEPER_TABLE_CHIP_WORDS: return keeper_described("chip_words", keeper->chip_words, sizeof *keeper->chip_words, sizes.chip * sizes.words);
+    case KEEPER_TABLE_CHIP_RECORDS: return keeper_described("chip_records", keeper->chip_records, sizeof *keeper->chip_records, sizes.chip);
+    case KEEPER_TABLE_CHIP_NEXT: return keeper_described("chip_next", keeper->chip_next, sizeof *keeper->chip_next, 1);
     case KEEPER_TABLE_LINE: return keeper_described("line", keeper->line, sizeof *keeper->line, 32);
     case KEEPER_TABLE_USED: return keeper_described("used", keeper->used, sizeof *keeper->used, sizes.accounts);
     case KEEPER_TABLE_POOL: return keeper_described("pool", keeper->pool, sizeof *keeper->pool, 1);
@@ -241,6 +255,9 @@ static inline KeeperAnswer keeper_easy_restart(Keeper *keeper)
         keeper->active, sizes.slots,
         keeper->updating, sizes.slots,
         keeper->images, sizes.slots * sizes.pages,
+        keeper->chip_words, sizes.chip * sizes.words,
+        keeper->chip_records, sizes.chip,
+        keeper->chip_next, 1,
         keeper->line, 32,
         keeper->used, sizes.accounts);
 }
@@ -270,6 +287,9 @@ static inline KeeperAnswer keeper_easy_apply(Keeper *keeper, KeeperRequest reque
         keeper->active, sizes.slots,
         keeper->updating, sizes.slots,
         keeper->images, sizes.slots * sizes.pages,
+        keeper->chip_words, sizes.chip * sizes.words,
+        keeper->chip_records, sizes.chip,
+        keeper->chip_next, 1,
         keeper->line, 32,
         keeper->used, sizes.accounts);
 }
@@ -300,6 +320,9 @@ static inline KeeperAnswer keeper_easy_apply_all(Keeper *keeper, const KeeperReq
         keeper->active, sizes.slots,
         keeper->updating, sizes.slots,
         keeper->images, sizes.slots * sizes.pages,
+        keeper->chip_words, sizes.chip * sizes.words,
+        keeper->chip_records, sizes.chip,
+        keeper->chip_next, 1,
         keeper->line, 32,
         keeper->used, sizes.accounts);
 }
@@ -330,6 +353,9 @@ static inline KeeperPart keeper_easy_page_look(const Keeper *keeper, size_t slot
         keeper->active, sizes.slots,
         keeper->updating, sizes.slots,
         keeper->images, sizes.slots * sizes.pages,
+        keeper->chip_words, sizes.chip * sizes.words,
+        keeper->chip_records, sizes.chip,
+        keeper->chip_next, 1,
         keeper->line, 32,
         keeper->used, sizes.accounts);
 }
@@ -375,6 +401,9 @@ static inline KeeperAnswer keeper_easy_export(const Keeper *keeper, size_t slot,
         keeper->active, sizes.slots,
         keeper->updating, sizes.slots,
         keeper->images, sizes.slots * sizes.pages,
+        keeper->chip_words, sizes.chip * sizes.words,
+        keeper->chip_records, sizes.chip,
+        keeper->chip_next, 1,
         keeper->line, 32,
         keeper->used, sizes.accounts);
 }
@@ -407,6 +436,9 @@ static inline KeeperAnswer keeper_easy_import(Keeper *keeper, size_t slot, size_
         keeper->active, sizes.slots,
         keeper->updating, sizes.slots,
         keeper->images, sizes.slots * sizes.pages,
+        keeper->chip_words, sizes.chip * sizes.words,
+        keeper->chip_records, sizes.chip,
+        keeper->chip_next, 1,
         keeper->line, 32,
         keeper->used, sizes.accounts);
 }

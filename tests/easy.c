@@ -4,20 +4,20 @@
 #include "check.h"
 #include "keeper_easy.h"
 
-enum { W = 4, R = 9, F = 4, S = 3, N = 5, Q = 3 };
+enum { W = 4, R = 9, F = 4, S = 3, N = 5, Q = 3, B = 3 };
 
 /* account 2 is under account 1; account 0's parent is not looked at */
 static const uint16_t parents[Q] = {7, 0, 1};
 
 static struct {
-    KEEPER_DISK_TABLES(W, R, F, S, N, Q)
+    KEEPER_DISK_TABLES(W, R, F, S, N, Q, B)
 } disk;
 static struct {
-    KEEPER_MEMORY_TABLES(W, R, F, S, N, Q)
+    KEEPER_MEMORY_TABLES(W, R, F, S, N, Q, B)
 } memory;
 #define EVERYTHING KEEPER_LEND(memory.frames), &memory.pool, KEEPER_LEND_DISK(disk), KEEPER_LEND_MEMORY(memory)
 
-static KeeperSizes sizes_of(size_t words, size_t records, size_t frames, size_t slots, size_t pages, size_t accounts)
+static KeeperSizes sizes_of(size_t words, size_t records, size_t frames, size_t slots, size_t pages, size_t accounts, size_t chip)
 {
     KeeperSizes sizes;
     memset(&sizes, 0, sizeof sizes);
@@ -27,6 +27,7 @@ static KeeperSizes sizes_of(size_t words, size_t records, size_t frames, size_t 
     sizes.slots = slots;
     sizes.pages = pages;
     sizes.accounts = accounts;
+    sizes.chip = chip;
     return sizes;
 }
 
@@ -46,7 +47,7 @@ static void set_up(KeeperSizes sizes)
 /* ── the block ── */
 static void test_place(void)
 {
-    KeeperSizes sizes = sizes_of(W, R, F, S, N, Q);
+    KeeperSizes sizes = sizes_of(W, R, F, S, N, Q, B);
     size_t bytes = keeper_workspace(sizes), end = 0, sum = 0;
     unsigned char *block = (unsigned char *)malloc(bytes + 8);
     memset(block, 0x5A, bytes + 8);
@@ -54,9 +55,10 @@ static void test_place(void)
     CHECK(keeper_place(&keeper, sizes, block, bytes - 1) == KEEPER_BLOCK_SHORT);
     CHECK(keeper_place(&keeper, sizes, NULL, bytes) == KEEPER_BLOCK_SHORT);
     CHECK(keeper_place(&keeper, sizes, block + 4, bytes) == KEEPER_BLOCK_MISALIGNED);
-    CHECK(keeper_place(&keeper, sizes_of(W, 0, F, S, N, Q), block, bytes) == KEEPER_BAD_SIZES);
-    CHECK(keeper_place(&keeper, sizes_of(W, KEEPER_MOST_RECORDS + 1, F, S, N, Q), block, bytes) == KEEPER_BAD_SIZES);
-    CHECK(keeper_workspace(sizes_of(W, R, F, S, KEEPER_MOST_PAGES + 1, Q)) == 0);
+    CHECK(keeper_place(&keeper, sizes_of(W, 0, F, S, N, Q, B), block, bytes) == KEEPER_BAD_SIZES);
+    CHECK(keeper_place(&keeper, sizes_of(W, KEEPER_MOST_RECORDS + 1, F, S, N, Q, B), block, bytes) == KEEPER_BAD_SIZES);
+    CHECK(keeper_workspace(sizes_of(W, R, F, S, KEEPER_MOST_PAGES + 1, Q, B)) == 0);
+    CHECK(keeper_workspace(sizes_of(W, R, F, S, N, Q, 0)) == 0 && keeper_workspace(sizes_of(W, R, F, S, N, Q, KEEPER_MOST_CHIP + 1)) == 0);
     CHECK(keeper.records == NULL);
     CHECK(keeper_place(&keeper, sizes, block, bytes) == KEEPER_PLACED);
     for (size_t number = 0; number < KEEPER_TABLE_COUNT; number++) {
@@ -69,13 +71,13 @@ static void test_place(void)
     CHECK(end <= bytes && sum <= bytes && bytes < sum + 8 * KEEPER_TABLE_COUNT);
     CHECK(keeper_table(&keeper, KEEPER_TABLE_COUNT).at == NULL);
     CHECK(keeper_table(&keeper, KEEPER_TABLE_RECORDS).count == R * W && keeper_table(&keeper, KEEPER_TABLE_POOL).count == 1);
-    CHECK(keeper_size(sizes, 0).letter == 'W' && keeper_size(sizes, 0).value == W && keeper_size(sizes, 5).value == Q);
+    CHECK(keeper_size(sizes, 0).letter == 'W' && keeper_size(sizes, 0).value == W && keeper_size(sizes, 5).value == Q && keeper_size(sizes, 6).value == B);
     unsigned other = 0;
     for (size_t at = 0; at < bytes + 8; at++)
         other += block[at] != 0x5A;
     CHECK(other == 0);
-    KeeperSizes most = sizes_of(KEEPER_MOST_WORDS, KEEPER_MOST_RECORDS, KEEPER_MOST_FRAMES, KEEPER_MOST_SLOTS, KEEPER_MOST_PAGES, KEEPER_MOST_ACCOUNTS);
-    CHECK(keeper_workspace(most) > 17000000 && keeper_workspace(most) < 17500000);
+    KeeperSizes most = sizes_of(KEEPER_MOST_WORDS, KEEPER_MOST_RECORDS, KEEPER_MOST_FRAMES, KEEPER_MOST_SLOTS, KEEPER_MOST_PAGES, KEEPER_MOST_ACCOUNTS, KEEPER_MOST_CHIP);
+    CHECK(keeper_workspace(most) > 18000000 && keeper_workspace(most) < 18500000);
     free(block);
     keeper.records = NULL;
 }
@@ -139,13 +141,14 @@ static int same_tables(void)
     return SAME(disk, records) && SAME(disk, numbers) && SAME(disk, accounts) && SAME(disk, maps) && SAME(disk, limits) && SAME(disk, parents)
         && SAME(disk, highest) && SAME(memory, frames) && SAME(memory, frame_words) && SAME(memory, free_queue) && SAME(memory, removal_list)
         && SAME(memory, addresses) && SAME(memory, states) && SAME(memory, owners) && SAME(memory, free_map)
-        && SAME(memory, active) && SAME(memory, updating) && SAME(memory, images) && SAME(memory, line) && SAME(memory, used)
+        && SAME(memory, active) && SAME(memory, updating) && SAME(memory, images)
+        && SAME(memory, chip_words) && SAME(memory, chip_records) && SAME(memory, chip_next) && SAME(memory, line) && SAME(memory, used)
         && memcmp(keeper.pool, &memory.pool, sizeof memory.pool) == 0;
 }
 
 static void test_events(void)
 {
-    KeeperSizes sizes = sizes_of(W, R, F, S, N, Q);
+    KeeperSizes sizes = sizes_of(W, R, F, S, N, Q, B);
     unsigned done[KEEPER_TURN + 1] = {0}, refused[KEEPER_NUMBER_GIVEN + 1] = {0}, different = 0;
     set_up(sizes);
     CHECK(keeper_format(sizes, KEEPER_LEND(parents), KEEPER_LEND_DISK(disk)).refusal == KEEPER_DONE);
@@ -172,7 +175,7 @@ static void test_events(void)
 static void test_format(void)
 {
     static const uint16_t equal[Q] = {0, 1, 0}, higher[Q] = {0, 0, 3};
-    set_up(sizes_of(W, R, F, S, N, Q));
+    set_up(sizes_of(W, R, F, S, N, Q, B));
     CHECK(keeper.parents[0] == 0 && keeper.parents[1] == 0 && keeper.parents[2] == 1);
     CHECK(keeper_easy_format(&keeper, equal).refusal == KEEPER_NO_RANGE && keeper_easy_format(&keeper, higher).refusal == KEEPER_NO_RANGE);
     CHECK(keeper.parents[1] == 0 && keeper.parents[2] == 1);
@@ -194,7 +197,7 @@ static void hurt(void)
 static void test_mend(void)
 {
     static const KeeperChange wanted[4] = {{2, N, 5, KEEPER_SAME_NUMBER}, {1, 0, 3, KEEPER_EMPTY_SLOT}, {0, N, Q, KEEPER_WRONG_ACCOUNT}, {0, 1, R + 1, KEEPER_WRONG_ENTRY}};
-    KeeperSizes sizes = sizes_of(W, R, F, S, N, Q);
+    KeeperSizes sizes = sizes_of(W, R, F, S, N, Q, B);
     KeeperChange easy[PLACES], plain[PLACES];
     set_up(sizes);
     CHECK(keeper_format(sizes, KEEPER_LEND(parents), KEEPER_LEND_DISK(disk)).refusal == KEEPER_DONE);
@@ -249,7 +252,7 @@ static void test_sheets(void)
 {
     static const uint8_t head[14] = {3, 0, 4, 0, W, 0, N, 1, 0, 4, 0, 0, 0, 5}, page[9] = {2, 0, 2 + 4 * W, 0, 1, 1, 2, 3, 4};
     uint8_t easy[SHEET], plain[SHEET];
-    set_up(sizes_of(W, R, F, S, N, Q));
+    set_up(sizes_of(W, R, F, S, N, Q, B));
     CHECK(keeper_format(keeper.sizes, KEEPER_LEND(parents), KEEPER_LEND_DISK(disk)).refusal == KEEPER_DONE);
     two_pages();
     memset(easy, 0x5A, sizeof easy);
@@ -277,7 +280,7 @@ static void test_sheets(void)
 static void test_high_numbers(void)
 {
     uint8_t sheet[SHEET];
-    set_up(sizes_of(W, R, F, S, N, Q));
+    set_up(sizes_of(W, R, F, S, N, Q, B));
     CHECK(keeper_format(keeper.sizes, KEEPER_LEND(parents), KEEPER_LEND_DISK(disk)).refusal == KEEPER_DONE);
     two_pages();
     keeper.numbers[0] = disk.numbers[0] = 0xFFFFFFFFu; /* as an older board gave it */
@@ -296,7 +299,7 @@ static void test_high_numbers(void)
 static void test_given_numbers(void)
 {
     uint8_t sheet[SHEET];
-    set_up(sizes_of(W, R, F, S, N, Q));
+    set_up(sizes_of(W, R, F, S, N, Q, B));
     CHECK(keeper_format(keeper.sizes, KEEPER_LEND(parents), KEEPER_LEND_DISK(disk)).refusal == KEEPER_DONE && keeper_next_number(&keeper) == 1);
     two_pages(); /* design 5, on a pack that has no highest number: restart stores it */
     CHECK(keeper.highest[0] == 5 && disk.highest[0] == 5 && keeper_next_number(&keeper) == 6);
@@ -316,7 +319,7 @@ static void test_given_numbers(void)
 enum { MOST_LISTED = 20 };
 static void test_lists(void)
 {
-    KeeperSizes sizes = sizes_of(W, R, F, S, N, Q);
+    KeeperSizes sizes = sizes_of(W, R, F, S, N, Q, B);
     unsigned different = 0, refused = 0, done = 0;
     set_up(sizes);
     CHECK(keeper_format(sizes, KEEPER_LEND(parents), KEEPER_LEND_DISK(disk)).refusal == KEEPER_DONE);
@@ -348,7 +351,7 @@ static void test_lists(void)
 /* ── the transfers ── */
 static void test_transfers(void)
 {
-    set_up(sizes_of(W, R, F, S, N, Q));
+    set_up(sizes_of(W, R, F, S, N, Q, B));
     for (unsigned call = 0; call < 20000; call++) {
         by_function(any_request());
         unsigned found = 0, there = 0, wrong = 0;
@@ -381,7 +384,7 @@ static void test_line(void)
 {
     enum { PLACES = sizeof memory.line / sizeof *memory.line };
     unsigned gone = 0, turns = 0, served = 0, away = 0, woven = 0;
-    set_up(sizes_of(W, R, F, S, N, Q));
+    set_up(sizes_of(W, R, F, S, N, Q, B));
     CHECK(keeper_limit(&keeper, 0, N).refusal == KEEPER_DONE && keeper_create(&keeper, 0, 0, 7).refusal == KEEPER_DONE);
     CHECK(keeper_activate(&keeper, 0).refusal == KEEPER_DONE);
     CHECK(keeper_turn(&keeper).refusal == KEEPER_DONE && keeper_turn(&keeper).result == 0);
@@ -495,7 +498,7 @@ static void cut(void)
 
 static void designs(void)
 {
-    set_up(sizes_of(W, R, F, S, N, Q));
+    set_up(sizes_of(W, R, F, S, N, Q, B));
     for (uint32_t slot = 0; slot < 2; slot++) {
         CHECK(keeper_limit(&keeper, slot, N).refusal == KEEPER_DONE);
         CHECK(keeper_create(&keeper, slot, slot, 101 + slot).refusal == KEEPER_DONE);
@@ -543,7 +546,7 @@ static void test_save(void)
     /* a write that fails leaves its page; the next save takes it */
     weave(0, 1, 32);
     CHECK(save(0, 0, 0, &left) == KEEPER_DONE && left == 1u << 1);
-    CHECK(save(0, 1, 1, &left) == KEEPER_DONE && left == 0 && transfers == 2); /* the write, and the read that brings it back */
+    CHECK(save(0, 1, 1, &left) == KEEPER_DONE && left == 0 && transfers == 1); /* the write; the chip brings the page back */
     CHECK(keeper_frame_of(&keeper, 0, 1) < F);
     cut();
     CHECK(first_word(0, 1) == 32);
@@ -581,7 +584,7 @@ static void test_save_order(void)
 {
     uint32_t left;
     uint16_t before[F], after[F];
-    set_up(sizes_of(W, R, F, S, N, Q));
+    set_up(sizes_of(W, R, F, S, N, Q, B));
     CHECK(keeper_limit(&keeper, 0, N).refusal == KEEPER_DONE);
     for (uint32_t slot = 0; slot < 2; slot++)
         CHECK(keeper_create(&keeper, slot, 0, 5 + slot).refusal == KEEPER_DONE && keeper_activate(&keeper, slot).refusal == KEEPER_DONE);

@@ -66,7 +66,7 @@ static void fault_at(int kind, unsigned number)
 
 /* ── the work: limits and pages, each with its number, then an import of the design as it was at first, and a create; on a pack whose open has the
  * highest number to store ── */
-static const KeeperSizes sizes = {.words = 200, .records = 6, .frames = 2, .slots = 3, .pages = 3, .accounts = 2};
+static const KeeperSizes sizes = {.words = 200, .records = 6, .frames = 2, .slots = 3, .pages = 3, .accounts = 2, .chip = 1};
 enum { ROUNDS = 4, SETTLED = 9, FIRST = 7, IMPORTED = 8, CREATED = 9 };
 static Keeper keeper;
 static FileDisk disk;

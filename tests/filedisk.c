@@ -5,9 +5,9 @@
 #include "check.h"
 #include "filedisk.h"
 
-static const KeeperSizes sizes = {.words = 16, .records = 8, .frames = 3, .slots = 2, .pages = 4, .accounts = 3};
-static const KeeperSizes alike = {.words = 8, .records = 16, .frames = 3, .slots = 2, .pages = 4, .accounts = 3};
-static const KeeperSizes roomy = {.words = 16, .records = 8, .frames = 64, .slots = 2, .pages = 4, .accounts = 3};
+static const KeeperSizes sizes = {.words = 16, .records = 8, .frames = 3, .slots = 2, .pages = 4, .accounts = 3, .chip = 2};
+static const KeeperSizes alike = {.words = 8, .records = 16, .frames = 3, .slots = 2, .pages = 4, .accounts = 3, .chip = 2};
+static const KeeperSizes roomy = {.words = 16, .records = 8, .frames = 64, .slots = 2, .pages = 4, .accounts = 3, .chip = 7};
 static const uint16_t chain[3] = {9, 0, 1}, higher[3] = {0, 0, 2};
 
 static Keeper placed(KeeperSizes wanted)
@@ -81,7 +81,7 @@ static void test_header(FileBlocks blocks)
     unsigned char old[FILEDISK_BLOCK], nothing[FILEDISK_BLOCK] = {0};
     char line[240];
     CHECK(opened_with(blocks, sizes, line) == FILEDISK_GOOD);
-    CHECK(opened_with(blocks, roomy, line) == FILEDISK_GOOD); /* F is no part of a disk */
+    CHECK(opened_with(blocks, roomy, line) == FILEDISK_GOOD); /* F and B are no part of a disk */
     CHECK(opened_with(blocks, alike, line) == FILEDISK_OTHER_SIZES);
     CHECK(strcmp(line, "the disk was formatted with W 16 R 8 S 2 N 4 Q 3, this keeper has W 8 R 16 S 2 N 4 Q 3") == 0);
     CHECK(opened_with_byte(blocks, 0, line) == FILEDISK_DAMAGED && strstr(line, "another program's"));

@@ -5,7 +5,7 @@
 #include "check.h"
 #include "filedisk.h"
 
-static const KeeperSizes sizes = {.words = 16, .records = 8, .frames = 3, .slots = 2, .pages = 4, .accounts = 3};
+static const KeeperSizes sizes = {.words = 16, .records = 8, .frames = 3, .slots = 2, .pages = 4, .accounts = 3, .chip = 2};
 
 static unsigned writes_left;
 static FileBlocks whole;

@@ -5,7 +5,7 @@
 #include <stdlib.h>
 #include "filedisk.h"
 
-static const KeeperSizes sizes = {.words = 3, .records = 4, .frames = 2, .slots = 2, .pages = 3, .accounts = 2};
+static const KeeperSizes sizes = {.words = 3, .records = 4, .frames = 2, .slots = 2, .pages = 3, .accounts = 2, .chip = 1};
 static Keeper keeper;
 static FileDisk disk;
 static FileBlocks blocks;

@@ -4,7 +4,7 @@
 #include <stdlib.h>
 #include "filedisk.h"
 
-static const KeeperSizes sizes = {.words = 3, .records = 8, .frames = 3, .slots = 4, .pages = 3, .accounts = 3};
+static const KeeperSizes sizes = {.words = 3, .records = 8, .frames = 3, .slots = 4, .pages = 3, .accounts = 3, .chip = 2};
 
 static int failed(const char *what)
 {

@@ -15,8 +15,13 @@ import sys
 import lent
 
 ROOT = pathlib.Path(__file__).resolve().parent.parent
-# what takes all tables in order, and how many things stand before the first table of the disk part
-WHOLE = {"stateIn": 3, "stateOf": 2, "given": 2, "entered": 2, "left": 2, "allOf": 2, "allGiven": 2, "allEntered": 2, "allLeft": 2, "same-state": 2}
+# the tables that some rows leave out, as the events that do not look at them do
+CHIP, LINE = ["chip_words", "chip_records", "chip_next"], ["line"]
+# what takes the tables in order: how many things stand before the first table of the disk part, and which it leaves out
+WHOLE = {"stateIn": (4, CHIP + LINE), "stateOf": (2, CHIP + LINE), "same-state": (2, CHIP + LINE)}
+WHOLE |= {head: (2, CHIP + LINE) for head in ("given", "entered", "left")}
+WHOLE |= {"lined" + end: (2, CHIP) for end in ("Of", "Given", "Entered", "Left")}
+WHOLE |= {"all" + end: (2, []) for end in ("Of", "Given", "Entered", "Left")}
 # what takes the disk part alone
 DISK = ("diskOf", "lentOf")
 ATOM = re.compile(r"[\w\[\]«»′₀-₉-]+")
@@ -34,10 +39,12 @@ class Place:
         self.new, self.after, self.kind, self.changing = new, after, kind, set(changing)
         self.before = names[at - 1] if at else None
         self.all_before = names[max(at - 2, 0) : at]
-        self.follows = [names[at + 1]] if at + 1 < len(names) else []
+        # what comes next, with the chip and the line or without
+        nexts = [[name for name in names[at + 1 :] if name not in out][:1] for out in ([], CHIP, CHIP + LINE)]
+        self.follows = list(dict.fromkeys(name for found in nexts for name in found))
         if after == disk[-1]:
             self.follows.append("changes")  # mend's list follows the disk part
-        self.rows = {head: front + at + 1 for head, front in WHOLE.items()}
+        self.rows = {head: front + len([name for name in names[: at + 1] if name not in out]) for head, (front, out) in WHOLE.items() if after not in out}
         if after in disk:
             self.rows.update({head: at + 1 for head in DISK})
 

@@ -1,11 +1,13 @@
 #!/usr/bin/env python3
 """Not proved, tested by tools/test_misses.py: how much memory is worth buying.
 
-    misses.py TRACE [SVG]    the misses of a list of page uses for 1 to 64 frames, as a table and a plot (target/misses.svg)
+    misses.py TRACE [SVG]    the misses of a list of page uses for 1 to 64 frames, as a table and a plot (target/misses.svg); and how many of
+                             them read the disk with a chip of 1 to 256 pages, as a table and a plot beside the first (misses.chip.svg)
 
 A trace is page numbers, 0 to 16,383, in the order of their uses; # starts a comment. A use misses if its page is in no frame. Three ways to
 choose the page that leaves its frame are compared: the keeper's removal list, run by the keeper itself; least recently used; and the best
-possible, which knows the future and takes the page whose next use is farthest. The last lines say how many frames are worth buying.
+possible, which knows the future and takes the page whose next use is farthest. Then a line says how many frames are worth buying. For the
+chip every page is on the disk at the start; without a chip each miss reads it. The last lines say how many places are worth buying.
 """
 
 import subprocess
@@ -14,6 +16,9 @@ import library
 from library import ROOT
 
 FRAMES = range(1, 65)
+PLACES = range(1, 257)
+# the chip is tried beside so many frames
+BESIDE = (4, 16)
 KINDS = (("the keeper", "#1b6ca8"), ("least recently used", "#c05a00"), ("best possible", "#3d8a3d"))
 
 
@@ -66,12 +71,23 @@ def best(pages):
     return [best_with(pages, following, frames) for frames in FRAMES]
 
 
-def keeper(pages):
-    """Misses for each number of frames, by the keeper itself."""
-    ran = subprocess.run([library.program("misses")], input=" ".join(map(str, pages)), capture_output=True, text=True)
+def by_keeper(pages, *words):
+    """The figures that the keeper itself gives, a line for each size."""
+    ran = subprocess.run([library.program("misses"), *words], input=" ".join(map(str, pages)), capture_output=True, text=True)
     if ran.returncode != 0:
         raise Bad(ran.stderr.strip())
-    return [int(line.split()[1]) for line in ran.stdout.splitlines()]
+    return [[int(cell) for cell in line.split()[1:]] for line in ran.stdout.splitlines()]
+
+
+def keeper(pages):
+    """Misses for each number of frames."""
+    return [missed for missed, in by_keeper(pages)]
+
+
+def reads(pages, frames):
+    """How often the disk is read without a chip; and with it, for each number of places."""
+    counted = by_keeper(pages, str(frames))
+    return counted[0][0], [read for _, read in counted]
 
 
 def table(uses, counts):
@@ -99,40 +115,76 @@ def advice(uses, counted):
     return out
 
 
-def plot(title, uses, counts):
-    """The same as a picture: frames to the right, misses in per cent of the uses upwards."""
+def chip_table(uses, counts):
+    """Reads from the disk, without the chip and with it, by the number of frames."""
+    rows = ["places" + "".join(f"{f'{frames} frames: without':>24}{'with':>21}" for frames in BESIDE)]
+    for places in (1 << power for power in range(9)):
+        cells = [(without, column[places - 1]) for without, column in counts]
+        rows.append(f"{places:>6}" + "".join(f"{a:>15} {100 * a / uses:>6.1f} %{b:>12} {100 * b / uses:>6.1f} %" for a, b in cells))
+    return "\n".join(rows) + "\n"
+
+
+def chip_advice(uses, frames, without, counted):
+    """How many places are worth buying beside so many frames."""
+    if 100 * (without - min(counted)) <= uses:
+        return f"Beside {frames} frames no chip is worth buying: none saves more than 1 use in 100."
+    enough = next(at for at in range(len(counted)) if 100 * (counted[at] - min(counted[at:])) <= uses)
+    return (
+        f"Beside {frames} frames a chip of {PLACES[enough]} is worth buying: {100 * counted[enough] / uses:.1f} % of the uses read the disk then, in place of "
+        f"{100 * without / uses:.1f} %, and no larger one saves more than 1 use in 100."
+    )
+
+
+def plot(title, uses, sizes, name, marks, curves):
+    """Counts as a picture: sizes to the right, per cent of the uses upwards. A curve has its name, its colour, its dashes and its counts."""
     left, top, width, height = 60, 50, 640, 320
-    x = lambda frames: left + width * (frames - 1) / (FRAMES[-1] - 1)
+    x = lambda size: left + width * (size - 1) / (sizes[-1] - 1)
     y = lambda rate: top + height * (1 - rate)
     out = [
         f'<svg xmlns="http://www.w3.org/2000/svg" viewBox="0 0 {left + width + 30} {top + height + 60}" font-family="sans-serif" font-size="13">',
         f'<rect width="{left + width + 30}" height="{top + height + 60}" fill="white"/>',
-        f'<text x="{left}" y="24" font-size="15">Misses of {title}, {uses:,} uses</text>',
+        f'<text x="{left}" y="24" font-size="15">{title}, {uses:,} uses</text>',
     ]
     for part in range(0, 101, 20):
         out.append(f'<line x1="{left}" x2="{left + width}" y1="{y(part / 100):.1f}" y2="{y(part / 100):.1f}" stroke="#ddd"/>')
         out.append(f'<text x="{left - 8}" y="{y(part / 100) + 4:.1f}" text-anchor="end">{part} %</text>')
-    for frames in (1, 8, 16, 24, 32, 40, 48, 56, 64):
-        out.append(f'<text x="{x(frames):.1f}" y="{top + height + 20}" text-anchor="middle">{frames}</text>')
-    out.append(f'<text x="{left + width / 2}" y="{top + height + 44}" text-anchor="middle">frames</text>')
-    for (name, colour), column in zip(KINDS, counts):
-        points = " ".join(f"{x(frames):.1f},{y(count / uses):.1f}" for frames, count in zip(FRAMES, column))
-        out.append(f'<polyline points="{points}" fill="none" stroke="{colour}" stroke-width="2"><title>{name}</title></polyline>')
-    for at, (name, colour) in enumerate(KINDS):
-        out.append(f'<line x1="{left + width - 190}" x2="{left + width - 160}" y1="{top + 14 + 20 * at}" y2="{top + 14 + 20 * at}" stroke="{colour}" stroke-width="3"/>')
-        out.append(f'<text x="{left + width - 152}" y="{top + 18 + 20 * at}">{name}</text>')
+    for size in marks:
+        out.append(f'<text x="{x(size):.1f}" y="{top + height + 20}" text-anchor="middle">{size}</text>')
+    out.append(f'<text x="{left + width / 2}" y="{top + height + 44}" text-anchor="middle">{name}</text>')
+    for at, (curve, colour, dashes, counts) in enumerate(curves):
+        points = " ".join(f"{x(size):.1f},{y(count / uses):.1f}" for size, count in zip(sizes, counts))
+        out.append(f'<polyline points="{points}" fill="none" stroke="{colour}" stroke-width="2" stroke-dasharray="{dashes}"><title>{curve}</title></polyline>')
+        below = top + 14 + 20 * at
+        out.append(f'<line x1="{left + width - 190}" x2="{left + width - 160}" y1="{below}" y2="{below}" stroke="{colour}" stroke-width="3" stroke-dasharray="{dashes}"/>')
+        out.append(f'<text x="{left + width - 152}" y="{below + 4}">{curve}</text>')
     return "\n".join(out) + "\n</svg>\n"
 
 
+def run_chip(path, svg, pages):
+    """The table of reads with the chip and without, printed, and its plot beside the other one."""
+    counts, uses = [reads(pages, frames) for frames in BESIDE], len(pages)
+    print("reads from the disk, and per cent of the uses, without the chip and with one of so many places")
+    print(chip_table(uses, counts), end="")
+    curves = []
+    for frames, (_, colour), (without, column) in zip(BESIDE, KINDS, counts):
+        curves += [(f"{frames} frames", colour, "none", column), (f"{frames}, without the chip", colour, "6 5", [without] * len(PLACES))]
+    beside = svg.with_suffix(".chip.svg")
+    beside.write_text(plot(f"Reads of {path.name} from the disk", uses, PLACES, "places of the chip", (1, 32, 64, 96, 128, 160, 192, 224, 256), curves))
+    print(f"the plot is in {beside}")
+    print("\n".join(chip_advice(uses, frames, *count) for frames, count in zip(BESIDE, counts)))
+
+
 def run(path, svg):
-    """A trace's table, printed, and its plot."""
+    """A trace's tables, printed, and their plots."""
     pages = read(path)
     counts = [keeper(pages), least_recent(pages), best(pages)]
     print(f"{path}: {len(pages)} uses of {len(set(pages))} pages; misses, and per cent of the uses")
     print(table(len(pages), counts), end="")
-    svg.write_text(plot(path.name, len(pages), counts))
+    curves = [(name, colour, "none", column) for (name, colour), column in zip(KINDS, counts)]
+    svg.write_text(plot(f"Misses of {path.name}", len(pages), FRAMES, "frames", (1, 8, 16, 24, 32, 40, 48, 56, 64), curves))
     print(f"the plot is in {svg}")
     print("\n".join(advice(len(pages), counts[0])))
+    run_chip(path, svg, pages)
 
 
 if __name__ == "__main__":

@@ -93,6 +93,7 @@ PAGE_ARROWS = [
 ]
 PAGE_NOTES = [
     "Served, written or wired, a page can be read, written and looked at; writing, it can be read and looked at.",
+    "A fault on a live page whose record has a copy in the chip leads to served at once; no read begins.",
     "Live at the update: its address was live then, in a frame or not. A turn moves a page by the fault or the claim that it makes.",
     "A truncated page stays listed until an update begun later is finished; a cut before brings its old words back.",
     "A cut and restart lead from every box to the design at rest, with what the map on the disk lists then.",

@@ -62,8 +62,14 @@ class Texts(unittest.TestCase):
         place = addtable.Place("recent", "images", "u16", [])
         self.assertNotIn("diskOf", place.rows)
         left = []
-        row = f"allOf fs p {DISK} w q r a s o m c u images line used"
-        self.assertEqual(addtable.with_rows(row, place, left), row.replace("images", "images recent"))
+        for head, end in (("allOf fs p", "cw cr cn line used"), ("linedOf fs p", "line used"), ("given fs p", "used"), ("stateIn k l fs p", "used")):
+            row = f"{head} {DISK} w q r a s o m c u images {end}"
+            self.assertEqual(addtable.with_rows(row, place, left), row.replace("images", "images recent"))
+        self.assertEqual(place.follows, ["chip_words", "line", "used"])
+        for after in ("line", "chip_next"):
+            place = addtable.Place("recent", after, "u16", [])
+            self.assertEqual(("given" in place.rows, "linedGiven" in place.rows, "allGiven" in place.rows), (False, after == "line", True))
+        self.assertEqual(addtable.Place("recent", "used", "u16", []).rows["given"], 20)
 
 
 class Crates(unittest.TestCase):

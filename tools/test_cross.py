@@ -50,7 +50,7 @@ int main(void)
 
     def built(self, folder, header):
         """The status of a program over the C file for a header, and functions that stand in for the proved ones."""
-        tables = "#define KEEPER_DISK_TABLES(W, R, F, S, N, Q) uint32_t records[R];\n#define KEEPER_MEMORY_TABLES(W, R, F, S, N, Q)\n"
+        tables = "#define KEEPER_DISK_TABLES(W, R, F, S, N, Q, B) uint32_t records[R];\n#define KEEPER_MEMORY_TABLES(W, R, F, S, N, Q, B)\n"
         sizes = "enum { KEEPER_MOST_WORDS = 1, KEEPER_MOST_RECORDS = 1, KEEPER_MOST_FRAMES = 1, KEEPER_MOST_SLOTS = 1, KEEPER_MOST_PAGES = 1, KEEPER_MOST_ACCOUNTS = 1 };\n"
         (folder / "keeper.h").write_text("#include <stddef.h>\n#include <stdint.h>\n" + tables + sizes + header)
         for name, text in (("shim.c", shim.shim(header)), ("proved.c", self.PROVED), ("main.c", self.MAIN)):

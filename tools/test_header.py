@@ -103,7 +103,7 @@ class Header(unittest.TestCase):
         source = dict(re.findall(r"const (MOST_\w+): usize = (\w+);", (MODEL / "sizes.rt").read_text()))
         header = dict(re.findall(r"KEEPER_(MOST_\w+) = (\d+)", HEADER.read_text()))
         self.assertEqual({name: int(value) for name, value in source.items()}, {name: int(value) for name, value in header.items()})
-        self.assertEqual(len(header), 6)
+        self.assertEqual(len(header), 7)
 
     def test_refusals(self):
         text = (MODEL / "refusals.rt").read_text() + (ROOT / "crates" / "mending" / "src" / "lib.rt").read_text()

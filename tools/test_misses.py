@@ -31,6 +31,25 @@ def removal_list(pages, frames):
     return missed
 
 
+def with_chip(pages, frames, places):
+    """The same with a chip, by the specification: a miss whose page has a copy reads nothing, any other puts it into the next place."""
+    queue, marked, copies, following, read = [], set(), [None] * places, 0, 0
+    for page in pages:
+        if page not in queue:
+            if page not in copies:
+                read += 1
+                copies[following] = page
+                following = (following + 1) % places
+            if len(queue) == frames:
+                while queue[0] in marked:
+                    marked.discard(queue[0])
+                    queue.append(queue.pop(0))
+                queue.pop(0)
+            queue.insert(0, page)
+        marked.add(page)
+    return read
+
+
 def by_search(pages, held, frames):
     """The fewest misses there can be, by trying all choices."""
     if not pages:
@@ -72,6 +91,19 @@ class Counts(unittest.TestCase):
             counts = misses.keeper(pages)
             self.assertEqual(counts, [removal_list(pages, frames) for frames in misses.FRAMES])
 
+    def test_chip(self):
+        """Reads with a chip are those of the specification, and without it every miss is one."""
+        for pages, frames in ((self.some(5, 30, 300), 3), ([7], 1), ([300, 5, 16383, 300, 5], 1), (misses.read(TRACES[1]), 16)):
+            without, counts = misses.reads(pages, frames)
+            self.assertEqual(without, removal_list(pages, frames))
+            self.assertEqual(counts, [with_chip(pages, frames, places) for places in misses.PLACES])
+            self.assertTrue(len(set(pages)) <= min(counts) and max(counts) <= without)
+
+    def test_chip_too_many(self):
+        with self.assertRaises(misses.Bad) as caught:
+            misses.reads(range(4097), 1)
+        self.assertIn("more pages than 4096 records", str(caught.exception))
+
     def test_traces(self):
         self.assertEqual([path.stem for path in TRACES], ["hot", "weaving"])
         for path in TRACES:
@@ -100,17 +132,25 @@ class Advice(unittest.TestCase):
         self.assertIn("from 2 to 3 (400 misses, then 401)", said[1])
 
 
+    def test_chip(self):
+        """The least chip that no larger one is better than by more than 1 use in 100, if any chip is better than none by as much."""
+        self.assertIn("no chip is worth buying", misses.chip_advice(1000, 8, 500, [490] * 256))
+        self.assertIn("a chip of 1 is worth buying: 48.9 %", misses.chip_advice(1000, 8, 500, [489] * 256))
+        self.assertIn("a chip of 9 is worth buying: 20.0 % of the uses read the disk then, in place of 50.0 %", misses.chip_advice(1000, 8, 500, [500] * 8 + [200] * 248))
+
+
 class Shown(unittest.TestCase):
     def test_tool(self):
         svg = misses.ROOT / "target" / "test-misses.svg"
         ran = subprocess.run([sys.executable, TOOL, TRACES[1], svg], capture_output=True, text=True)
         self.assertEqual((ran.returncode, ran.stderr), (0, ""))
-        self.assertEqual(len(ran.stdout.splitlines()), 64 + 3 + 2)
+        self.assertEqual(len(ran.stdout.splitlines()), 64 + 3 + 2 + 9 + 3 + 2)
         self.assertIn("40 frames are worth buying: 23.1 % of the uses miss then", ran.stdout)
         self.assertIn("from 17 to 18 (481 misses, then 482)", ran.stdout)
-        drawn = xml.etree.ElementTree.parse(svg).getroot()
-        self.assertEqual(len(drawn.findall("{http://www.w3.org/2000/svg}polyline")), 3)
-        svg.unlink()
+        self.assertIn("Beside 4 frames a chip of", ran.stdout)
+        for drawn, curves in ((svg, 3), (svg.with_suffix(".chip.svg"), 2 * len(misses.BESIDE))):
+            self.assertEqual(len(xml.etree.ElementTree.parse(drawn).getroot().findall("{http://www.w3.org/2000/svg}polyline")), curves)
+            drawn.unlink()
 
     def test_bad(self):
         bad = misses.ROOT / "target" / "bad-trace.txt"

@@ -8,7 +8,7 @@ import unittest
 ROOT = pathlib.Path(__file__).resolve().parent.parent
 SPEC = (ROOT / "docs" / "SPEC.md").read_text()
 MODEL = ROOT / "crates" / "model" / "specs"
-NAMED = re.compile(r"`(?!docs/)(?:(\w+)/)?([A-Z]\w*)\.([\w′-]+)`")
+NAMED = re.compile(r"`(?!docs/)(?:(\w+)/)?([A-Z]\w*)\.([\w′-]+)(?:\.([\w′-]+))?`")
 PATH = re.compile(r"`((?:crates|docs|tools)/[\w./-]+\.\w+)`")
 # what a definition starts with: its own name, or that of a record's field or a case of a data type
 STARTS = re.compile(r"^\s*(?:abbrev |unfoldable )?(?:pub )?(?:record |data )?([\w′-]+)(?= :| \(| \{)", re.M)
@@ -26,8 +26,8 @@ def defined(text):
 
 
 def named():
-    """The definitions that the specification names: crate, file, name."""
-    return set(NAMED.findall(SPEC))
+    """The definitions that the specification names: crate, file, name; of a field of a field, both."""
+    return {(crate, file, name) for crate, file, *names in NAMED.findall(SPEC) for name in names if name}
 
 
 def said(file, crate=""):
@@ -138,12 +138,18 @@ class Whole(unittest.TestCase):
         self.all_said("Twins", set(re.findall(r"^  (\w+) :", twin, re.M)), "isolation")
         self.all_said("Answers", set(re.findall(r"^  pub (\w+) :", source("isolation", "Answers"), re.M)), "isolation")
 
+    def test_chip(self):
+        self.all_said("Chip", {"hasCopy", "placeOf", "placeFor", "copied", "found", "takeCopy", "arrives", "stale", "onlyLive", "emptyChip"})
+        self.all_said("Step", {"isFault", "supplied", "filled", "whole"})
+        self.all_said("Woven", {"woven", "actBy", "runBy", "legalBy"}, "woven")
+        self.all_said("Without", {"without", "SameSeen", "ChipUnseen"}, "woven")
+
     def test_edges(self):
         names = set(re.findall(r"^ *(e\d+(?:-\w+)?) :", source("edges", "Edges"), re.M))
         self.all_said("Edges", names, "edges")
 
     def test_tables(self):
-        parts = re.findall(r"^pub record (?:Disk|Core|Held|Slots|Memory) : .*?(?=\n\n)", source("", "State"), re.S | re.M)
+        parts = re.findall(r"^pub record (?:Disk|Core|Held|Slots|Chip|Memory) : .*?(?=\n\n)", source("", "State"), re.S | re.M)
         fields = {name for part in parts for name in re.findall(r"^  pub ([\w-]+) :", part, re.M)}
         self.all_said("State", fields - {"core", "held", "slots"})
 

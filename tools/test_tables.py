@@ -49,15 +49,24 @@ def fields(record):
     return re.findall(r"^  pub ([\w-]+) :", text, re.M)
 
 
+def bare(tables_):
+    """The names of tables in Lent.antt: the field's last, or, where another table has that, all of it."""
+    names = []
+    for table in tables_:
+        last = table.field.split(".")[-1]
+        names.append(table.field.replace(".", "-") if last in names else last)
+    return names
+
+
 def lengths(step=STEP):
     """The lengths that question 1 asks for: field, and the length by letters; a length is a term, the name of a number, or a number."""
     letters = {size.name: size.letter for size in lent.SIZES}
-    found = re.findall(r"same \(length \(\w ((?:\.[\w-]+ ?)+)\)\) (\([^)]*\)|[A-Z]+|\d+)", step)
+    found = re.findall(r"same \(length \((\w) ((?:\.[\w-]+ ?)+)\)\) (\([^)]*\)|[A-Z]+|\d+)", step)
     fixed = dict(re.findall(r"^([A-Z]+) = (\d+)$", STATE, re.M))
     out = {}
-    for path, length in found:
+    for of, path, length in found:
         length = fixed.get(length) or length.strip("()").replace("allPages z", "S * N").replace("mapWords z", "(R + 31) / 32")
-        out[path.split(".")[-1].strip()] = re.sub(r"z \.(\w+)", lambda size: letters[size.group(1)], length)
+        out[("chip." if of == "k" else "") + path.split(".")[-1].strip()] = re.sub(r"z \.(\w+)", lambda size: letters[size.group(1)], length)
     return out
 
 
@@ -71,20 +80,22 @@ class Code(unittest.TestCase):
         self.assertEqual(set(re.findall(r"^pub (?:extern \"C\" )?fn (\w+)", KEEPER, re.M)), set(CODE_CALLS))
 
     def test_state(self):
-        groups = [name for name in fields("Memory") if name in ("core", "held", "slots")]
-        memory = [field for group in groups for field in fields(group.title())] + [name for name in fields("Memory") if name not in groups]
+        groups = {"core": "", "held": "", "slots": "", "chip": "chip."}
+        memory = [before + field for group, before in groups.items() for field in fields(group.title())]
+        memory += [name for name in fields("Memory") if name not in groups]
         self.assertEqual(sorted(memory), sorted(table.field for table in lent.of_part("memory")))
+        self.assertLessEqual(set(groups), set(fields("Memory")))
         self.assertEqual(fields("Disk"), [table.field for table in lent.of_part("disk")])
 
     def test_state_of(self):
         for name, tables_ in (("allOf", lent.in_call("apply")), ("diskOf", lent.in_call("format"))):
             taken = re.search(rf"^{name} (.*?) =(?: |$)", LENT, re.M).group(1).split()
-            self.assertEqual(taken, [table.field for table in tables_])
+            self.assertEqual(taken, bare(tables_))
 
     def test_lengths(self):
         self.assertEqual(lengths(), {table.field: table.length for table in lent.TABLES if not table.is_one()})
-        text = "same (length (d .one)) 1 and same (length (m .held .free-map)) (mapWords z) and same (length (m .line)) LINE and same (length (d .more)) (z .slots)"
-        self.assertEqual(lengths(text), {"one": "1", "free-map": "(R + 31) / 32", "line": "32", "more": "S"})
+        text = "same (length (d .one)) 1 and same (length (m .held .free-map)) (mapWords z) and same (length (m .line)) LINE and same (length (k .more)) (z .slots)"
+        self.assertEqual(lengths(text), {"one": "1", "free-map": "(R + 31) / 32", "line": "32", "chip.more": "S"})
 
     def test_limits(self):
         most = dict(re.findall(r"^most(\w+) = (\d+)$", (CRATES / "model" / "specs" / "Sizes.antt").read_text(), re.M))
@@ -144,7 +155,7 @@ class NewTable(unittest.TestCase):
         text = (lent.ROOT / "include" / "keeper.h").read_text()
         before, _, after = tables.parts(text, *tables.marks("keeper.h", "tables and calls"), "keeper.h")
         use = (
-            "static struct { KEEPER_DISK_TABLES(2, 33, 2, 2, 3, 1) } disk;\nstatic struct { KEEPER_MEMORY_TABLES(2, 33, 2, 2, 3, 1) } memory;\n"
+            "static struct { KEEPER_DISK_TABLES(2, 33, 2, 2, 3, 1, 2) } disk;\nstatic struct { KEEPER_MEMORY_TABLES(2, 33, 2, 2, 3, 1, 2) } memory;\n"
             "_Static_assert(sizeof disk.sisters == 2 && sizeof disk.serial == 4 && sizeof memory.recent == 64 && sizeof memory.free_map == 8, \"\");\n"
             "KeeperAnswer call(KeeperSizes sizes);\nKeeperAnswer call(KeeperSizes sizes)\n{\n    return keeper_restart(sizes, KEEPER_LEND(memory.frames),"
             " &memory.pool, KEEPER_LEND_DISK(disk), KEEPER_LEND_MEMORY(memory));\n}\n"

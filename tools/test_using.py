@@ -37,12 +37,12 @@ def bytes_of(formula, sizes):
 
 def sizes_in(cell):
     """The sizes that a heading names, by letter."""
-    return {letter: int(value) for letter, value in re.findall(r"([WRFSNQ]) (\d+)", cell)}
+    return {letter: int(value) for letter, value in re.findall(r"([WRFSNQB]) (\d+)", cell)}
 
 
 def largest():
     """The header's limits, by letter."""
-    return {letter: int(most) for letter, (_, most) in zip("WRFSNQ", enum("/* Limits of the sizes"))}
+    return {letter: int(most) for letter, (_, most) in zip("WRFSNQB", enum("/* Limits of the sizes"))}
 
 
 class Bytes(unittest.TestCase):

@@ -8,7 +8,7 @@
 
 enum { CUT = 16, MOST_OPEN = 64 };
 
-static const KeeperSizes sizes = {.words = 2, .records = 4, .frames = 2, .slots = 2, .pages = 3, .accounts = 1};
+static const KeeperSizes sizes = {.words = 2, .records = 4, .frames = 2, .slots = 2, .pages = 3, .accounts = 1, .chip = 2};
 static Keeper keeper;
 
 static Keeper new_keeper(void)

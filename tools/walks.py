@@ -22,6 +22,8 @@ PROOFS = ROOT / "crates" / "keeper" / "proofs"
 LONGEST, WIDTH = 400, 200
 # the tables that begin a group: so the paths to the last lists stay short
 GROUPS = {"records": "d", "frame_words": "m", "addresses": "h", "active": "s"}
+# the elements by one letter where each table has its own word in one line
+KINDS = {"u8": "i", "u16": "j", "u32": "k"}
 # what a call lends before the frames: name, element, whether it is changed
 BEFORE = {"apply_all": [("requests", "u32", False), ("answers", "u32", True)], "import": [("sheet", "u8", False)], "export": [("sheet", "u8", True)]}
 
@@ -87,9 +89,9 @@ class Walk:
             "K": str(self.lifetime_count),
             "N": str(len(self.own)),
             "KPAT": f"({nested([f'κ{k}' for k in range(self.lifetime_count)], '_')})",
-            "STAYED": tail(lambda kind, mut, k: f"{'g' if mut else 'h'} {k} tt {kind}"),
-            "VALS": tail(lambda kind, mut, k: "slice-vals"),
-            "TELLS": tail(lambda kind, mut, k: f"{'mut' if mut else 'shr'} {k} κ{k} {kind}"),
+            "KINDS": " ".join(f"let {short} = {kind} in" for kind, short in KINDS.items()),
+            "STAYED": tail(lambda kind, mut, k: f"{'g' if mut else 'h'} {k} tt {KINDS[kind]}"),
+            "TELLS": tail(lambda kind, mut, k: f"{'c' if mut else 'o'} {k} κ{k} {KINDS[kind]}"),
             "ALLOC": " ".join(f"alloc1 ! (λ l{local}." for local in range(self.locals)),
         }
 

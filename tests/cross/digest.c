@@ -202,8 +202,8 @@ static void run(KeeperSizes sizes, unsigned long most, void *block, size_t bytes
             add_tables();
     }
     add_tables();
-    printf("W %u R %u F %u S %u N %u Q %u: %016llX\n", (unsigned)sizes.words, (unsigned)sizes.records, (unsigned)sizes.frames,
-           (unsigned)sizes.slots, (unsigned)sizes.pages, (unsigned)sizes.accounts, (unsigned long long)digest);
+    printf("W %u R %u F %u S %u N %u Q %u B %u: %016llX\n", (unsigned)sizes.words, (unsigned)sizes.records, (unsigned)sizes.frames,
+           (unsigned)sizes.slots, (unsigned)sizes.pages, (unsigned)sizes.accounts, (unsigned)sizes.chip, (unsigned long long)digest);
 }
 
 /* How many kinds were carried out fewer than ten times, and refusals never given. */
@@ -221,8 +221,8 @@ static unsigned missing(void)
 int main(int count, char **words)
 {
     static const KeeperSizes all[] = {
-        {1, 1, 1, 1, 1, 1}, {2, 4, 2, 2, 3, 1}, {3, 9, 3, 3, 5, 4}, {4, 33, 5, 4, 9, 5}, {1, 70, 6, 7, 12, 16}, {16, 200, 16, 8, 40, 6},
-        {KEEPER_MOST_WORDS, KEEPER_MOST_RECORDS, KEEPER_MOST_FRAMES, KEEPER_MOST_SLOTS, KEEPER_MOST_PAGES, KEEPER_MOST_ACCOUNTS}};
+        {1, 1, 1, 1, 1, 1, 1}, {2, 4, 2, 2, 3, 1, 2}, {3, 9, 3, 3, 5, 4, 3}, {4, 33, 5, 4, 9, 5, 1}, {1, 70, 6, 7, 12, 16, 9}, {16, 200, 16, 8, 40, 6, 33},
+        {KEEPER_MOST_WORDS, KEEPER_MOST_RECORDS, KEEPER_MOST_FRAMES, KEEPER_MOST_SLOTS, KEEPER_MOST_PAGES, KEEPER_MOST_ACCOUNTS, KEEPER_MOST_CHIP}};
     const size_t runs = sizeof all / sizeof *all, bytes = keeper_workspace(all[runs - 1]);
     const unsigned long most = count == 2 ? strtoul(words[1], NULL, 10) : 0;
     void *block = malloc(bytes);

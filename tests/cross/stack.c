@@ -171,8 +171,9 @@ static unsigned missing(void)
 
 int main(void)
 {
-    const KeeperSizes small = {4, 33, 5, 4, 9, KEEPER_MOST_ACCOUNTS},
-                      largest = {KEEPER_MOST_WORDS, KEEPER_MOST_RECORDS, KEEPER_MOST_FRAMES, KEEPER_MOST_SLOTS, KEEPER_MOST_PAGES, KEEPER_MOST_ACCOUNTS};
+    const KeeperSizes small = {4, 33, 5, 4, 9, KEEPER_MOST_ACCOUNTS, 6},
+                      largest = {KEEPER_MOST_WORDS, KEEPER_MOST_RECORDS, KEEPER_MOST_FRAMES, KEEPER_MOST_SLOTS, KEEPER_MOST_PAGES, KEEPER_MOST_ACCOUNTS,
+                                 KEEPER_MOST_CHIP};
     const size_t bytes = keeper_workspace(largest);
     size_t most[CALLS] = {0};
     void *block = malloc(bytes);

@@ -49,7 +49,7 @@ static size_t field(size_t at, size_t length)
 
 int main(void)
 {
-    const KeeperSizes sizes = {2, 4, 2, 2, 3, 1};
+    const KeeperSizes sizes = {2, 4, 2, 2, 3, 1, 2};
     const size_t length = fread(input, 1, MOST, stdin);
     if (keeper_place(&keeper, sizes, block, sizeof block) || keeper_easy_format(&keeper, NULL).refusal || keeper_easy_restart(&keeper).refusal)
         return 1;

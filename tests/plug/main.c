@@ -10,9 +10,9 @@
 #include "plug.h"
 
 static const KeeperSizes choices[] = {
-    {.words = 4, .records = 9, .frames = 3, .slots = 2, .pages = 4, .accounts = 2},
-    {.words = 40, .records = 20, .frames = 5, .slots = 3, .pages = 8, .accounts = 2},
-    {.words = 256, .records = 30, .frames = 6, .slots = 4, .pages = 10, .accounts = 4},
+    {.words = 4, .records = 9, .frames = 3, .slots = 2, .pages = 4, .accounts = 2, .chip = 2},
+    {.words = 40, .records = 20, .frames = 5, .slots = 3, .pages = 8, .accounts = 2, .chip = 1},
+    {.words = 256, .records = 30, .frames = 6, .slots = 4, .pages = 10, .accounts = 4, .chip = 9},
 };
 static const size_t grains[] = {4, 64, 512};
 enum { KILLS_A_DISK = 25 };

@@ -3,7 +3,7 @@
 use std::path::Path;
 use std::process::Command;
 
-const FILES: [&str; 7] = ["keeper", "accounts", "mend", "rules", "questions", "events", "sheets"];
+const FILES: [&str; 8] = ["keeper", "accounts", "mend", "rules", "questions", "events", "chip", "sheets"];
 
 /// The proved keeper's calls have these names too: here they become c_port_*.
 const CALLS: [&str; 8] = ["format", "restart", "apply", "apply_all", "mend", "page_look", "export", "import"];

@@ -30,7 +30,7 @@ static int next_path(void)
 
 /* ── the board ── */
 enum { WORDS = 256, BEHIND = 7 };
-static const KeeperSizes sizes = {.words = WORDS, .records = 3, .frames = 2, .slots = 2, .pages = 2, .accounts = 2};
+static const KeeperSizes sizes = {.words = WORDS, .records = 3, .frames = 2, .slots = 2, .pages = 2, .accounts = 2, .chip = 2};
 
 void board_new(Board *board, int wrong, size_t grain, unsigned (*chooses)(unsigned))
 {

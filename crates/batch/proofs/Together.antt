@@ -9,7 +9,7 @@ use Rattle.model.specs.declared.event.Answer.{Answer}
 use Rattle.model.specs.State.{State}
 use Rattle.model.specs.ApplyAll.{Listed, noAnswer, turned, after, after-length}
 use Rattle.invariant.proofs.AfterKept.{after-kept}
-use Rattle.dispatch.specs.Kept.{Kept, kept}
+use Rattle.events.specs.Kept.{KeptWhole, kept-whole}
 use Rattle.batch.proofs.Turning.{good}
 
 -- the last answer, the answers and the tables are what the first k requests leave
@@ -35,7 +35,7 @@ module _ {z : Sizes} {requests answers : List ℕ} {st : State} where
   turned-long {k} t = ap (λ (d : Listed). length (d .answers)) (t .is) ∙ after-length z requests answers st k
 
   -- the tables pass questions 1 and 2
-  pub turned-kept : {k : ℕ} {last : Answer} {now : List ℕ} {left : State} → Kept z st → Turned z requests answers st k last now left → Kept z left
+  pub turned-kept : {k : ℕ} {last : Answer} {now : List ℕ} {left : State} → KeptWhole z st → Turned z requests answers st k last now left → KeptWhole z left
   turned-kept {k} g t =
       let h = after-kept z requests answers st (good z st g) k in
-      subst (Kept z) (sym (ap (λ (d : Listed). d .left) (t .is))) (kept z (after z requests answers st k .left) (h .0) (h .1))
+      subst (KeptWhole z) (sym (ap (λ (d : Listed). d .left) (t .is))) (kept-whole z (after z requests answers st k .left) (h .0) (h .1))

@@ -15,19 +15,19 @@ use Rattle.model.specs.Requests.{decoded}
 use Rattle.model.specs.Laws.Ruled.{rules}
 use Rattle.model.specs.Laws.Fit.{all-fit}
 use Rattle.model.specs.Step.{Outcome}
-use Rattle.model.specs.Laws.Own.{own}
+use Rattle.model.specs.Laws.Own.{ownWhole}
 use Rattle.model.specs.ApplyAll.{Listed, requestAt, putAnswer, turned}
 use Rattle.model.specs.Terms.{Good}
 use Rattle.invariant.proofs.AfterKept.{owned, apply-own}
-use Rattle.dispatch.specs.Kept.{Kept}
+use Rattle.events.specs.Kept.{KeptWhole}
 
-pub good : (z : Sizes) (st : State) → Kept z st → Good z st
-good z st k = (all-fit z st (k .fits), rules z st (k .rules))
+pub good : (z : Sizes) (st : State) → KeptWhole z st → Good z st
+good z st k = (all-fit z st (k .fits) (k .chip), rules z st (k .rules) (k .copies))
 
 abbrev pub setPool : Pool → Held → Held
 setPool p h = record { addresses = h .addresses; states = h .states; owners = h .owners; free-map = h .free-map; pool = p }
 
-module _ (z : Sizes) (requests answers : List ℕ) (k : ℕ) (last : Answer) (st : State) (g : Kept z st) where
+module _ (z : Sizes) (requests answers : List ℕ) (k : ℕ) (last : Answer) (st : State) (g : KeptWhole z st) where
   -- what is left by an outcome
   abbrev put : Outcome State → Listed
   put o = record { answer = o .answer; answers = putAnswer k (o .answer) answers; left = o .left }
@@ -46,7 +46,7 @@ module _ (z : Sizes) (requests answers : List ℕ) (k : ℕ) (last : Answer) (st
 
   -- an event; its pool is put together after the work
   pub turned-known : (r : Request) (event : Event) (o : Outcome State) {p : Pool} {now : List ℕ} → r ≡ requestAt requests k → Known event ≡ decoded r
-      → o ≡ own z st event → p ≡ o .left .memory .held .pool → now ≡ putAnswer k (o .answer) answers
+      → o ≡ ownWhole z st event → p ≡ o .left .memory .held .pool → now ≡ putAnswer k (o .answer) answers
       → _≡_ {A = Listed} (record { answer = o .answer; answers = now; left = onHeld (setPool p) (o .left) }) (turned z requests k before)
   turned-known r event o q e h pool a =
       (λ x. record { answer = o .answer; answers = a x; left = onHeld (setPool (pool x)) (o .left) }) ∙ ap put h ∙ by-own (Known event) r e q

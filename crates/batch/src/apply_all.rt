@@ -3,10 +3,8 @@ ghost use mathlib.Core.Path.{_≡_};
 ghost use Rattle.model.specs.Lent.{allEntered, allLeft};
 ghost use Rattle.model.specs.Calls.{framesOf};
 ghost use Rattle.model.specs.ApplyAll.{applyAll};
-use crate::numbers::refuse_all;
+use crate::asked::ask_turns;
 use crate::numbers::request_count;
-use crate::turns::turns;
-use calls::common::common;
 use calls::packing::pack_all;
 use calls::packing::unpack_all;
 use model::applied::Pooled;
@@ -15,7 +13,6 @@ use model::frame::Pool;
 use model::sizes::Sizes;
 
 // The whole list: refused by question 1 or 2, or carried out.
-// Shut out: question 2 asked of nothing.
 pub fn apply_all(
     sizes: Sizes,
     lent: usize,
@@ -40,6 +37,9 @@ pub fn apply_all(
     active: &mut [u8],
     updating: &mut [u8],
     images: &mut [u16],
+    chip_words: &mut [u32],
+    chip_records: &mut [u16],
+    chip_next: &mut [u16],
     line: &mut [u16],
     used: &mut [u16],
 ) -> Pooled
@@ -47,19 +47,16 @@ pub fn apply_all(
       answer = r .answer;
       answers = now (answers .exit);
       left = allLeft (framesOf (r .frames) lent) (r .pool) records numbers accounts maps limits parents highest
-          «frame_words» «free_queue» «removal_list» addresses states owners «free_map» active updating images line used;
+          «frame_words» «free_queue» «removal_list» addresses states owners «free_map» active updating images «chip_words» «chip_records» «chip_next» line used;
     }
         ≡ applyAll sizes (now (requests .entry)) (now (answers .entry))
         (allEntered (framesOf frames lent) pool records numbers accounts maps limits parents highest
-        «frame_words» «free_queue» «removal_list» addresses states owners «free_map» active updating images line used) ⌝ }
+        «frame_words» «free_queue» «removal_list» addresses states owners «free_map» active updating images «chip_words» «chip_records» «chip_next» line used) ⌝ }
 {
     let n = request_count(requests.len(), answers.len());
     let mut packed = pack_all(frames);
-    let refusal = common(
-        sizes,
-        lent,
-        &packed,
-        pool,
+    let out = ask_turns(
+        &mut packed,
         records,
         numbers,
         accounts,
@@ -77,43 +74,17 @@ pub fn apply_all(
         active,
         updating,
         images,
+        chip_words,
+        chip_records,
+        chip_next,
         line,
         used,
-    );
-    if refusal != 0 {
-        let answer = refuse_all(answers, n, refusal);
-        return Pooled {
-            frames,
-            pool,
-            answer,
-        };
-    }
-    let out = turns(
+        answers,
+        requests,
         sizes,
         n,
-        requests,
-        answers,
-        &mut packed,
+        lent,
         pool,
-        records,
-        numbers,
-        accounts,
-        maps,
-        limits,
-        parents,
-        highest,
-        frame_words,
-        free_queue,
-        removal_list,
-        addresses,
-        states,
-        owners,
-        free_map,
-        active,
-        updating,
-        images,
-        line,
-        used,
     );
     let frames = unpack_all(packed);
     let pool = out.pool;

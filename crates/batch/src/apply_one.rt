@@ -4,13 +4,11 @@ ghost use Rattle.model.specs.Lent.{allEntered, allLeft};
 ghost use Rattle.model.specs.Calls.{framesOf, apply};
 ghost use Rattle.model.specs.Laws.Own.{leaves};
 ghost use Rattle.model.specs.Pool.{taken, deposited};
+use crate::asked::ask_turns;
 use crate::numbers::as_numbers;
-use crate::turns::turns;
-use calls::common::common;
 use calls::packing::pack_all;
 use calls::packing::unpack_all;
 use model::applied::Applied;
-use model::event::Answer;
 use model::frame::Frame;
 use model::frame::Pool;
 use model::request::Request;
@@ -40,59 +38,24 @@ pub fn apply_one(
     active: &mut [u8],
     updating: &mut [u8],
     images: &mut [u16],
+    chip_words: &mut [u32],
+    chip_records: &mut [u16],
+    chip_next: &mut [u16],
     line: &mut [u16],
     used: &mut [u16],
 ) -> Applied
     ensures { λ r. ⌜ leaves (r .answer)
         (allLeft (framesOf (r .frames) lent) (deposited (r .deposited) (taken sizes (r .taken) pool)) records numbers accounts maps limits parents highest
-        «frame_words» «free_queue» «removal_list» addresses states owners «free_map» active updating images line used)
+        «frame_words» «free_queue» «removal_list» addresses states owners «free_map» active updating images «chip_words» «chip_records» «chip_next» line used)
         ≡ apply sizes
         (allEntered (framesOf frames lent) pool records numbers accounts maps limits parents highest
-        «frame_words» «free_queue» «removal_list» addresses states owners «free_map» active updating images line used) request ⌝ }
+        «frame_words» «free_queue» «removal_list» addresses states owners «free_map» active updating images «chip_words» «chip_records» «chip_next» line used) request ⌝ }
 {
     let mut packed = pack_all(frames);
-    let refusal = common(
-        sizes,
-        lent,
-        &packed,
-        pool,
-        records,
-        numbers,
-        accounts,
-        maps,
-        limits,
-        parents,
-        highest,
-        frame_words,
-        free_queue,
-        removal_list,
-        addresses,
-        states,
-        owners,
-        free_map,
-        active,
-        updating,
-        images,
-        line,
-        used,
-    );
-    if refusal != 0 {
-        return Applied {
-            frames,
-            taken: 0,
-            deposited: 0,
-            answer: Answer { refusal, result: 0 },
-        };
-    }
     let requests = as_numbers(request);
     let mut answers: [u32; 2] = [0; 2];
-    let out = turns(
-        sizes,
-        1,
-        &requests,
-        &mut answers,
+    let out = ask_turns(
         &mut packed,
-        pool,
         records,
         numbers,
         accounts,
@@ -110,8 +73,17 @@ pub fn apply_one(
         active,
         updating,
         images,
+        chip_words,
+        chip_records,
+        chip_next,
         line,
         used,
+        &mut answers,
+        &requests,
+        sizes,
+        1,
+        lent,
+        pool,
     );
     let frames = unpack_all(packed);
     let answer = out.answer;

@@ -6,10 +6,10 @@ ghost use Rattle.model.specs.Lent.{allGiven, allEntered, allLeft};
 ghost use Rattle.model.specs.Pool.{taken, deposited};
 ghost use Rattle.model.specs.ApplyAll.{turned};
 ghost use Rattle.leaves.specs.Packed.{framesGiven, framesEntered, framesLeft};
-ghost use Rattle.dispatch.specs.Kept.{Kept};
+ghost use Rattle.events.specs.Kept.{KeptWhole};
 use crate::numbers::put_answer;
 use crate::numbers::request_at;
-use calls::carry::carry;
+use events::whole::carry_whole;
 use model::event::Answer;
 use model::frame::Pool;
 use model::refusals::NO_RANGE;
@@ -51,23 +51,26 @@ pub fn turn(
     active: &mut [u8],
     updating: &mut [u8],
     images: &mut [u16],
+    chip_words: &mut [u32],
+    chip_records: &mut [u16],
+    chip_next: &mut [u16],
     line: &mut [u16],
     used: &mut [u16],
 ) -> Last
-    requires { ⌜ (5 * k + 4 < length (now requests)) × (2 * k + 1 < length (now answers)) × Kept sizes
+    requires { ⌜ (5 * k + 4 < length (now requests)) × (2 * k + 1 < length (now answers)) × KeptWhole sizes
         (allGiven (framesGiven sizes frames) (last .pool) records numbers accounts maps limits parents highest
-        «frame_words» «free_queue» «removal_list» addresses states owners «free_map» active updating images line used) ⌝ }
+        «frame_words» «free_queue» «removal_list» addresses states owners «free_map» active updating images «chip_words» «chip_records» «chip_next» line used) ⌝ }
     ensures turned { λ r. ⌜ record {
       answer = r .answer;
       answers = now (answers .exit);
       left = allLeft (framesLeft sizes frames) (r .pool) records numbers accounts maps limits parents highest
-          «frame_words» «free_queue» «removal_list» addresses states owners «free_map» active updating images line used;
+          «frame_words» «free_queue» «removal_list» addresses states owners «free_map» active updating images «chip_words» «chip_records» «chip_next» line used;
     }
         ≡ turned sizes (now (requests .entry)) k (record {
           answer = last .answer;
           answers = now (answers .entry);
           left = allEntered (framesEntered sizes frames) (last .pool) records numbers accounts maps limits parents highest
-              «frame_words» «free_queue» «removal_list» addresses states owners «free_map» active updating images line used;
+              «frame_words» «free_queue» «removal_list» addresses states owners «free_map» active updating images «chip_words» «chip_records» «chip_next» line used;
         }) ⌝ }
     ensures pool { λ r. ⌜ r .pool ≡ deposited (r .deposited) (taken sizes (r .taken) (last .pool)) ⌝ }
 {
@@ -86,7 +89,7 @@ pub fn turn(
             answer,
         };
     };
-    let out = carry(
+    let out = carry_whole(
         sizes,
         event,
         frames,
@@ -108,6 +111,9 @@ pub fn turn(
         active,
         updating,
         images,
+        chip_words,
+        chip_records,
+        chip_next,
         line,
         used,
     );

@@ -6,7 +6,7 @@ ghost use Rattle.model.specs.Lent.{allGiven, allEntered, allLeft};
 ghost use Rattle.model.specs.Pool.{taken, deposited};
 ghost use Rattle.model.specs.ApplyAll.{after};
 ghost use Rattle.leaves.specs.Packed.{framesGiven, framesEntered, framesLeft};
-ghost use Rattle.dispatch.specs.Kept.{Kept};
+ghost use Rattle.events.specs.Kept.{KeptWhole};
 use crate::turn::Last;
 use crate::turn::turn;
 use model::event::Answer;
@@ -39,21 +39,24 @@ pub fn turns(
     active: &mut [u8],
     updating: &mut [u8],
     images: &mut [u16],
+    chip_words: &mut [u32],
+    chip_records: &mut [u16],
+    chip_next: &mut [u16],
     line: &mut [u16],
     used: &mut [u16],
 ) -> Last
-    requires { ⌜ (5 * n ≤ length (now requests)) × (2 * n ≤ length (now answers)) × Kept sizes
+    requires { ⌜ (5 * n ≤ length (now requests)) × (2 * n ≤ length (now answers)) × KeptWhole sizes
         (allGiven (framesGiven sizes frames) pool records numbers accounts maps limits parents highest
-        «frame_words» «free_queue» «removal_list» addresses states owners «free_map» active updating images line used) ⌝ }
+        «frame_words» «free_queue» «removal_list» addresses states owners «free_map» active updating images «chip_words» «chip_records» «chip_next» line used) ⌝ }
     ensures listed { λ r. ⌜ record {
       answer = r .answer;
       answers = now (answers .exit);
       left = allLeft (framesLeft sizes frames) (r .pool) records numbers accounts maps limits parents highest
-          «frame_words» «free_queue» «removal_list» addresses states owners «free_map» active updating images line used;
+          «frame_words» «free_queue» «removal_list» addresses states owners «free_map» active updating images «chip_words» «chip_records» «chip_next» line used;
     }
         ≡ after sizes (now (requests .entry)) (now (answers .entry))
         (allEntered (framesEntered sizes frames) pool records numbers accounts maps limits parents highest
-        «frame_words» «free_queue» «removal_list» addresses states owners «free_map» active updating images line used) n ⌝ }
+        «frame_words» «free_queue» «removal_list» addresses states owners «free_map» active updating images «chip_words» «chip_records» «chip_next» line used) n ⌝ }
     ensures one { λ r. ⌜ (n ≡ 1 → r .pool ≡ deposited (r .deposited) (taken sizes (r .taken) pool)) ⌝ }
 {
     let answer = Answer {
@@ -92,6 +95,9 @@ pub fn turns(
             active,
             updating,
             images,
+            chip_words,
+            chip_records,
+            chip_next,
             line,
             used,
         );

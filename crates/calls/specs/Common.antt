@@ -16,8 +16,8 @@ use Rattle.model.specs.Rules.{allRules}
 use Rattle.model.specs.Questions.{questions, lookQuestions}
 use Rattle.model.specs.Requests.{decoded}
 use Rattle.model.specs.Pages.{lookStart}
-use Rattle.model.specs.Step.{outcome, allFit, asked, answer, step, result, carried}
-use Rattle.model.specs.Laws.Own.{own, refusal, step-own}
+use Rattle.model.specs.Step.{outcome, allFit, asked, answer, step, result, whole}
+use Rattle.model.specs.Laws.Own.{ownWhole, refusal, step-own}
 use Rattle.model.specs.Calls.{unknown, stepOf, apply}
 use Rattle.model.specs.Laws.OwnLaws.{outcome-no}
 use Rattle.model.specs.Part.{part, partOf, no-part}
@@ -59,14 +59,14 @@ module _ (z : Sizes) (st : State) where
   unfit-apply request n e d = go (decoded request)
     where
       go : (k : Decoded) → refusal n st ≡ stepOf z st k
-      go (Known event) = sym (outcome-no n (result z st event) st (carried z st event) d) ∙ ap (λ (m : ℕ). outcome m (result z st event) st (carried z st event)) (common-refuses (questions z st event) n e d)
+      go (Known event) = sym (outcome-no n (result z st event) st (whole z st event) d) ∙ ap (λ (m : ℕ). outcome m (result z st event) st (whole z st event)) (common-refuses (questions z st event) n e d)
       go Unknown = sym (outcome-no n 0 st st d) ∙ ap (λ (m : ℕ). outcome m 0 st st) (common-refuses (ask 3 (same 0 1) none) n e d)
 
   pub unknown-apply : (request : Request) → common z st ≡ 0 → Unknown ≡ decoded request → refusal 3 st ≡ apply z st request
   unfolding apply stepOf unknown firstNo test
   unknown-apply request e k = ap (λ (m : ℕ). outcome m 0 st st) (sym (common-passes (ask 3 (same 0 1) none) e)) ∙ ap (stepOf z st) k
 
-  pub known-apply : (request : Request) (event : _) → common z st ≡ 0 → Known event ≡ decoded request → own z st event ≡ apply z st request
+  pub known-apply : (request : Request) (event : _) → common z st ≡ 0 → Known event ≡ decoded request → ownWhole z st event ≡ apply z st request
   unfolding apply stepOf
   known-apply request event e k = let h = common-gives e in sym (step-own z st event (h .0) (h .1)) ∙ ap (stepOf z st) k
 

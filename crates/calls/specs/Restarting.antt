@@ -8,9 +8,10 @@ use Rattle.tables.specs.Rule.{test}
 use Rattle.model.specs.declared.sizes.Sizes.{Sizes}
 use Rattle.model.specs.declared.frame.Frame.{Frame}
 use Rattle.model.specs.declared.event.Answer.{Answer}
-use Rattle.model.specs.State.{Disk, State}
+use Rattle.model.specs.State.{Disk, Chip, State}
+use Rattle.model.specs.Chip.{emptyChip}
 use Rattle.model.specs.Rules.{diskRules}
-use Rattle.model.specs.Setters.{setLine}
+use Rattle.model.specs.Setters.{setLine, setChip}
 use Rattle.model.specs.Laws.Own.{leaves}
 use Rattle.model.specs.Step.{allFit, restart}
 use Rattle.model.specs.Restart.{raised, restarted}
@@ -24,7 +25,8 @@ module _ (z : Sizes) where
   pub restarted-lent : (d : Disk) (fs : List Frame) (lent : ℕ) → lent ≡ z .frames → take (z .frames) fs ≡ restarted z d .memory .core .frames → framesOf fs lent ≡ restarted z d .memory .core .frames
   restarted-lent d fs lent e t = lent-back fs (restarted z d .memory .core .frames) lent (z .frames) e t (ap length (restarted-frames z d) ∙ length-replicate (z .frames) _)
 
-  -- answered 0, with the restarted state left: its other tables, and nobody waiting
-  pub restart-left : (st left : State) (line : List ℕ) (answer : Answer) → answer ≡ record { refusal = 0; result = 0 } → left ≡ restarted z (raised z (st .disk)) → line ≡ left .memory .line
-      → true ≡ test (allFit z st) → true ≡ test (diskRules z st) → leaves answer (setLine line left) ≡ restart z st
-  restart-left st left line answer a l n f r = ap (λ (x : List ℕ). leaves answer (setLine x left)) n ∙ (λ x. leaves (a x) (l x)) ∙ restart-done z st f r
+  -- answered 0, with the restarted state left: its other tables, nobody waiting and the chip empty
+  pub restart-left : (st left : State) (line : List ℕ) (chip : Chip) (answer : Answer) → answer ≡ record { refusal = 0; result = 0 } → setChip (emptyChip z) left ≡ restarted z (raised z (st .disk))
+      → line ≡ left .memory .line → chip ≡ emptyChip z → true ≡ test (allFit z st) → true ≡ test (diskRules z st) → leaves answer (setChip chip (setLine line left)) ≡ restart z st
+  restart-left st left line chip answer a l n e f r =
+      ap (λ (x : List ℕ). leaves answer (setChip chip (setLine x left))) n ∙ ap (λ (k : Chip). leaves answer (setChip k left)) e ∙ (λ x. leaves (a x) (l x)) ∙ restart-done z st f r

@@ -33,13 +33,16 @@ pub fn common(
     active: &[u8],
     updating: &[u8],
     images: &[u16],
+    chip_words: &[u32],
+    chip_records: &[u16],
+    chip_next: &[u16],
     line: &[u16],
     used: &[u16],
 ) -> u32
     requires { ⌜ length (now frames) ≡ 64 ⌝ }
     ensures { λ r. ⌜ r ≡ common sizes
         (allEntered (framesOf (unpacked (now (frames .entry))) lent) pool records numbers accounts maps limits parents highest
-        «frame_words» «free_queue» «removal_list» addresses states owners «free_map» active updating images line used) ⌝ }
+        «frame_words» «free_queue» «removal_list» addresses states owners «free_map» active updating images «chip_words» «chip_records» «chip_next» line used) ⌝ }
 {
     if lent_fit(
         sizes,
@@ -61,6 +64,9 @@ pub fn common(
         active,
         updating,
         images,
+        chip_words,
+        chip_records,
+        chip_next,
         line,
         used,
     ) {} else {
@@ -88,6 +94,9 @@ pub fn common(
         active,
         updating,
         images,
+        chip_words,
+        chip_records,
+        chip_next,
         line,
         used,
     ) {} else {

@@ -1,5 +1,6 @@
 // The calls, over everything that is lent: questions 1 and 2 are asked once, then the work is done.
 ghost use mathlib.Core.Path.{_≡_};
+ghost use lib.ListN.{length, replicate};
 ghost use Rattle.model.specs.Lent.{diskOf, allEntered, allLeft};
 ghost use Rattle.model.specs.Calls.{framesOf};
 ghost use Rattle.model.specs.Step.{restart, format};
@@ -17,13 +18,31 @@ use restarts::format::format_tables;
 use restarts::numbers::raise_highest;
 use restarts::restart::restart_tables;
 use restarts::zero::zero16;
+use restarts::zero::zero32;
 use rules::slots::parents_ok;
 
-pub mod lent; // questions 1 and 2 with the line
+pub mod lent; // questions 1 and 2 with the line and the chip
 pub mod common; // questions 1 and 2, as a number
-pub mod carry; // an event handed on to its family
 pub mod looks; // a page look
 pub mod packing; // the frames, packed and back
+
+// No copy in the chip, place 0 next, and nobody waits.
+fn empty_beside(
+    chip_words: &mut [u32],
+    chip_records: &mut [u16],
+    chip_next: &mut [u16],
+    line: &mut [u16],
+)
+    ensures words { λ _. ⌜ now («chip_words» .exit) ≡ replicate (length (now («chip_words» .entry))) 0 ⌝ }
+    ensures copies { λ _. ⌜ now («chip_records» .exit) ≡ replicate (length (now («chip_records» .entry))) 0 ⌝ }
+    ensures next { λ _. ⌜ now («chip_next» .exit) ≡ replicate (length (now («chip_next» .entry))) 0 ⌝ }
+    ensures line { λ _. ⌜ now (line .exit) ≡ replicate (length (now (line .entry))) 0 ⌝ }
+{
+    zero32(chip_words);
+    zero16(chip_records);
+    zero16(chip_next);
+    zero16(line);
+}
 
 // Questions 1 and 2 (the disk rules only), then the highest number raised, its own one store, and every table of the memory part set anew.
 pub fn restart_core(
@@ -48,15 +67,18 @@ pub fn restart_core(
     active: &mut [u8],
     updating: &mut [u8],
     images: &mut [u16],
+    chip_words: &mut [u32],
+    chip_records: &mut [u16],
+    chip_next: &mut [u16],
     line: &mut [u16],
     used: &mut [u16],
 ) -> Pooled
     ensures { λ r. ⌜ leaves (r .answer)
         (allLeft (framesOf (r .frames) lent) (r .pool) records numbers accounts maps limits parents highest
-        «frame_words» «free_queue» «removal_list» addresses states owners «free_map» active updating images line used)
+        «frame_words» «free_queue» «removal_list» addresses states owners «free_map» active updating images «chip_words» «chip_records» «chip_next» line used)
         ≡ restart sizes
         (allEntered (framesOf frames lent) pool records numbers accounts maps limits parents highest
-        «frame_words» «free_queue» «removal_list» addresses states owners «free_map» active updating images line used) ⌝ }
+        «frame_words» «free_queue» «removal_list» addresses states owners «free_map» active updating images «chip_words» «chip_records» «chip_next» line used) ⌝ }
 {
     if lent_fit(
         sizes,
@@ -78,6 +100,9 @@ pub fn restart_core(
         active,
         updating,
         images,
+        chip_words,
+        chip_records,
+        chip_next,
         line,
         used,
     ) {} else {
@@ -112,7 +137,7 @@ pub fn restart_core(
         };
     }
     raise_highest(sizes, numbers, highest);
-    zero16(line);
+    empty_beside(chip_words, chip_records, chip_next, line);
     restart_tables(
         sizes,
         accounts,

@@ -40,12 +40,15 @@ pub fn place_core(
     active: &[u8],
     updating: &[u8],
     images: &[u16],
+    chip_words: &[u32],
+    chip_records: &[u16],
+    chip_next: &[u16],
     line: &[u16],
     used: &[u16],
 ) -> Part
     ensures { λ r. ⌜ (r ≡ partOf sizes
         (allEntered (framesOf frames lent) pool records numbers accounts maps limits parents highest
-        «frame_words» «free_queue» «removal_list» addresses states owners «free_map» active updating images line used) slot page)
+        «frame_words» «free_queue» «removal_list» addresses states owners «free_map» active updating images «chip_words» «chip_records» «chip_next» line used) slot page)
         × (r .start + r .count ≤ length (now («frame_words» .entry))) ⌝ }
 {
     let packed = pack_all(frames);
@@ -71,6 +74,9 @@ pub fn place_core(
         active,
         updating,
         images,
+        chip_words,
+        chip_records,
+        chip_next,
         line,
         used,
     );
@@ -110,11 +116,14 @@ pub fn look_core<'a>(
     active: &[u8],
     updating: &[u8],
     images: &[u16],
+    chip_words: &[u32],
+    chip_records: &[u16],
+    chip_next: &[u16],
     line: &[u16],
     used: &[u16],
 ) -> &'a [u32]
     ensures { λ r. ⌜ (let st = allEntered (framesOf frames lent) pool records numbers accounts maps limits parents highest
-        «frame_words» «free_queue» «removal_list» addresses states owners «free_map» active updating images line used in
+        «frame_words» «free_queue» «removal_list» addresses states owners «free_map» active updating images «chip_words» «chip_records» «chip_next» line used in
         (now r ≡ look sizes st slot page .left)
         × ((now (refusal .exit) ≡ look sizes st slot page .answer .refusal)
         × (ptr r ≡ wordAt (ptr («frame_words» .entry)) (partOf sizes st slot page .start)))) ⌝ }
@@ -143,6 +152,9 @@ pub fn look_core<'a>(
         active,
         updating,
         images,
+        chip_words,
+        chip_records,
+        chip_next,
         line,
         used,
     );

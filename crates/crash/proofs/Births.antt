@@ -16,7 +16,7 @@ use Rattle.model.specs.State.{State, slotOf}
 use Rattle.model.specs.Rules.{diskRules}
 use Rattle.model.specs.Laws.Index.{slot-below}
 use Rattle.model.specs.Restart.{restarted}
-use Rattle.model.specs.Step.{outcome, allFit, answer, carried, result, step, restart}
+use Rattle.model.specs.Step.{outcome, allFit, answer, carried, result, step, restart, supplied, whole}
 use Rattle.model.specs.Import.{sheetOf, has, said, imported, importAnswer, import}
 use Rattle.model.specs.Stores as S
 use Rattle.model.specs.Stores.{Call}
@@ -85,10 +85,10 @@ module _ (z : Sizes) (P : ℕ → ℕ → (ℕ → ℕ) → Type 0) where
   Own l l′ = l .births < l′ .births → (p : ℕ) (words : ℕ → ℕ) → P (suc (l .births)) p words
 
   event-each : (w : World) (e : Event) → T (w .up) → Good z w → OfText z P (w .ledger) → Each P (w .ledger .finished) → Each P (act z w (event e) .ledger .finished)
-  unfolding act step noted
+  unfolding act step whole supplied noted
   event-each w e u k o p = go (answer z (w .state) e) refl
     where
-      go : (n : ℕ) → answer z (w .state) e ≡ n → Each P (noted z (outcome n (result z (w .state) e) (w .state) (carried z (w .state) e)) (fed z (w .state) e) (w .ledger) .finished)
+      go : (n : ℕ) → answer z (w .state) e ≡ n → Each P (noted z (outcome n (result z (w .state) e) (w .state) (whole z (w .state) e)) (fed z (w .state) e) (w .ledger) .finished)
       go zero a = fed-each z P (w .state) (w .ledger) e (before z (w .state) (w .ledger) e a (record { disk = k .disk; memory = k .memory u })) o p
       go (suc n) a = rw (ne-eqb (suc n) 0 (λ x. omega (arith, x))) p
 

@@ -16,7 +16,7 @@ use Rattle.model.specs.declared.event.Event.{Event}
 use Rattle.model.specs.State.{Disk, Memory, State, files, allPages}
 use Rattle.model.specs.Rules.{diskRules}
 use Rattle.model.specs.Laws.Ruled as R
-use Rattle.model.specs.Step.{outcome, answer, carried, result, step, restart, allFit, memoryLengths}
+use Rattle.model.specs.Step.{outcome, answer, whole, result, step, restart, allFit, memoryLengths}
 use Rattle.model.specs.Laws.Fit.{Fit, disk-fit, memory-fit}
 use Rattle.model.specs.Restart.{formatted, raised, restarted}
 use Rattle.model.specs.Ledger as L
@@ -28,8 +28,11 @@ use Rattle.sheets.specs.Sheet.{numberIn}
 use Rattle.model.specs.Import.{sheetOf, imported, importAnswer, import}
 use Rattle.model.specs.Stores as S
 use Rattle.model.specs.Stores.{Call}
-use Rattle.invariant.proofs.Kept.{carried-kept, raised-good}
+use Rattle.invariant.proofs.ChipKept.{Copies}
+use Rattle.crash.proofs.Found.{whole-tied}
+use Rattle.invariant.proofs.Kept.{raised-good, whole-kept}
 use Rattle.invariant.proofs.Imports.{midway, import-kept}
+use Rattle.invariant.proofs.ImportChip.{midway-chip, import-chip}
 use Rattle.invariant.proofs.Imported.{import-before}
 use Rattle.invariant.proofs.Midst.{Inside, inside, part-none, part-event, part-import}
 use Rattle.crash.proofs.Partly.{mid-tied}
@@ -69,28 +72,29 @@ none-updated (suc s) lands l c = go (lands s) (none-updated s lands l (λ t h. c
 lost : (z : Sizes) (st : State) (l : Ledger) (junk : Memory) → Holds (memoryLengths z junk) → Fit z st → R.OnDisk z (files st) → OnDisk z st l → Good z (record { up = false; state = record { disk = st .disk; memory = junk }; ledger = lose l })
 unfolding lose
 lost z st l junk lengths f r d = record {
-  fit = record { sizes = f .sizes; disk = f .disk; memory = memory-fit z junk lengths };
+  fit = record { sizes = f .sizes; disk = f .disk; memory = memory-fit z junk (lengths .0) };
   rules = record { empty-account = r .empty-account; empty-map = r .empty-map; map-fit = r .map-fit; map-once = r .map-once; number-once = r .number-once; account-fit = r .account-fit; parent-lower = r .parent-lower };
   disk = record { designs = d .designs; listing = d .listing };
   ruled = λ u. absurd u;
+  copies = λ u. absurd u;
   memory = λ u. absurd u;
   closed = λ n. record { writing = λ f h t. t; updating = λ s h t. t };
 }
 
 -- a restarted keeper
-up-good : (z : Sizes) (u : Bool) (st : State) (l : Ledger) → T u → Fit z st → R.Ruled z st → Tied z st l → Good z (record { up = u; state = st; ledger = l })
-up-good z u st l t f r k = record { fit = f; rules = r .disk; disk = k .disk; ruled = λ x. r; memory = λ x. k .memory; closed = λ n. absurd (n t) }
+up-good : (z : Sizes) (u : Bool) (st : State) (l : Ledger) → T u → Fit z st → R.Ruled z st → Copies z st → Tied z st l → Good z (record { up = u; state = st; ledger = l })
+up-good z u st l t f r c k = record { fit = f; rules = r .disk; disk = k .disk; ruled = λ x. r; copies = λ x. c; memory = λ x. k .memory; closed = λ n. absurd (n t) }
 
 module _ (z : Sizes) where
   event-keeps : (w : World) (e : Event) → T (w .up) → Good z w → Good z (act z w (event e))
   unfolding act step noted
   event-keeps w e u k = go (answer z (w .state) e) refl
     where
-      go : (n : ℕ) → answer z (w .state) e ≡ n → (let o = outcome n (result z (w .state) e) (w .state) (carried z (w .state) e) in Good z (record { up = w .up; state = o .left; ledger = noted z o (fed z (w .state) e) (w .ledger) }))
+      go : (n : ℕ) → answer z (w .state) e ≡ n → (let o = outcome n (result z (w .state) e) (w .state) (whole z (w .state) e) in Good z (record { up = w .up; state = o .left; ledger = noted z o (fed z (w .state) e) (w .ledger) }))
       go zero a =
           let q = before z (w .state) (w .ledger) e a (record { disk = k .disk; memory = k .memory u }) in
-          let b = carried-kept z (w .state) e (q .fit) (q .ruled) (q .asked) in
-          up-good z (w .up) (carried z (w .state) e) (note z (w .ledger) (fed z (w .state) e)) u (b .0) (b .1) (steps z e (w .state) (w .ledger) q)
+          let b = whole-kept z (w .state) e (q .fit) (q .ruled) (k .copies u) (q .asked) in
+          up-good z (w .up) (whole z (w .state) e) (note z (w .ledger) (fed z (w .state) e)) u (b .0) (b .1) (b .2) (whole-tied z (w .state) e (q .fit) (q .ruled) (k .copies u) (q .asked) _ (steps z e (w .state) (w .ledger) q))
       go (suc n) a = rw (ne-eqb (suc n) 0 (λ x. omega (arith, x))) k
 
   restart-keeps : (w : World) → Good z w → Good z (act z w restarting)
@@ -100,7 +104,7 @@ module _ (z : Sizes) where
       go : (n : ℕ) → (let o = outcome n 0 (w .state) (restarted z (raised z (w .state .disk))) in Good z (record { up = if (eqb (o .answer .refusal) 0) true (w .up); state = o .left; ledger = noted z o (L.restarted (w .state .disk)) (w .ledger) }))
       go zero =
           let b = raised-good z (w .state) (k .fit) (k .rules) in
-          up-good z true (restarted z (raised z (w .state .disk))) (note z (w .ledger) (L.restarted (w .state .disk))) tt (b .0) (b .1) (raised-tied z (w .state) (w .ledger) (k .fit .sizes .pages) (k .rules) (k .disk))
+          up-good z true (restarted z (raised z (w .state .disk))) (note z (w .ledger) (L.restarted (w .state .disk))) tt (b .0) (b .1) (b .2) (raised-tied z (w .state) (w .ledger) (k .fit .sizes .pages) (k .rules) (k .disk))
       go (suc n) = rw (ne-eqb (suc n) 0 (λ x. omega (arith, x))) k
 
   cut-keeps : (w : World) (writes updates : ℕ → Bool) (junk : Memory) → Holds (memoryLengths z junk) → Good z w → Good z (act z w (cutting writes updates junk))
@@ -135,7 +139,7 @@ module _ (z : Sizes) where
       let y = midway z (w .state) s q m (sheetOf b) x n (p .1) in
       let l : Ledger = partly z (w .state) s m (sheetOf b) n (w .ledger) in
       subst (λ (st : State). Good z (record { up = w .up; state = st; ledger = l })) (sym (p .2))
-      (up-good z (w .up) _ l (i .up) (y .fit) (y .ruled) (mid-tied z (w .state) s q m (sheetOf b) (w .ledger) x (tied-of w (i .up) k) n (p .1)))
+      (up-good z (w .up) _ l (i .up) (y .fit) (y .ruled) (midway-chip z (w .state) s q m (sheetOf b) x (k .copies (i .up)) n (p .1)) (mid-tied z (w .state) s q m (sheetOf b) (w .ledger) x (tied-of w (i .up) k) n (p .1)))
 
   import-keeps : (w : World) (s q n : ℕ) (b : List ℕ) → T (w .up) → Good z w → Good z (act z w (importing s q n b))
   unfolding act import
@@ -146,7 +150,7 @@ module _ (z : Sizes) where
       go zero a =
           let c = import-before z (w .state) s q n b a in
           let x = import-kept z (w .state) s q n (sheetOf b) c in
-          up-good z (w .up) (imported z (w .state) s q n (sheetOf b)) _ u (x .0) (x .1) (import-tied z (w .state) (w .ledger) s q n (sheetOf b) c (tied-of w u k))
+          up-good z (w .up) (imported z (w .state) s q n (sheetOf b)) _ u (x .0) (x .1) (import-chip z (w .state) s q n (sheetOf b) c (k .copies u)) (import-tied z (w .state) (w .ledger) s q n (sheetOf b) c (tied-of w u k))
       go (suc m) a = rw (ne-eqb (suc m) 0 (λ x. omega (arith, x))) k
 
   pub act-keeps : (w : World) (a : Act) → T (allowed z w a) → Good z w → Good z (act z w a)

@@ -138,7 +138,7 @@ module _ (z : Sizes) (s p : ℕ) (st : State) (l : Ledger) (b : Before z st l (E
   module _ (held′ : Held) (nulled : (r : ℕ) → address i₀ ≡ suc r → ¬ (state r ≡ LIVE)) (was : (i r : ℕ) → at (held′ .addresses) i ≡ suc r → at (held′ .states) r ≡ LIVE → (address i ≡ suc r) × (state r ≡ LIVE))
       (stays : (i r : ℕ) → address i ≡ suc r → state r ≡ LIVE → (at (held′ .addresses) i ≡ suc r) × (at (held′ .states) r ≡ LIVE)) (others : (i : ℕ) → ¬ (i ≡ i₀) → at (held′ .addresses) i ≡ address i) where
     abbrev st₁ : State
-    st₁ = record { disk = st .disk; memory = record { core = st .memory .core; held = held′; slots = st .memory .slots; line = st .memory .line; used = st .memory .used } }
+    st₁ = record { disk = st .disk; memory = record { core = st .memory .core; held = held′; slots = st .memory .slots; chip = st .memory .chip; line = st .memory .line; used = st .memory .used } }
 
     zeros-served : Tied z (counted z (Pages.serveZeros z st₁ i₀ f)) (note z l (faulted s p f))
     unfolding counted Pages.serveZeros note

@@ -23,7 +23,7 @@ use Rattle.model.specs.Questions.{questions}
 use Rattle.model.specs.Laws.Creating.{creating}
 use Rattle.model.specs.Designs
 use Rattle.model.specs.Restart.{highestOf, raised, restarted}
-use Rattle.model.specs.Step.{outcome, allFit, answer, carried, result, step, restart}
+use Rattle.model.specs.Step.{outcome, allFit, answer, carried, result, step, restart, supplied, whole}
 use Rattle.model.specs.Import.{Sheet, sheetOf, storeRecord, storeSlot, made, imported, importAnswer, import}
 use Rattle.model.specs.Stores as S
 use Rattle.model.specs.Stores.{Call}
@@ -63,10 +63,10 @@ module _ (z : Sizes) where
 
   named-given : (w : World) (e : Event) → T (w .up) → Good z w
       → (Steps.Before z (w .state) (w .ledger) e → Given z true (view w) → Given z true (view (record { up = w .up; state = carried z (w .state) e; ledger = note z (w .ledger) (fed z (w .state) e) }))) → Keeps w (act z w (event e))
-  unfolding act step noted
+  unfolding act step whole supplied noted
   named-given w e u k f g = go (answer z (w .state) e) refl
     where
-      go : (n : ℕ) → answer z (w .state) e ≡ n → (let o = outcome n (result z (w .state) e) (w .state) (carried z (w .state) e) in Given z (w .up) (view (record { up = w .up; state = o .left; ledger = noted z o (fed z (w .state) e) (w .ledger) })))
+      go : (n : ℕ) → answer z (w .state) e ≡ n → (let o = outcome n (result z (w .state) e) (w .state) (whole z (w .state) e) in Given z (w .up) (view (record { up = w .up; state = o .left; ledger = noted z o (fed z (w .state) e) (w .ledger) })))
       go zero a = raised-up (w .up) u (f (before z (w .state) (w .ledger) e a (record { disk = k .disk; memory = k .memory u }))) g
       go (suc n) a = rw (ne-eqb (suc n) 0 (λ x. omega (arith, x))) g
 

@@ -14,6 +14,7 @@ pub mod Claimed
 pub mod PageDone
 pub mod Finished
 pub mod PageEnd
+pub mod Found
 pub mod MapDone
 pub mod Waited
 pub mod Activated

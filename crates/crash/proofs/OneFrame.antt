@@ -71,7 +71,7 @@ module _ {z : Sizes} {g g′ : Frame} {word word′ address address′ of of′ 
 
 module _ (z : Sizes) (st : State) (l : Ledger) (f : ℕ) (new : Frame) (core′ : Core) (held′ : Held) (used′ : List ℕ) (pages′ : Pages) (noted′ : ℕ → Note) (flag′ : ℕ → Bool) (write′ : ℕ → Write) where
   abbrev pub st′ : State
-  st′ = record { disk = st .disk; memory = record { core = core′; held = held′; slots = st .memory .slots; line = st .memory .line; used = used′ } }
+  st′ = record { disk = st .disk; memory = record { core = core′; held = held′; slots = st .memory .slots; chip = st .memory .chip; line = st .memory .line; used = used′ } }
 
   abbrev pub l′ : Ledger
   l′ = record {

@@ -68,7 +68,7 @@ module _ (z : Sizes) (st : State) (l : Ledger) (fit : Fit z st) (rules : Ruled z
   kept′ = over (l .pages .kept) (ofSlot z s) false
 
   abbrev pub after : State
-  after = record { disk = disk′; memory = record { core = st .memory .core; held = record { addresses = st .memory .held .addresses; states = states′; owners = owners′; free-map = st .memory .held .free-map; pool = record { hand = hand′; free = st .memory .held .pool .free } }; slots = st .memory .slots; line = st .memory .line; used = st .memory .used } }
+  after = record { disk = disk′; memory = record { core = st .memory .core; held = record { addresses = st .memory .held .addresses; states = states′; owners = owners′; free-map = st .memory .held .free-map; pool = record { hand = hand′; free = st .memory .held .pool .free } }; slots = st .memory .slots; chip = st .memory .chip; line = st .memory .line; used = st .memory .used } }
 
   abbrev pub ledger : Ledger
   ledger = setStored (u ∷ l .stored) (setText text′ kept′ (setDesign (l .births) of′ l))

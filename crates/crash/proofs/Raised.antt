@@ -25,6 +25,7 @@ raise-good z w n k = record {
   rules = k .rules;
   disk = raise-on-disk z (w .state) (w .ledger) n (k .disk);
   ruled = λ u. raise-ruled z (w .state) n (k .ruled u);
+  copies = λ u. let c = k .copies u in record { fit = c .fit; rules = c .rules };
   memory = λ u. raise-memory z (w .state) (w .ledger) n (k .memory u);
   closed = k .closed;
 }

@@ -68,7 +68,7 @@ read-again z b before after s q n sheet t e p hp has-p spare up rest free j hj =
     let slot = import-asked z (from z b before) s q n sheet e .slot in
     let on-list = stays-imported z b before after s q n sheet t e p hp spare .listed has-p in
     let k : Listed z (w .state) s p = record {
-      good = (all-fit z (w .state) (g .fit), rules z (w .state) (g .ruled up));
+      good = (let c = g .copies up in (all-fit z (w .state) (g .fit) (c .fit), rules z (w .state) (g .ruled up) (c .rules)));
       slot = slot;
       page = hp;
       filled = λ o. on-list (g .rules .empty-map i (page-below z pos s p slot hp) (ap (files (w .state) .number) (slot-of-page z pos s p hp) ∙ o));

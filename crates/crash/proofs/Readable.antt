@@ -10,8 +10,8 @@ use lib.ListN.{length, set}
 use lib.Seq.{getD-set-same, getD-set-other}
 use borrow.Author.Tests.{eq-eqb}
 use Rattle.tables.specs.Base.{at, if}
-use Rattle.tables.specs.Laws.{if-true}
-use Rattle.tables.specs.Rule.{Holds, test, complete, same, _and_}
+use Rattle.tables.specs.Laws.{if-true, not-zero}
+use Rattle.tables.specs.Rule.{Holds, test, complete, untold, same, _and_}
 use Rattle.tables.specs.Queue.{size, first}
 use Rattle.tables.specs.QueueLaws.{first-below}
 use Rattle.tables.specs.Questions.{Asked, firstNo, yes-all}
@@ -24,7 +24,7 @@ use Rattle.model.specs.declared.event.Writeback.the-variants.{PageDone}
 use Rattle.model.specs.declared.event.Event.{Event}
 use Rattle.model.specs.declared.event.Event.the-variants as Event
 use Rattle.model.specs.Lines.{FILED, LIVE}
-use Rattle.model.specs.State.{State, Frames, files, frames, noFrame, frameAt, NONE, READING, framed, live, pageOf, slotOf, allPages}
+use Rattle.model.specs.State.{State, Core, Chip, Frames, files, frames, noFrame, frameAt, NONE, READING, framed, live, pageOf, slotOf, allPages}
 use Rattle.model.specs.Setters.{counted}
 use Rattle.model.specs.Parts.{ofSlot}
 use Rattle.model.specs.Questions.{questions}
@@ -34,9 +34,11 @@ use Rattle.model.specs.Laws.Index.{slot-of-page, page-below}
 use Rattle.model.specs.Designs
 use Rattle.model.specs.Pages
 use Rattle.model.specs.Writeback
-use Rattle.model.specs.Step.{Outcome, outcome, asked, answer, carried, result, step}
+use Rattle.model.specs.Step.{Outcome, outcome, asked, answer, carried, result, step, isFault, supplied, whole}
 use Rattle.model.specs.Terms.{Good}
-use Rattle.invariant.proofs.Kept.{kept}
+use Rattle.model.specs.Chip.{found, arrives}
+use Rattle.invariant.proofs.Kept.{kept, good-chip}
+use Rattle.invariant.proofs.ChipLaws.{chip-stays}
 
 -- a state that passes questions 1 and 2, with a free frame, and in it a listed page of a design that is not active
 pub record Listed (z : Sizes) (st : State) (s p : ℕ) : Type 0 where
@@ -50,9 +52,9 @@ pub record Listed (z : Sizes) (st : State) (s p : ℕ) : Type 0 where
 
 module _ (z : Sizes) where
   -- an event whose questions all say yes is carried out
-  all-asked : (st : State) (e : Event) → Good z st → Asked (questions z st e) → step z st e ≡ outcome 0 (result z st e) st (carried z st e)
+  all-asked : (st : State) (e : Event) → Good z st → Asked (questions z st e) → step z st e ≡ outcome 0 (result z st e) st (whole z st e)
   unfolding step answer
-  all-asked st e g a = ap (λ (n : ℕ). outcome n (result z st e) st (carried z st e)) (yes-all (asked z st (questions z st e)) (g .0, (g .1, a)))
+  all-asked st e g a = ap (λ (n : ℕ). outcome n (result z st e) st (whole z st e)) (yes-all (asked z st (questions z st e)) (g .0, (g .1, a)))
 
 module _ (z : Sizes) (st : State) (s p : ℕ) (k : Listed z st s p) where
   abbrev i : ℕ
@@ -76,7 +78,7 @@ module _ (z : Sizes) (st : State) (s p : ℕ) (k : Listed z st s p) where
 
   -- ── activate ──
   abbrev st₁ : State
-  st₁ = carried z st (Event.Design (Activate s))
+  st₁ = whole z st (Event.Design (Activate s))
 
   woken : step z st (Event.Design (Activate s)) ≡ outcome 0 (result z st (Event.Design (Activate s))) st st₁
   woken = all-asked z st (Event.Design (Activate s)) (k .good) (k .slot, (k .filled, (k .resting, tt)))
@@ -85,15 +87,15 @@ module _ (z : Sizes) (st : State) (s p : ℕ) (k : Listed z st s p) where
   good₁ = subst (λ (o : Outcome State). Good z (o .left)) woken (kept z st (Event.Design (Activate s)) (k .good))
 
   active₁ : files st₁ .active s ≡ 1
-  unfolding carried counted Designs.activate
+  unfolding whole supplied isFault carried counted Designs.activate
   active₁ = getD-set-same (st .memory .slots .active) s 1 0 (omega (arith, f₀ .memory .active, k .slot))
 
   address₁ : files st₁ .address i ≡ files st .map i
-  unfolding carried counted Designs.activate
+  unfolding whole supplied isFault carried counted Designs.activate
   address₁ = elim (at-store (st .memory .held .addresses) (ofSlot z s) (at (st .disk .maps)) i (omega (arith, f₀ .memory .addresses, within))) [ inl x ↦ x .1 | inr x ↦ absurd (x .0 slot-is) ]
 
   live₁ : Holds (live (files st₁) i)
-  unfolding carried counted Designs.activate
+  unfolding whole supplied isFault carried counted Designs.activate
   live₁ = go (files st .map i) refl (k .listed)
     where
       go : (m : ℕ) → files st .map i ≡ m → ¬ (m ≡ 0) → Holds (live (files st₁) i)
@@ -110,8 +112,21 @@ module _ (z : Sizes) (st : State) (s p : ℕ) (k : Listed z st s p) where
           )
 
   same₁ : (files st₁ .number s ≡ files st .number s) × (frames st₁ ≡ frames st) × (st₁ .memory .core .free-queue ≡ st .memory .core .free-queue)
-  unfolding carried counted Designs.activate
+  unfolding whole supplied isFault carried counted Designs.activate
   same₁ = (refl, refl, refl)
+
+  -- the chip has no copy of a record that was filed, and an activate brings none in
+  chip₁ : st₁ .memory .chip ≡ st .memory .chip
+  chip₁ = chip-stays z st f₀ r₀ (good-chip z st (k .good)) (Event.Design (Activate s)) tt (k .slot, (k .filled, (k .resting, tt)))
+
+  uncopied : (b : ℕ) → b < z .chip → ¬ (at (st .memory .chip .copies) b ≡ files st .map i)
+  uncopied b h = go (files st .map i) refl (k .listed)
+    where
+      go : (m : ℕ) → files st .map i ≡ m → ¬ (m ≡ 0) → ¬ (at (st .memory .chip .copies) b ≡ m)
+      go zero e n c = n refl
+      go (suc r) e n c =
+          let filed = r₀ .records .filed i within r e (λ a. k .resting (ap (files st .active) (sym slot-is) ∙ a)) in
+          omega (arith, filed .1, good-chip z st (k .good) .rules .live b h r c .0)
 
   f₁ : Fit z st₁
   f₁ = fit z st₁ (good₁ .0)
@@ -136,8 +151,11 @@ module _ (z : Sizes) (st : State) (s p : ℕ) (k : Listed z st s p) where
   unfolding Pages.faultFrame
   below = first-below (st₁ .memory .core .free-queue) (f₁ .memory .free-queue) (r₁ .queues .free-queue) some₁
 
+  abbrev c₂ : State
+  c₂ = carried z st₁ (Event.Page (Fault s p))
+
   abbrev st₂ : State
-  st₂ = carried z st₁ (Event.Page (Fault s p))
+  st₂ = whole z st₁ (Event.Page (Fault s p))
 
   faulted : step z st₁ (Event.Page (Fault s p)) ≡ outcome 0 (result z st₁ (Event.Page (Fault s p))) st₁ st₂
   faulted = all-asked z st₁ (Event.Page (Fault s p)) good₁
@@ -146,25 +164,46 @@ module _ (z : Sizes) (st : State) (s p : ℕ) (k : Listed z st s p) where
   good₂ : Good z st₂
   good₂ = subst (λ (o : Outcome State). Good z (o .left)) faulted (kept z st₁ (Event.Page (Fault s p)) good₁)
 
-  begun : st₂ ≡ counted z (Pages.beginRead z st₁ i f)
+  begun : c₂ ≡ counted z (Pages.beginRead z st₁ i f)
   unfolding carried Pages.fault
   begun = ap (counted z) (if-true (test (live (files st₁) i)) _ _ (complete (live (files st₁) i) live₁))
 
-  frame₂ : frames st₂ .frame f ≡ Pages.awaiting i
+  awaits : frames c₂ .frame f ≡ Pages.awaiting i
   unfolding Pages.beginRead counted
-  frame₂ = ap (λ (x : State). frames x .frame f) begun ∙ getD-set-same (st₁ .memory .core .frames) f (Pages.awaiting i) noFrame (omega (arith, f₁ .memory .frames, below))
+  awaits = ap (λ (x : State). frames x .frame f) begun ∙ getD-set-same (st₁ .memory .core .frames) f (Pages.awaiting i) noFrame (omega (arith, f₁ .memory .frames, below))
+
+  address₂ : files c₂ .address i ≡ files st .map i
+  unfolding Pages.beginRead counted
+  address₂ = ap (λ (x : State). files x .address i) begun ∙ address₁
+
+  -- so its words must be read
+  not-found : ¬ (Holds (found z (st₁ .memory .chip) c₂ f))
+  not-found h =
+      let (b, l, e) = h .1 in
+      let is : suc (Writeback.recordIn z c₂ f) ≡ files st .map i = ap (λ (g : Frame). suc (pred (files c₂ .address (pred (g .page))))) awaits ∙ ap (λ (a : ℕ). suc (pred a)) address₂ ∙ sym (not-zero (files st .map i) (k .listed)) in
+      uncopied b l (ap (λ (c : Chip). at (c .copies) b) (sym chip₁) ∙ e ∙ is)
+
+  core₂ : st₂ .memory .core ≡ c₂ .memory .core
+  unfolding whole supplied isFault arrives
+  core₂ = rw (untold (found z (st₁ .memory .chip) c₂ f) not-found) refl
+
+  frame₂ : frames st₂ .frame f ≡ Pages.awaiting i
+  frame₂ = ap (λ (c : Core). frameAt (c .frames) f) core₂ ∙ awaits
 
   other₂ : (g : ℕ) → ¬ (g ≡ f) → frames st₂ .frame g ≡ frames st₁ .frame g
   unfolding Pages.beginRead counted
-  other₂ g d = ap (λ (x : State). frames x .frame g) begun ∙ getD-set-other (st₁ .memory .core .frames) f g (Pages.awaiting i) noFrame d
+  other₂ g d = ap (λ (c : Core). frameAt (c .frames) g) core₂ ∙ ap (λ (x : State). frames x .frame g) begun ∙ getD-set-other (st₁ .memory .core .frames) f g (Pages.awaiting i) noFrame d
 
   same₂ : (files st₂ .number s ≡ files st₁ .number s) × (files st₂ .active s ≡ files st₁ .active s)
-  unfolding Pages.beginRead counted
+  unfolding whole supplied Pages.beginRead counted
   same₂ = (ap (λ (x : State). files x .number s) begun, ap (λ (x : State). files x .active s) begun)
 
   -- ── page done ──
+  abbrev c₃ : State
+  c₃ = carried z st₂ (Event.Writeback (PageDone f 1))
+
   abbrev st₃ : State
-  st₃ = carried z st₂ (Event.Writeback (PageDone f 1))
+  st₃ = whole z st₂ (Event.Writeback (PageDone f 1))
 
   reading : frames st₂ .frame f .transfer ≡ READING
   reading = ap (λ (g : Frame). g .transfer) frame₂
@@ -175,7 +214,7 @@ module _ (z : Sizes) (st : State) (s p : ℕ) (k : Listed z st s p) where
   good₃ : Good z st₃
   good₃ = subst (λ (o : Outcome State). Good z (o .left)) arrived (kept z st₂ (Event.Writeback (PageDone f 1)) good₂)
 
-  served : st₃ ≡ counted z (Writeback.readGood z st₂ f)
+  served : c₃ ≡ counted z (Writeback.readGood z st₂ f)
   unfolding carried Writeback.pageDone
   served = rw (eq-eqb (frames st₂ .frame f .transfer) READING reading)
 
@@ -183,15 +222,15 @@ module _ (z : Sizes) (st : State) (s p : ℕ) (k : Listed z st s p) where
   f₂ = fit z st₂ (good₂ .0)
 
   frame₃ : frames st₃ .frame f ≡ Pages.fresh (pred (frames st₂ .frame f .page))
-  unfolding Writeback.readGood counted
+  unfolding whole supplied isFault Writeback.readGood counted
   frame₃ = ap (λ (x : State). frames x .frame f) served ∙ getD-set-same (st₂ .memory .core .frames) f (Pages.fresh (pred (frames st₂ .frame f .page))) noFrame (omega (arith, f₂ .memory .frames, below))
 
   other₃ : (g : ℕ) → ¬ (g ≡ f) → frames st₃ .frame g ≡ frames st₂ .frame g
-  unfolding Writeback.readGood counted
+  unfolding whole supplied isFault Writeback.readGood counted
   other₃ g d = ap (λ (x : State). frames x .frame g) served ∙ getD-set-other (st₂ .memory .core .frames) f g (Pages.fresh (pred (frames st₂ .frame f .page))) noFrame d
 
   same₃ : (files st₃ .number s ≡ files st₂ .number s) × (files st₃ .active s ≡ files st₂ .active s)
-  unfolding Writeback.readGood counted
+  unfolding whole supplied isFault Writeback.readGood counted
   same₃ = (ap (λ (x : State). files x .number s) served, ap (λ (x : State). files x .active s) served)
 
   page₃ : frames st₃ .frame f .page ≡ suc i

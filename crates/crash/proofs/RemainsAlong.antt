@@ -28,7 +28,7 @@ use Rattle.model.specs.Questions.{Turning, nobody, serves, goesBack, faults, cl
 use Rattle.model.specs.Laws.Index.{split-set, slot-below}
 use Rattle.model.specs.Designs
 use Rattle.model.specs.Restart.{raised, restarted}
-use Rattle.model.specs.Step.{outcome, allFit, answer, carried, result, step, restart}
+use Rattle.model.specs.Step.{outcome, allFit, answer, carried, result, step, restart, supplied, whole}
 use Rattle.model.specs.Import.{Sheet, sheetOf, taken, has, said, imported, importAnswer, import}
 use Rattle.model.specs.Stores as S
 use Rattle.model.specs.Stores.{Call}
@@ -190,10 +190,10 @@ module _ (z : Sizes) (pos : 0 < z .pages) (i : ℕ) (within : i < allPages z) (d
 
   -- ── acts ──
   event-remains : (w : World) (e : Event) → T (w .up) → Good z w → Holds (sparesEvent z i e) → Remaining w → Remaining (act z w (event e))
-  unfolding act step noted
+  unfolding act step whole supplied noted
   event-remains w e u k t m = go (answer z (w .state) e) refl
     where
-      go : (n : ℕ) → answer z (w .state) e ≡ n → (let o = outcome n (result z (w .state) e) (w .state) (carried z (w .state) e) in Remaining (record { up = w .up; state = o .left; ledger = noted z o (fed z (w .state) e) (w .ledger) }))
+      go : (n : ℕ) → answer z (w .state) e ≡ n → (let o = outcome n (result z (w .state) e) (w .state) (whole z (w .state) e) in Remaining (record { up = w .up; state = o .left; ledger = noted z o (fed z (w .state) e) (w .ledger) }))
       go zero a = let b = before z (w .state) (w .ledger) e a (record { disk = k .disk; memory = k .memory u }) in
           record { known = note-known z pos i d x (w .ledger) (fed z (w .state) e) (fits-event w e u k b t m) (m .known); live = λ some v on. live-event w e u k b t m some on }
       go (suc n) a = rw (ne-eqb (suc n) 0 (λ q. omega (arith, q))) m

@@ -20,7 +20,7 @@ use Rattle.model.specs.State.{frames, framed, READING, pageOf}
 use Rattle.model.specs.Parts.{frameOf}
 use Rattle.model.specs.Questions.{questions, lookQuestions}
 use Rattle.model.specs.Pages
-use Rattle.model.specs.Step.{outcome, step, look, answer, asked, result, carried, all-above}
+use Rattle.model.specs.Step.{outcome, step, look, answer, asked, result, all-above, whole}
 use Rattle.model.specs.Acts.{World}
 use Rattle.model.specs.State.{allPages, slotOf}
 use Rattle.model.specs.Ledger.{packDesign}
@@ -114,7 +114,7 @@ module _ (z : Sizes) (w : World) (k : Good z w) where
   unfolding step answer result Pages.wordRead
   read-right s p n up e =
       let e′ : Event = Event.Page (Read s p n) in
-      let o = not-refused (answer z (w .state) e′) (result z (w .state) e′) (w .state) (carried z (w .state) e′) e in
+      let o = not-refused (answer z (w .state) e′) (result z (w .state) e′) (w .state) (whole z (w .state) e′) e in
       let q = all-yes 0 (asked z (w .state) (questions z (w .state) e′)) (all-above z (w .state) e′) (o .0) .1 .1 in
       o .1 .0 ∙ in-frame s p n up (q .0 .1 .1) (q .1 .1 .1 .0) (q .1 .1 .1 .1 .0)
 

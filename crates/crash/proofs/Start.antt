@@ -67,7 +67,7 @@ apart d i j r p q h = elim (in-pack d i) [
 pub start-good : (z : Sizes) (pack : Disk) (junk : Memory) → Holds (sizesFit z) → DiskFit z pack → Holds (memoryLengths z junk) → R.OnDisk z (files (record { disk = pack; memory = junk })) → Good z (start z pack junk)
 unfolding start unwritten lastInto lastUpdate noWrite noUpdate Numbered
 start-good z pack junk sizes disk lengths rules = record {
-  fit = record { sizes = within z sizes; disk = disk; memory = memory-fit z junk lengths };
+  fit = record { sizes = within z sizes; disk = disk; memory = memory-fit z junk (lengths .0) };
   rules = rules;
   disk = record {
     designs = record {
@@ -87,6 +87,7 @@ start-good z pack junk sizes disk lengths rules = record {
     };
   };
   ruled = λ u. absurd u;
+  copies = λ u. absurd u;
   memory = λ u. absurd u;
   closed = λ n. record { writing = λ f h t. t; updating = λ s h t. t };
 }

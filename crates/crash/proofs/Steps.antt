@@ -13,6 +13,7 @@ use Rattle.model.specs.Step.{answer, asked, carried, all-above}
 use Rattle.model.specs.Laws.Fit.{Fit, fit}
 use Rattle.model.specs.Ledger.{Ledger, note}
 use Rattle.model.specs.Acts.{World, fed}
+use Rattle.invariant.proofs.ChipKept.{Copies}
 use Rattle.crash.proofs.Link.{OnDisk, InMemory, Tied, Closed}
 
 -- ── one event ──
@@ -41,5 +42,6 @@ pub record Good (z : Sizes) (w : World) : Type 0 where
   pub rules : R.OnDisk z (files (w .state))
   pub disk : OnDisk z (w .state) (w .ledger)
   pub ruled : T (w .up) → Ruled z (w .state)
+  pub copies : T (w .up) → Copies z (w .state)
   pub memory : T (w .up) → InMemory z (w .state) (w .ledger)
   pub closed : ¬ (T (w .up)) → Closed z (w .ledger)

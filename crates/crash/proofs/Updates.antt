@@ -17,7 +17,7 @@ use Rattle.model.specs.declared.event.Event.{Event}
 use Rattle.model.specs.declared.event.Event.the-variants as Event
 use Rattle.model.specs.State.{State}
 use Rattle.model.specs.Questions.{Turning, nobody, serves, goesBack, faults, claims, sendsAway, turning}
-use Rattle.model.specs.Step.{outcome, answer, carried, result, step, restart}
+use Rattle.model.specs.Step.{outcome, answer, carried, result, step, restart, supplied, whole}
 use Rattle.model.specs.Import.{Sheet, sheetOf, has, said, import}
 use Rattle.model.specs.Stores as S
 use Rattle.model.specs.Stores.{Call}
@@ -151,10 +151,10 @@ module _ (z : Sizes) where
   fed-ready w (Event.Waiting Turn) k b = turn-ready (w .state) (w .ledger) (turning z (w .state))
 
   event-born : (w : World) (e : Event) → T (w .up) → Good z w → BornUpdates (w .ledger) → BornUpdates (act z w (event e) .ledger)
-  unfolding act step noted
+  unfolding act step whole supplied noted
   event-born w e u k b = go (answer z (w .state) e) refl
     where
-      go : (n : ℕ) → answer z (w .state) e ≡ n → BornUpdates (noted z (outcome n (result z (w .state) e) (w .state) (carried z (w .state) e)) (fed z (w .state) e) (w .ledger))
+      go : (n : ℕ) → answer z (w .state) e ≡ n → BornUpdates (noted z (outcome n (result z (w .state) e) (w .state) (whole z (w .state) e)) (fed z (w .state) e) (w .ledger))
       go zero a = note-born z (w .ledger) (fed z (w .state) e) (fed-ready w e k (before z (w .state) (w .ledger) e a (record { disk = k .disk; memory = k .memory u }))) b
       go (suc n) a = rw (ne-eqb (suc n) 0 (λ x. omega (arith, x))) b
 

@@ -20,7 +20,7 @@ use Rattle.leaves.specs.FreeMap.{freeMap, free-map, free-map-same}
 
 -- the state after an event about a design: numbers, accounts, the highest number, addresses, states and active switches are new
 abbrev pub after : State → List ℕ → List ℕ → List ℕ → List ℕ → List ℕ → List ℕ → State
-after st numbers accounts highest addresses states active = stateIn (st .memory .line)
+after st numbers accounts highest addresses states active = stateIn (st .memory .chip) (st .memory .line)
     (st .memory .core .frames)
     (st .memory .held .pool)
     (st .disk .records)

@@ -209,7 +209,7 @@ module _ (z : Sizes) (st : State) (k : Kept z st) where
     -- all tables, with those new that a fault changes
     abbrev left : List Frame → Pool → List ℕ → List ℕ → List ℕ → List ℕ → List ℕ → List ℕ → List ℕ → State
     left fs pool ws fq rl ads ss os fm =
-        stateIn (st .memory .line) fs pool (st .disk .records) (st .disk .numbers) (st .disk .accounts) (st .disk .maps) (st .disk .limits) (st .disk .parents) (st .disk .highest) ws fq rl ads ss os fm (st .memory .slots .active) (st .memory .slots .updating) (st .memory .slots .images) (st .memory .used)
+        stateIn (st .memory .chip) (st .memory .line) fs pool (st .disk .records) (st .disk .numbers) (st .disk .accounts) (st .disk .maps) (st .disk .limits) (st .disk .parents) (st .disk .highest) ws fq rl ads ss os fm (st .memory .slots .active) (st .memory .slots .updating) (st .memory .slots .images) (st .memory .used)
 
     module _ {fs : List Frame} (pool : Pool) {ws fq rl ads ss os fm : List ℕ} where
       -- carried out, by the way

@@ -124,7 +124,7 @@ module _ (z : Sizes) (st : State) (k : Kept z st) (s p w x : ℕ) where
 
   pub write-own : {a : Answer} {fs : List Frame} {ws us : List ℕ} → a ≡ own z sees (writing s p w x) .answer → fs ≡ own z sees (writing s p w x) .left .memory .core .frames
       → ws ≡ own z sees (writing s p w x) .left .memory .core .words → us ≡ usedLeft z sees s p w x
-      → leaves a (stateIn (st .memory .line) fs (held .pool) (st .disk .records) (st .disk .numbers) (st .disk .accounts) (st .disk .maps) (st .disk .limits) (st .disk .parents) (st .disk .highest) ws (core .free-queue) (core .removal-list)
+      → leaves a (stateIn (st .memory .chip) (st .memory .line) fs (held .pool) (st .disk .records) (st .disk .numbers) (st .disk .accounts) (st .disk .maps) (st .disk .limits) (st .disk .parents) (st .disk .highest) ws (core .free-queue) (core .removal-list)
       (held .addresses) (held .states) (held .owners) (held .free-map) (st .memory .slots .active) (st .memory .slots .updating) (st .memory .slots .images) us)
       ≡ own z st (writing s p w x)
   unfolding carried result counted Pages.write frameOf usedThen charged payer

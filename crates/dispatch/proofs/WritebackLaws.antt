@@ -15,6 +15,7 @@ use Rattle.model.specs.Setters.{counted}
 use Rattle.model.specs.Questions.{questions, wouldStore}
 use Rattle.model.specs.Parts.{frameOf}
 use Rattle.model.specs.Writeback
+use Rattle.model.specs.Laws.Nulled.{claimNulls, nulledBy}
 use Rattle.model.specs.Lent.{stateIn, same-state, noPool}
 use Rattle.model.specs.Step.{Outcome, outcome, carried, result}
 use Rattle.model.specs.Laws.Own.{own, leaves}
@@ -63,7 +64,7 @@ module _ (z : Sizes) (st : State) (k : Kept z st) where
     done-same P a b c d = by-two P (eqb (frames st .frame f .transfer) READING) (by-two P (eqb good 1) a b) (by-two P (eqb good 1) c d)
 
     pub page-done-own : {fs : List Frame} {a : Answer} {rs ws fq rl ss : List ℕ} → DoneWork.Said (own z done-sees (pageDone f good)) fs a rs ws fq rl ss
-        → leaves a (stateIn (st .memory .line) fs (held .pool) rs (st .disk .numbers) (st .disk .accounts) (st .disk .maps) (st .disk .limits) (st .disk .parents) (st .disk .highest) ws fq rl (held .addresses) ss (held .owners) (held .free-map) (slots .active) (slots .updating) (slots .images) (st .memory .used))
+        → leaves a (stateIn (st .memory .chip) (st .memory .line) fs (held .pool) rs (st .disk .numbers) (st .disk .accounts) (st .disk .maps) (st .disk .limits) (st .disk .parents) (st .disk .highest) ws fq rl (held .addresses) ss (held .owners) (held .free-map) (slots .active) (slots .updating) (slots .images) (st .memory .used))
         ≡ own z st (pageDone f good)
     unfolding carried result counted Writeback.pageDone Writeback.readGood Writeback.readFailed Writeback.writeGood Writeback.writeFailed Writeback.storeFrame Writeback.freeFrame
     page-done-own = λ (e-answer, (e-frames, (e-records, (e-words, (e-free-queue, (e-removal-list, e-states)))))). own-by z st done-sees (pageDone f good) refl refl e-answer
@@ -97,7 +98,7 @@ module _ (z : Sizes) (st : State) (k : Kept z st) where
     map-sees pool = seenMapDone pool (st .disk .numbers) (st .disk .maps) (held .states) (held .owners) (held .free-map) (slots .active) (slots .updating) (slots .images)
 
     pub map-done-own : (n : ℕ) {a : Answer} {ms ss os fm us is : List ℕ} → MapWork.Said (λ p. own z (map-sees p) (mapDone s good)) (freeCount z (files st .state)) n a ms ss os fm us is
-        → leaves a (stateIn (st .memory .line) (core .frames) (deposited n (held .pool)) (st .disk .records) (st .disk .numbers) (st .disk .accounts) ms (st .disk .limits) (st .disk .parents) (st .disk .highest) (core .words) (core .free-queue) (core .removal-list) (held .addresses) ss os fm (slots .active) us is (st .memory .used))
+        → leaves a (stateIn (st .memory .chip) (st .memory .line) (core .frames) (deposited n (held .pool)) (st .disk .records) (st .disk .numbers) (st .disk .accounts) ms (st .disk .limits) (st .disk .parents) (st .disk .highest) (core .words) (core .free-queue) (core .removal-list) (held .addresses) ss os fm (slots .active) us is (st .memory .used))
         ≡ own z st (mapDone s good)
     unfolding carried result counted Writeback.mapDone Writeback.storeImage Writeback.updateOver
     map-done-own n = λ (e-answer, (e-pool, (e-maps, (e-states, (e-owners, (e-free-map, (e-updating, e-images))))))). own-by z st (map-sees noPool) (mapDone s good) refl refl e-answer
@@ -136,7 +137,7 @@ module _ (z : Sizes) (st : State) (k : Kept z st) where
     update-sees = seenUpdate (core .frames) (st .disk .numbers) (held .addresses) (held .states) (held .owners) (slots .active) (slots .updating) (slots .images)
 
     pub update-own : {a : Answer} {ads ss us is : List ℕ} → UpdateWork.Said (own z update-sees (update s)) a ads ss us is
-        → leaves a (stateIn (st .memory .line) (core .frames) (held .pool) (st .disk .records) (st .disk .numbers) (st .disk .accounts) (st .disk .maps) (st .disk .limits) (st .disk .parents) (st .disk .highest) (core .words) (core .free-queue) (core .removal-list) ads ss (held .owners) (held .free-map) (slots .active) us is (st .memory .used))
+        → leaves a (stateIn (st .memory .chip) (st .memory .line) (core .frames) (held .pool) (st .disk .records) (st .disk .numbers) (st .disk .accounts) (st .disk .maps) (st .disk .limits) (st .disk .parents) (st .disk .highest) (core .words) (core .free-queue) (core .removal-list) ads ss (held .owners) (held .free-map) (slots .active) us is (st .memory .used))
         ≡ own z st (update s)
     unfolding carried result counted Writeback.update wouldStore
     update-own = λ (e-answer, (e-addresses, (e-states, (e-updating, e-images)))). own-by z st update-sees (update s) refl refl e-answer
@@ -160,8 +161,13 @@ module _ (z : Sizes) (st : State) (k : Kept z st) where
   abbrev claim-sees : State
   claim-sees = seenClaim (core .frames) (st .disk .accounts) (st .disk .limits) (st .disk .parents) (core .words) (core .free-queue) (core .removal-list) (held .addresses) (held .states) (st .memory .used)
 
+  -- the record that it makes nulled
+  pub claim-nulls : {n : ℕ} → n ≡ nulledBy z claim-sees claim → n ≡ nulledBy z st claim
+  unfolding nulledBy claimNulls Writeback.looking Writeback.beginsWrite Writeback.zeros
+  claim-nulls e = e
+
   pub claim-own : {fs : List Frame} {a : Answer} {fq rl ss us : List ℕ} → ClaimWork.Said z claim-sees fs a fq rl ss us
-      → leaves a (stateIn (st .memory .line) fs (held .pool) (st .disk .records) (st .disk .numbers) (st .disk .accounts) (st .disk .maps) (st .disk .limits) (st .disk .parents) (st .disk .highest) (core .words) fq rl (held .addresses) ss (held .owners) (held .free-map) (slots .active) (slots .updating) (slots .images) us)
+      → leaves a (stateIn (st .memory .chip) (st .memory .line) fs (held .pool) (st .disk .records) (st .disk .numbers) (st .disk .accounts) (st .disk .maps) (st .disk .limits) (st .disk .parents) (st .disk .highest) (core .words) fq rl (held .addresses) ss (held .owners) (held .free-map) (slots .active) (slots .updating) (slots .images) us)
       ≡ own z st claim
   unfolding carried result counted Writeback.claim Writeback.looking Writeback.beginsWrite Writeback.zeros Writeback.freeFrame usedThen payer
   claim-own = λ (e-answer, (e-frames, (e-free-queue, (e-removal-list, (e-states, e-used))))). own-by z st claim-sees claim refl refl e-answer
@@ -191,7 +197,7 @@ module _ (z : Sizes) (st : State) (k : Kept z st) where
     truncate-sees = seenTruncate (core .frames) (st .disk .numbers) (st .disk .accounts) (st .disk .limits) (st .disk .parents) (core .free-queue) (core .removal-list) (held .addresses) (held .states) (slots .active) (st .memory .used)
 
     pub truncate-own : {fs : List Frame} {a : Answer} {fq rl ds ss us : List ℕ} → TruncateWork.Said z truncate-sees s n fs a fq rl ds ss us
-        → leaves a (stateIn (st .memory .line) fs (held .pool) (st .disk .records) (st .disk .numbers) (st .disk .accounts) (st .disk .maps) (st .disk .limits) (st .disk .parents) (st .disk .highest) (core .words) fq rl ds ss (held .owners) (held .free-map) (slots .active) (slots .updating) (slots .images) us)
+        → leaves a (stateIn (st .memory .chip) (st .memory .line) fs (held .pool) (st .disk .records) (st .disk .numbers) (st .disk .accounts) (st .disk .maps) (st .disk .limits) (st .disk .parents) (st .disk .highest) (core .words) fq rl ds ss (held .owners) (held .free-map) (slots .active) (slots .updating) (slots .images) us)
         ≡ own z st (truncate s n)
     unfolding carried result counted Writeback.truncate Writeback.cutFrames frameOf T.usedThen payer charged
     truncate-own = λ (e-answer, (e-frames, (e-free-queue, (e-removal-list, (e-addresses, (e-states, e-used)))))). own-by z st truncate-sees (truncate s n) refl refl e-answer

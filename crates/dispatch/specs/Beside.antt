@@ -34,6 +34,7 @@ use Rattle.model.specs.Writeback
 use Rattle.model.specs.Writeback.{looking, looked, beginsWrite, zeros, recordIn, freeFrame, claim, readGood, readFailed, writeGood, writeFailed, storeFrame, pageDone, storeImage, leaver, updateOver, mapDone}
 use Rattle.model.specs.Step.{Outcome, outcome, carried, result}
 use Rattle.model.specs.Laws.Own.{own}
+use Rattle.model.specs.Laws.Nulled.{claimNulls, nulledBy}
 use Rattle.model.specs.Laws.Ruled.{Ruled}
 use Rattle.model.specs.Laws.Fit.{Fit}
 use Rattle.dispatch.specs.Kept.{Kept}
@@ -211,3 +212,16 @@ kept-alone z st k = kept-beside noLine z st no-line-long (no-line-ruled (allPage
 -- what a function of the four families leaves, with any line
 pub leaves-beside : (line : List ℕ) (z : Sizes) (st : State) (e : Event) → Apart e → (o : Outcome State) → o ≡ own z st e → beside line o ≡ own z (setLine line st) e
 leaves-beside line z st e a o p = ap (beside line) p ∙ sym (own-beside line z st e a)
+
+-- .. and what it tells of a record made nulled
+pub nulls-beside : (line : List ℕ) (z : Sizes) (st : State) (e : Event) → Apart e → nulledBy z (setLine line st) e ≡ nulledBy z st e
+unfolding nulledBy claimNulls looking beginsWrite zeros
+nulls-beside line z st (Event.Design e) a = refl
+nulls-beside line z st (Event.Account e) a = refl
+nulls-beside line z st (Event.Page e) a = refl
+nulls-beside line z st (Event.Writeback Claim) a = refl
+nulls-beside line z st (Event.Writeback (Truncate s p)) a = refl
+nulls-beside line z st (Event.Writeback (Update s)) a = refl
+nulls-beside line z st (Event.Writeback (PageDone f good)) a = refl
+nulls-beside line z st (Event.Writeback (MapDone s good)) a = refl
+nulls-beside line z st (Event.Waiting e) a = absurd a

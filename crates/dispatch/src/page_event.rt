@@ -44,13 +44,14 @@ pub fn page_event(
     requires { ⌜ Kept sizes
         (given (framesGiven sizes frames) pool records numbers accounts maps limits parents highest
         «frame_words» «free_queue» «removal_list» addresses states owners «free_map» active updating images used) ⌝ }
-    ensures { λ r. ⌜ leaves (r .answer)
+    ensures left { λ r. ⌜ leaves (r .answer)
         (left (framesLeft sizes frames) (deposited (r .deposited) (taken sizes (r .taken) pool)) records numbers accounts maps limits parents highest
         «frame_words» «free_queue» «removal_list» addresses states owners «free_map» active updating images used)
         ≡ own sizes
         (entered (framesEntered sizes frames) pool records numbers accounts maps limits parents highest
         «frame_words» «free_queue» «removal_list» addresses states owners «free_map» active updating images used)
         (Event.Page event) ⌝ }
+    ensures nulled { λ r. ⌜ r .nulled ≡ 0 ⌝ }
 {
     match event {
         Page::Fault { slot, page } => fault(

@@ -3,9 +3,11 @@ ghost use mathlib.Core.Path.{_≡_};
 ghost use Rattle.model.specs.declared.event.Event.the-variants as Event;
 ghost use Rattle.model.specs.Lent.{given, entered, left};
 ghost use Rattle.model.specs.Laws.Own.{own, leaves};
+ghost use Rattle.model.specs.Laws.Nulled.{nulledBy};
 ghost use Rattle.model.specs.Pool.{taken, deposited};
 ghost use Rattle.leaves.specs.Packed.{framesGiven, framesEntered, framesLeft};
 ghost use Rattle.dispatch.specs.Kept.{Kept};
+use crate::handed::claimed;
 use crate::handed::freed;
 use crate::handed::told;
 use model::applied::Worked;
@@ -45,16 +47,20 @@ pub fn writeback_event(
     requires { ⌜ Kept sizes
         (given (framesGiven sizes frames) pool records numbers accounts maps limits parents highest
         «frame_words» «free_queue» «removal_list» addresses states owners «free_map» active updating images used) ⌝ }
-    ensures { λ r. ⌜ leaves (r .answer)
+    ensures left { λ r. ⌜ leaves (r .answer)
         (left (framesLeft sizes frames) (deposited (r .deposited) (taken sizes (r .taken) pool)) records numbers accounts maps limits parents highest
         «frame_words» «free_queue» «removal_list» addresses states owners «free_map» active updating images used)
         ≡ own sizes
         (entered (framesEntered sizes frames) pool records numbers accounts maps limits parents highest
         «frame_words» «free_queue» «removal_list» addresses states owners «free_map» active updating images used)
         (Event.Writeback event) ⌝ }
+    ensures nulled { λ r. ⌜ r .nulled ≡ nulledBy sizes
+        (entered (framesEntered sizes frames) pool records numbers accounts maps limits parents highest
+        «frame_words» «free_queue» «removal_list» addresses states owners «free_map» active updating images used)
+        (Event.Writeback event) ⌝ }
 {
     match event {
-        Writeback::Claim => told(claim(
+        Writeback::Claim => claimed(claim(
             sizes,
             frames,
             accounts,

@@ -3,7 +3,7 @@ use mathlib.Core.Path.{_≡_, refl}
 use mathlib.Core.List.{List, [], _∷_, _++_}
 use Prim.Native.Nat.{ℕ}
 use Rattle.model.specs.Acts.{Act}
-use Rattle.edges.specs.Lists.{limit, fault, read, write, wire, unwire, claim, truncate, pageDone, look, restart, small, says, leaves}
+use Rattle.edges.specs.Lists.{limit, fault, read, write, wire, unwire, claim, truncate, pageDone, look, restart, small, says, leaves, activate, deactivate}
 use Rattle.edges.specs.Edges.{opened, listing}
 
 -- the account's used count
@@ -22,7 +22,7 @@ abbrev stored : List Act
 stored = writing ++ pageDone 0 1 ∷ []
 
 abbrev again : List Act
-again = stored ++ fault 0 0 ∷ pageDone 1 1 ∷ []
+again = stored ++ fault 0 0 ∷ []
 
 pub record Charges : Type 0 where
   -- Looking is free: a page is brought in, read, looked at, wired, unwired and claimed again.
@@ -44,7 +44,7 @@ pub record Charges : Type 0 where
   woven-already : says small (once ++ limit 0 0 ∷ write 0 0 1 4 ∷ []) ≡ 0 ∷ 0 ∷ []
   live-already : says small (again ++ limit 0 0 ∷ write 0 0 1 4 ∷ []) ≡ 0 ∷ 0 ∷ []
   in-transfer : says small (writing ++ limit 0 0 ∷ write 0 0 1 4 ∷ []) ≡ 14 ∷ 0 ∷ []
-  awaited : says small (stored ++ limit 0 0 ∷ fault 0 0 ∷ write 0 0 1 4 ∷ []) ≡ 14 ∷ 0 ∷ []
+  awaited : says small (listing ++ deactivate 0 ∷ activate 0 ∷ limit 0 0 ∷ fault 0 0 ∷ write 0 0 1 4 ∷ []) ≡ 14 ∷ 0 ∷ []
   -- Page done changes no charge, good or failed: being written it is modified, being read its address is live.
   begun : used writing ≡ 1 ∷ []
   written : used stored ≡ 1 ∷ []

@@ -20,7 +20,7 @@ listing = opened 2 ++ write 0 0 1 9 ∷ claim ∷ pageDone 0 1 ∷ update 0 ∷ 
 
 -- the listed page in a frame again, written to zeros and claimed
 abbrev blanked : List Act
-blanked = listing ++ fault 0 0 ∷ pageDone 1 1 ∷ write 0 0 1 0 ∷ claim ∷ []
+blanked = listing ++ fault 0 0 ∷ write 0 0 1 0 ∷ claim ∷ []
 
 -- the frames as numbers in a row
 abbrev flat : List Frame → List ℕ
@@ -29,9 +29,10 @@ flat (g ∷ gs) = g .page ∷ g .used ∷ g .modified ∷ g .wired ∷ g .initia
 
 -- all tables in a row
 unfoldable pub tables : State → List ℕ
-tables st = st .disk .records ++ st .disk .numbers ++ st .disk .accounts ++ st .disk .maps ++ st .disk .limits ++ st .disk .parents ++ flat (st .memory .core .frames) ++ st .memory .core .words
+tables st = st .disk .records ++ st .disk .numbers ++ st .disk .accounts ++ st .disk .maps ++ st .disk .limits ++ st .disk .parents ++ st .disk .highest ++ flat (st .memory .core .frames) ++ st .memory .core .words
     ++ st .memory .core .free-queue ++ st .memory .core .removal-list ++ st .memory .held .addresses ++ st .memory .held .states ++ st .memory .held .owners ++ st .memory .held .free-map
-    ++ st .memory .held .pool .hand ∷ st .memory .held .pool .free ∷ st .memory .slots .active ++ st .memory .slots .updating ++ st .memory .slots .images ++ st .memory .line ++ st .memory .used
+    ++ st .memory .held .pool .hand ∷ st .memory .held .pool .free ∷ st .memory .slots .active ++ st .memory .slots .updating ++ st .memory .slots .images
+    ++ st .memory .chip .words ++ st .memory .chip .copies ++ st .memory .chip .next ++ st .memory .line ++ st .memory .used
 
 unfoldable pub equal : List ℕ → List ℕ → Bool
 equal [] [] = true
@@ -114,7 +115,7 @@ edges = record {
 
 -- 12. Limit 1, design A's listed page claimed as zeros, design B's page written and updated, cut: restart gives used 2; (02) the fault is accepted and the first write gives 18.
 twelfth : List Act
-twelfth = restart ∷ limit 0 1 ∷ create 0 0 7 ∷ create 1 0 8 ∷ activate 0 ∷ fault 0 0 ∷ write 0 0 0 9 ∷ claim ∷ pageDone 0 1 ∷ update 0 ∷ mapDone 0 1 ∷ fault 0 0 ∷ pageDone 1 1 ∷ write 0 0 0 0 ∷ claim
+twelfth = restart ∷ limit 0 1 ∷ create 0 0 7 ∷ create 1 0 8 ∷ activate 0 ∷ fault 0 0 ∷ write 0 0 0 9 ∷ claim ∷ pageDone 0 1 ∷ update 0 ∷ mapDone 0 1 ∷ fault 0 0 ∷ write 0 0 0 0 ∷ claim
     ∷ activate 1 ∷ fault 1 0 ∷ write 1 0 0 4 ∷ claim ∷ pageDone 0 1 ∷ update 1 ∷ mapDone 1 1 ∷ cut [] [] ∷ restart ∷ []
 
 e12-used : leaves small twelfth .memory .used ≡ 2 ∷ []

@@ -5,10 +5,12 @@ pub mod Lists
 pub mod Edges
 pub mod ChargeEdges
 pub mod TransferEdges
+pub mod ChipEdges
 pub mod LineEdges
 pub mod PayerEdges
 pub mod RuleList
 pub mod Refusals
+pub mod ChipRefusals
 pub mod Runs
 pub mod StoreEdges
 pub mod Sheets

@@ -13,7 +13,7 @@ use Rattle.model.specs.State.{State, frameAt, WRITING}
 use Rattle.model.specs.Setters.{setUsed, setLine}
 use Rattle.model.specs.Step.{step}
 use Rattle.model.specs.Acts.{Act}
-use Rattle.edges.specs.Lists.{create, fault, write, wire, claim, pageDone, restart, join, turn, small, sized, says, leaves}
+use Rattle.edges.specs.Lists.{create, fault, write, wire, claim, pageDone, restart, join, turn, small, sized, says, leaves, activate, deactivate}
 use Rattle.edges.specs.Edges.{opened, listing, tables, equal}
 
 -- the pages that wait, once the list is carried out
@@ -26,7 +26,7 @@ abbrev writing : List Act
 writing = opened 2 ++ write 0 0 1 9 ∷ claim ∷ []
 
 abbrev reading : List Act
-reading = listing ++ fault 0 0 ∷ []
+reading = listing ++ deactivate 0 ∷ activate 0 ∷ fault 0 0 ∷ []
 
 -- one frame: page 0 is in it, and page 1 waits
 abbrev narrow : Sizes

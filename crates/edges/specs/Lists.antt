@@ -23,6 +23,7 @@ use Rattle.model.specs.Rules
 use Rattle.model.specs.Setters
 use Rattle.model.specs.Questions
 use Rattle.model.specs.Parts
+use Rattle.model.specs.Chip
 use Rattle.model.specs.Designs
 use Rattle.model.specs.Accounts
 use Rattle.model.specs.Pages
@@ -102,9 +103,9 @@ restart = Acts.restarting
 
 -- ── sizes and memory ──
 abbrev pub sized : ℕ → ℕ → Sizes
-sized r f = record { words = 2; records = r; frames = f; slots = 2; pages = 3; accounts = 1 }
+sized r f = record { words = 2; records = r; frames = f; slots = 2; pages = 3; accounts = 1; chip = 2 }
 
--- the event program's: W 2, R 4, F 2, S 2, N 3, Q 1
+-- the event program's: W 2, R 4, F 2, S 2, N 3, Q 1, (02) B 2
 abbrev pub small : Sizes
 small = sized 4 2
 
@@ -125,6 +126,7 @@ junk z = record {
     pool = record { hand = 99; free = 99 };
   };
   slots = record { active = replicate (z .slots) 1; updating = replicate (z .slots) 1; images = replicate (State.allPages z) 2 };
+  chip = record { words = replicate (z .chip * z .words) 6; copies = replicate (z .chip) 4; next = replicate 1 9 };
   line = replicate State.LINE 3;
   used = replicate (z .accounts) 8;
 }
@@ -152,13 +154,13 @@ cutIn (Acts.cuttingIn c n writes updates m) k fs ss = cut fs ss
 -- the answer and the result of one act (a cut has none)
 unfoldable pub said : Sizes → World → Act → List ℕ
 unfolding all any count find those tab bits members packed times without tail head push-back push-front pop remove size first firstNo test choose store State.charged Payer.payerIn Payer.payer State.payer
-    State.usedOf State.freeCount State.freeWord Rules.diskRules Rules.rangeRules Rules.recordRules Rules.queueRules Rules.frameRules Rules.countRules Rules.lineRules Rules.memoryRules
+    State.usedOf State.freeCount State.freeWord Rules.diskRules Rules.rangeRules Rules.recordRules Rules.queueRules Rules.frameRules Rules.countRules Rules.lineRules Rules.chipRules Rules.tableRules Rules.memoryRules
     Rules.allRules Setters.counted Questions.wouldStore Questions.turning Line.join Line.turn Line.turnResult Parts.frameOf Parts.byHand Parts.neighbour Parts.nearest Parts.pick Accounts.shifted Accounts.limit Accounts.move
     Designs.create Designs.delete Designs.activate Designs.deactivate Pages.beginRead
-    Pages.serveZeros Pages.takeRecord Pages.read Pages.wordRead Pages.write Pages.wire Pages.unwire Pages.lookStart Pages.faultFrame Pages.fault Writeback.look Writeback.looking
+    Chip.placeOf Chip.placeFor Chip.copied Chip.takeCopy Chip.arrives Chip.onlyLive Chip.emptyChip Pages.serveZeros Pages.takeRecord Pages.read Pages.wordRead Pages.write Pages.wire Pages.unwire Pages.lookStart Pages.faultFrame Pages.fault Writeback.look Writeback.looking
     Writeback.zeros Writeback.freeFrame Writeback.beginsWrite Writeback.claim Writeback.cutFrames Writeback.truncate Writeback.update Writeback.readGood Writeback.readFailed
     Writeback.storeFrame Writeback.writeGood Writeback.writeFailed Writeback.pageDone Writeback.storeImage Writeback.updateOver Writeback.mapDone Restart.formatted Restart.isListed
-    Restart.listedAt Restart.highestOf Restart.raised Restart.restarted Step.allFit Step.answer Step.carried Step.result Step.step Step.format Step.restart Step.look Ledger.noWrite Ledger.noUpdate Ledger.put
+    Restart.listedAt Restart.highestOf Restart.raised Restart.restarted Step.allFit Step.answer Step.carried Step.isFault Step.supplied Step.filled Step.whole Step.result Step.step Step.format Step.restart Step.look Ledger.noWrite Ledger.noUpdate Ledger.put
     Ledger.over Ledger.finishWrite Ledger.finishUpdate Ledger.strikeWrite Ledger.strikeUpdate Ledger.finishWrites Ledger.finishUpdates Ledger.lose Ledger.found Ledger.recount
     Ledger.note Ledger.packDesign Ledger.packNumber Ledger.unwritten Stores.first Stores.stores Stores.answered Stores.made Import.taking Import.taken Import.fieldOf Import.has Import.said Import.storeRecord Import.entry Import.storeSlot Import.made Import.imported
     Import.importAnswer Import.import Export.exported Export.export Pool.taken Ledger.spent Ledger.carriedIn Ledger.placed Acts.partly Acts.wholly Acts.fedPart Sheet.bytes Sheet.runs Sheet.head Sheet.pageField Sheet.shownField

@@ -12,7 +12,7 @@ use Rattle.edges.specs.Worlds.{nine, five, stored, written, dropped, old
 
 -- the page is stored, and in a frame again
 abbrev back : List Act
-back = nine ++ fault 0 0 ∷ pageDone 1 1 ∷ []
+back = nine ++ fault 0 0 ∷ []
 
 -- .. as the update begins; woven further; being written again; its second write failed; claimed unmodified; after an update that is finished
 abbrev framed : List Act

@@ -49,7 +49,7 @@ unwritten = opened ++ fault 1 0 ∷ pageDone 0 1 ∷ read 1 0 1 ∷ stored
 
 -- page 0 is written to the pack's record: 5, and then 6
 abbrev written : List Act
-written = opened ++ fault 1 0 ∷ pageDone 0 1 ∷ write 1 0 1 5 ∷ claim ∷ pageDone 0 1 ∷ fault 1 0 ∷ pageDone 1 1 ∷ write 1 0 1 6 ∷ claim ∷ pageDone 1 1 ∷ stored
+written = opened ++ fault 1 0 ∷ pageDone 0 1 ∷ write 1 0 1 5 ∷ claim ∷ pageDone 0 1 ∷ fault 1 0 ∷ write 1 0 1 6 ∷ claim ∷ pageDone 1 1 ∷ stored
 
 -- the update begins with the pack's words; it and a write of page 0 land at a cut
 abbrev landed : List Act

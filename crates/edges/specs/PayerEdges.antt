@@ -14,7 +14,7 @@ use Rattle.edges.specs.Lists.{limit, move, create, delete, activate, fau
 
 -- four accounts
 abbrev four : Sizes
-four = record { words = 1; records = 6; frames = 4; slots = 3; pages = 3; accounts = 4 }
+four = record { words = 1; records = 6; frames = 4; slots = 3; pages = 3; accounts = 4; chip = 2 }
 
 -- each under the one before it; and a mill, account 1, with two studios
 abbrev chain : List ℕ

@@ -5,7 +5,7 @@ use Prim.Native.Nat.{ℕ}
 use Rattle.model.specs.declared.frame.Frame.{Frame}
 use Rattle.model.specs.State.{frameAt, NONE}
 use Rattle.model.specs.Acts.{Act}
-use Rattle.edges.specs.Lists.{limit, create, activate, fault, read, write, wire, unwire, claim, truncate, pageDone, restart, join, turn, small, leaves}
+use Rattle.edges.specs.Lists.{limit, create, activate, deactivate, fault, read, write, wire, unwire, claim, truncate, pageDone, restart, join, turn, small, leaves}
 use Rattle.edges.specs.Edges.{opened, listing}
 
 -- the removal list and the free queue that a list leaves, and a frame of it
@@ -40,8 +40,8 @@ pub record Places : Type 0 where
   -- Truncate: their frames freed in page order.
   cut-order : free (restart ∷ limit 0 2 ∷ create 0 0 7 ∷ activate 0 ∷ fault 0 1 ∷ fault 0 0 ∷ truncate 0 0 ∷ []) ≡ 2 ∷ 1 ∷ []
   -- Good read: list's front. Failed read: free queue's end. Failed write: list's end. Good write: free queue's end.
-  read-front : list (listing ++ fault 0 1 ∷ fault 0 0 ∷ pageDone 0 1 ∷ []) ≡ 1 ∷ 2 ∷ []
-  read-failed : free (listing ++ fault 0 0 ∷ pageDone 1 0 ∷ []) ≡ 1 ∷ 2 ∷ []
+  read-front : list (listing ++ deactivate 0 ∷ activate 0 ∷ fault 0 1 ∷ fault 0 0 ∷ pageDone 0 1 ∷ []) ≡ 1 ∷ 2 ∷ []
+  read-failed : free (listing ++ deactivate 0 ∷ activate 0 ∷ fault 0 0 ∷ pageDone 1 0 ∷ []) ≡ 1 ∷ 2 ∷ []
   write-failed : list (opened 2 ++ write 0 0 1 9 ∷ claim ∷ fault 0 1 ∷ pageDone 0 0 ∷ []) ≡ 2 ∷ 1 ∷ []
   write-good : free (opened 2 ++ write 0 0 1 9 ∷ claim ∷ pageDone 0 1 ∷ []) ≡ 2 ∷ 1 ∷ []
   -- A turn that serves sets no switch.

@@ -1,4 +1,4 @@
--- What is refused, by computation: questions 12 and 16, and for each rule of question 2 tables that no other rule refuses, where there are any.
+-- What is refused, by computation: questions 12 and 16, and for each rule of question 2 but the chip's (ChipRefusals) tables that no other rule refuses, where there are any.
 use mathlib.Core.Path.{_≡_, refl}
 use mathlib.Core.List.{List, [], _∷_, _++_}
 use Prim.Native.Nat.{ℕ}
@@ -15,8 +15,8 @@ use Rattle.edges.specs.RuleList.{ofDisk, ofAll, saysNo}
 
 -- ── the tables ──
 -- the event program's sizes, with a second account
-abbrev two : Sizes
-two = record { words = 2; records = 4; frames = 2; slots = 2; pages = 3; accounts = 2 }
+abbrev pub two : Sizes
+two = record { words = 2; records = 4; frames = 2; slots = 2; pages = 3; accounts = 2; chip = 2 }
 
 -- the answer to a limit, and the rules that say no
 unfoldable pub judged : State → List ℕ
@@ -29,7 +29,7 @@ unfolding saysNo
 found st = Step.restart two st .answer .refusal ∷ saysNo 1 (ofDisk two st)
 
 -- nothing but a restart; a design, at rest and active; its page 0 in frame 0, and page 1 in frame 1
-abbrev empty : State
+abbrev pub empty : State
 empty = leaves two (restart ∷ [])
 
 abbrev filled : State
@@ -45,14 +45,14 @@ abbrev full : State
 full = leaves two (opened 2 ++ fault 0 1 ∷ [])
 
 -- page 0 listed; at rest; in a frame again
-abbrev listed : State
-listed = leaves two listing
+abbrev pub listed : State
+listed = leaves two (listing ++ restart ∷ activate 0 ∷ [])
 
-abbrev resting : State
+abbrev pub resting : State
 resting = leaves two (listing ++ restart ∷ [])
 
 abbrev reread : State
-reread = leaves two (listing ++ fault 0 0 ∷ pageDone 1 1 ∷ [])
+reread = leaves two (listing ++ fault 0 0 ∷ [])
 
 -- its record released
 abbrev released : State
@@ -175,13 +175,13 @@ pub record Refused : Type 0 where
   framedHeld-none : judged (agree (seated active)) ≡ 2 ∷ 33 ∷ []
   framedHeld-reading : judged (moving READING served) ≡ 2 ∷ 33 ∷ []
   writingModified : judged (moving WRITING served) ≡ 2 ∷ 34 ∷ []
-  freeFrame-page : judged (onCore (onFrame 0 (λ g. setInitial 0 (fresh 0))) listed) ≡ 2 ∷ 35 ∷ []
+  freeFrame-page : judged (onCore (λ c. setWords (0 ∷ 9 ∷ 0 ∷ 0 ∷ []) (onFrame 0 (λ g. setInitial 0 (fresh 0)) c)) listed) ≡ 2 ∷ 35 ∷ []
   freeFrame-used : judged (onCore (onFrame 0 (setUsedSwitch 1)) empty) ≡ 2 ∷ 35 ∷ []
   freeFrame-modified : judged (onCore (onFrame 0 (setModified 1)) empty) ≡ 2 ∷ 35 ∷ []
   freeFrame-initial : judged (onCore (onFrame 0 (setInitial 1)) empty) ≡ 2 ∷ 35 ∷ []
   busyFrame : judged (onCore (λ c. setFreeQueue (2 ∷ 0 ∷ []) (setRemovalList (1 ∷ 0 ∷ []) c)) empty) ≡ 2 ∷ 36 ∷ []
   clean-nulled : judged (onCore (setWords (1 ∷ 0 ∷ 0 ∷ 0 ∷ [])) served) ≡ 2 ∷ 37 ∷ []
-  clean-live : judged (onDisk (setRecords (0 ∷ 8 ∷ 0 ∷ 0 ∷ 0 ∷ 0 ∷ 0 ∷ 0 ∷ [])) reread) ≡ 2 ∷ 37 ∷ []
+  clean-live : judged (onCore (setWords (0 ∷ 9 ∷ 0 ∷ 8 ∷ [])) reread) ≡ 2 ∷ 37 ∷ []
   -- The hand and the counts.
   hand : judged (onHeld (setHand 4) empty) ≡ 2 ∷ 38 ∷ []
   free-count : judged (onHeld (setFree 3) empty) ≡ 2 ∷ 39 ∷ []

@@ -44,13 +44,17 @@ module _ (z : Sizes) (st : State) where
   ofCounts = below (st .memory .held .pool .hand) (z .records) ∷ same (st .memory .held .pool .free) (freeCount z (v .state))
       ∷ (each (mapWords z) λ k. same (at (st .memory .held .free-map) k) (freeWord z (v .state) k)) ∷ (each (z .accounts) λ q. same (at (st .memory .used) q) (usedOf z v c q)) ∷ []
 
-  -- 41
+  -- 42
   abbrev pub ofLine : List Rule
   ofLine = queueOf LINE (allPages z) (st .memory .line) ∷ []
 
+  -- 43 to 46
+  abbrev pub ofChip : List Rule
+  ofChip = let word = at (st .disk .records) in let k = st .memory .chip in Rules.nextFit z (v .state) word k ∷ Rules.copyOnce z (v .state) word k ∷ Rules.copyEmpty z (v .state) word k ∷ Rules.copyLive z (v .state) word k ∷ []
+
 -- all of them
 abbrev pub ofAll : Sizes → State → List Rule
-ofAll z st = ofDisk z st ++ ofRanges z st ++ ofRecords z st ++ ofQueues z st ++ ofFrames z st ++ ofCounts z st ++ ofLine z st
+ofAll z st = ofDisk z st ++ ofRanges z st ++ ofRecords z st ++ ofQueues z st ++ ofFrames z st ++ ofCounts z st ++ ofLine z st ++ ofChip z st
 
 -- the rules of a list as one
 abbrev pub together : List Rule → Rule
@@ -60,8 +64,8 @@ together (r ∷ s ∷ rs) = r and together (s ∷ rs)
 
 -- question 2 asks these, and nothing else
 pub asked-rules : (z : Sizes) (st : State) → Rules.allRules z st
-    ≡ together (together (ofDisk z st) ∷ together (ofRanges z st) ∷ together (ofRecords z st) ∷ together (ofQueues z st) ∷ together (ofFrames z st) ∷ together (ofCounts z st) ∷ together (ofLine z st) ∷ [])
-unfolding Rules.allRules Rules.memoryRules Rules.diskRules Rules.rangeRules Rules.recordRules Rules.queueRules Rules.frameRules Rules.countRules Rules.lineRules
+    ≡ together (ofDisk z st) and together (together (ofRanges z st) ∷ together (ofRecords z st) ∷ together (ofQueues z st) ∷ together (ofFrames z st) ∷ together (ofCounts z st) ∷ together (ofLine z st) ∷ []) and together (ofChip z st)
+unfolding Rules.allRules Rules.memoryRules Rules.tableRules Rules.diskRules Rules.rangeRules Rules.recordRules Rules.queueRules Rules.frameRules Rules.countRules Rules.lineRules Rules.chipRules
 asked-rules z st = refl
 
 -- the numbers of the rules that say no, counted from n

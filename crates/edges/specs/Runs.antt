@@ -67,12 +67,12 @@ abbrev reread : List Act
 reread = restart ∷ activate 0 ∷ fault 0 0 ∷ pageDone 0 1 ∷ read 0 0 1 ∷ []
 
 -- written, stored, listed; written again, and a cut at which the open write lands
-r₁ : T (holds (opened ++ put 0 9 0 ++ update 0 ∷ mapDone 0 1 ∷ fault 0 0 ∷ pageDone 1 1 ∷ write 0 0 1 5 ∷ claim ∷ cut (1 ∷ []) [] ∷ reread))
+r₁ : T (holds (opened ++ put 0 9 0 ++ update 0 ∷ mapDone 0 1 ∷ fault 0 0 ∷ write 0 0 1 5 ∷ claim ∷ cut (1 ∷ []) [] ∷ reread))
 unfolding holds
 r₁ = tt
 
 -- the same, and the open write does not land
-r₂ : T (holds (opened ++ put 0 9 0 ++ update 0 ∷ mapDone 0 1 ∷ fault 0 0 ∷ pageDone 1 1 ∷ write 0 0 1 5 ∷ claim ∷ cut [] [] ∷ reread))
+r₂ : T (holds (opened ++ put 0 9 0 ++ update 0 ∷ mapDone 0 1 ∷ fault 0 0 ∷ write 0 0 1 5 ∷ claim ∷ cut [] [] ∷ reread))
 unfolding holds
 r₂ = tt
 
@@ -127,7 +127,7 @@ r₁₁ = tt
 
 -- a page is read and looked at while its write is under way: the write fails, is begun again and lands at a cut
 r₁₂ : T (holds (opened ++ fault 0 0 ∷ write 0 0 1 9 ∷ claim ∷ read 0 0 1 ∷ look 0 0 ∷ pageDone 0 0 ∷ read 0 0 1 ∷ write 0 0 0 4 ∷ claim ∷ read 0 0 0 ∷ pageDone 0 1 ∷ update 0 ∷ mapDone 0 1
-    ∷ fault 0 0 ∷ pageDone 1 1 ∷ write 0 0 1 5 ∷ claim ∷ read 0 0 1 ∷ look 0 0 ∷ cut (1 ∷ []) [] ∷ reread))
+    ∷ fault 0 0 ∷ write 0 0 1 5 ∷ claim ∷ read 0 0 1 ∷ look 0 0 ∷ cut (1 ∷ []) [] ∷ reread))
 unfolding holds
 r₁₂ = tt
 
@@ -136,3 +136,15 @@ r₁₃ : T (stands (opened ++ move 0 0 1 ∷ join 0 1 ∷ turn ∷ turn ∷ joi
     ∷ update 0 ∷ deactivate 0 ∷ mapDone 0 1 ∷ delete 0 ∷ activate 0 ∷ cut [] [] ∷ restart ∷ reread))
 unfolding stands
 r₁₃ = tt
+
+-- the chip: a third page takes the first one's place, which is read, and goes in at the second one's; a copy that a fault takes is written further and replaced, and taken again
+r₁₄ : T (holds (opened ++ put 0 9 0 ++ put 1 4 1 ++ put 2 7 0 ++ fault 0 0 ∷ pageDone 1 1 ∷ read 0 0 1 ∷ fault 0 2 ∷ read 0 2 1 ∷ write 0 2 1 8 ∷ claim ∷ pageDone 0 1 ∷ fault 0 2 ∷ read 0 2 1 ∷ update 0 ∷ mapDone 0 1
+    ∷ cut [] [] ∷ reread))
+unfolding holds
+r₁₄ = tt
+
+-- a copy is taken by a turn's fault, dropped as its page is claimed all zeros, and the page is written again; it is dropped as the design is put to rest, and by a truncate
+r₁₅ : T (holds (opened ++ put 0 9 0 ++ join 0 0 ∷ turn ∷ turn ∷ read 0 0 1 ∷ write 0 0 1 0 ∷ claim ∷ fault 0 0 ∷ read 0 0 1 ∷ write 0 0 0 6 ∷ claim ∷ pageDone 0 1 ∷ update 0 ∷ mapDone 0 1 ∷ deactivate 0 ∷ activate 0 ∷ fault 0 0
+    ∷ pageDone 1 1 ∷ truncate 0 0 ∷ fault 0 0 ∷ read 0 0 0 ∷ claim ∷ update 0 ∷ mapDone 0 1 ∷ cut [] [] ∷ restart ∷ []))
+unfolding holds
+r₁₅ = tt

@@ -32,7 +32,7 @@ charged = create 1 0 6 ∷ activate 1 ∷ fault 1 0 ∷ write 1 0 0 5 ∷ []
 
 -- two accounts, the second with limit 0: the first pays for it
 abbrev shared : Sizes
-shared = record { words = 2; records = 4; frames = 2; slots = 2; pages = 3; accounts = 2 }
+shared = record { words = 2; records = 4; frames = 2; slots = 2; pages = 3; accounts = 2; chip = 2 }
 
 -- ── from packs ──
 -- slot 1 has design 8: its page 0 is listed in record 1, which holds zeros, its page 2 in record 0
@@ -63,7 +63,7 @@ many line = count (STATES * STATES) (λ k. line (k / STATES) (k % STATES))
 
 -- ── another board: other R, F, S and Q, the same W and N ──
 abbrev there : Sizes
-there = record { words = 2; records = 6; frames = 1; slots = 3; pages = 3; accounts = 2 }
+there = record { words = 2; records = 6; frames = 1; slots = 3; pages = 3; accounts = 2; chip = 2 }
 
 -- the sheet of slot 0 here
 unfoldable sent : List ℕ

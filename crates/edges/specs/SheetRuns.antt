@@ -76,6 +76,9 @@ pub record SheetRuns : Type 0 where
   others-land : T (holds (opened ++ beside ++ cutIn (import 0 7 sheet) 2 (1 ∷ []) (1 ∷ []) ∷ restart ∷ activate 1 ∷ fault 1 0 ∷ pageDone 0 1 ∷ read 1 0 0 ∷ []))
   others-lost : T (holds (opened ++ beside ++ cutIn (import 0 7 sheet) 3 [] [] ∷ restart ∷ import 0 8 sheet ∷ activate 1 ∷ fault 1 0 ∷ read 1 0 0 ∷ []))
   others-go-on : T (holds (opened ++ beside ++ import 0 7 sheet ∷ mapDone 1 1 ∷ pageDone 1 1 ∷ cut [] [] ∷ restart ∷ readLast))
+  -- another design's copy stays in the chip, and is taken; an imported page is read, goes in and is taken from there
+  others-copied : T (holds (opened ++ create 1 0 6 ∷ activate 1 ∷ fault 1 0 ∷ write 1 0 0 5 ∷ claim ∷ pageDone 0 1 ∷ import 0 7 sheet ∷ fault 1 0 ∷ read 1 0 0 ∷ readLast ++ claim ∷ claim ∷ fault 0 2 ∷ read 0 2 1
+      ∷ cut [] [] ∷ restart ∷ readLast))
   -- imported pages are truncated and freed; their records are taken again by two more imports
   taken-again : T (holds (imported ++ activate 0 ∷ truncate 0 0 ∷ update 0 ∷ mapDone 0 1 ∷ deactivate 0 ∷ delete 0 ∷ import 1 8 sheet ∷ import 0 9 sheet ∷ cut [] [] ∷ restart ∷ readLast))
   -- a truncate that no update follows: a cut brings the imported words back
@@ -107,6 +110,7 @@ sheetRuns = record {
   others-land = tt;
   others-lost = tt;
   others-go-on = tt;
+  others-copied = tt;
   taken-again = tt;
   back = tt;
   refused = tt;

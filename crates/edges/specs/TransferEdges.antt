@@ -6,7 +6,7 @@ use Rattle.model.specs.declared.frame.Frame.{Frame}
 use Rattle.model.specs.State.{frameAt, noFrame, NONE, WRITING}
 use Rattle.model.specs.Step
 use Rattle.model.specs.Acts.{Act}
-use Rattle.edges.specs.Lists.{fault, read, write, wire, unwire, claim, truncate, pageDone, look, small, says, leaves}
+use Rattle.edges.specs.Lists.{fault, read, write, wire, unwire, claim, truncate, pageDone, look, small, says, leaves, activate, deactivate}
 use Rattle.edges.specs.Edges.{opened, listing}
 
 -- page 0 is being written, in frame 0: its words are 0 and 9
@@ -15,7 +15,7 @@ writing = opened 2 ++ write 0 0 1 9 ∷ claim ∷ []
 
 -- it is being read, in frame 1
 abbrev reading : List Act
-reading = listing ++ fault 0 0 ∷ []
+reading = listing ++ deactivate 0 ∷ activate 0 ∷ fault 0 0 ∷ []
 
 -- frame 0 with page 0, modified: its used switch, its transfer
 abbrev held : ℕ → ℕ → Frame

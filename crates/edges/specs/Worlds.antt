@@ -22,7 +22,7 @@ abbrev pub nine : List Act
 nine = restart ∷ limit 0 4 ∷ create 0 0 7 ∷ activate 0 ∷ fault 0 0 ∷ write 0 0 1 9 ∷ claim ∷ pageDone 0 1 ∷ []
 
 abbrev pub five : List Act
-five = fault 0 0 ∷ pageDone 1 1 ∷ write 0 0 1 5 ∷ claim ∷ []
+five = fault 0 0 ∷ write 0 0 1 5 ∷ claim ∷ []
 
 abbrev pub stored : List Act
 stored = update 0 ∷ mapDone 0 1 ∷ []

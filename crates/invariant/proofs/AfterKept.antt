@@ -13,7 +13,7 @@ use Rattle.model.specs.State.{State}
 use Rattle.model.specs.Rules.{allRules}
 use Rattle.model.specs.Requests.{decoded}
 use Rattle.model.specs.Step.{Outcome, outcome, allFit, asked}
-use Rattle.model.specs.Laws.Own.{own, refusal, first-yes, step-own}
+use Rattle.model.specs.Laws.Own.{ownWhole, refusal, first-yes, step-own}
 use Rattle.model.specs.Calls.{unknown, stepOf, apply}
 use Rattle.model.specs.ApplyAll.{Listed, requestAt, putAnswer, turned, after}
 use Rattle.model.specs.Terms.{Good}
@@ -22,7 +22,7 @@ use Rattle.invariant.proofs.Kept.{kept}
 -- ── one request ──
 -- by its own questions; a kind that is no event fails 3
 abbrev pub owned : Sizes → State → Decoded → Outcome State
-owned z st (Known e) = own z st e
+owned z st (Known e) = ownWhole z st e
 owned z st Unknown = refusal 3 st
 
 module _ (z : Sizes) (st : State) (g : Good z st) where

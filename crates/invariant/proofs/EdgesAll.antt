@@ -27,8 +27,8 @@ use Rattle.model.specs.declared.event.Page.the-variants.{Read}
 use Rattle.model.specs.declared.event.Writeback.the-variants.{Claim, Truncate}
 use Rattle.model.specs.Lines.{RELEASED}
 use Rattle.model.specs.Sizes.{sizesFit}
-use Rattle.model.specs.State.{State, files, frames, frameAt, noFrame, READING, pageOf, framed, freeCount, freeWord, usedOf, mapWords}
-use Rattle.model.specs.Setters.{onCore, onHeld, setFrames, setFreeQueue, setRemovalList, setAddresses, setStates, setFreeMap, setFree, setUsed, counted}
+use Rattle.model.specs.State.{Chip, State, files, frames, frameAt, noFrame, READING, pageOf, framed, freeCount, freeWord, usedOf, mapWords}
+use Rattle.model.specs.Setters.{onCore, onHeld, setFrames, setFreeQueue, setRemovalList, setAddresses, setStates, setFreeMap, setFree, setUsed, setChip, counted}
 use Rattle.model.specs.Parts.{frameOf, fromPage, wordAt}
 use Rattle.model.specs.Laws.Index.{place-below}
 use Rattle.model.specs.Questions.{questions}
@@ -36,13 +36,15 @@ use Rattle.model.specs.Pages
 use Rattle.model.specs.Writeback
 use Rattle.model.specs.Writeback.{look, looking, warm, cooled, cutFrame, cutFrames, cutRecord}
 use Rattle.model.specs.Laws.LookLaws.{cool, cool-at}
-use Rattle.model.specs.Laws.Ruled.{Ruled, ruled, once-list}
-use Rattle.model.specs.Laws.Fit.{Fit, fit}
-use Rattle.model.specs.Step.{Outcome, carried, result, step}
+use Rattle.model.specs.Laws.Ruled.{Ruled, ruled, once-list, chip-ruled}
+use Rattle.model.specs.Laws.Fit.{Fit, fit, chip-fits}
+use Rattle.model.specs.Step.{Outcome, carried, result, step, isFault, supplied, filled, whole}
 use Rattle.model.specs.Laws.Own.{refusal, completed, first-yes, first-no, step-own}
-use Rattle.model.specs.Laws.OwnLaws.{own-no, own-yes}
+use Rattle.model.specs.Laws.OwnLaws.{whole-no, whole-yes}
 use Rattle.model.specs.Laws.EveryCall.{Call, sizesIn, lengths, outcomeOf, later, later-above, refused-unchanged}
 use Rattle.model.specs.Terms.{Good, Present}
+use Rattle.model.specs.Chip.{onlyLive}
+use Rattle.invariant.proofs.Chip.{nothing-dropped}
 use Rattle.invariant.proofs.Never as Never
 
 -- ── question 1 of the sizes, for every call ──
@@ -56,12 +58,12 @@ fits c h l e =
 
 -- ── an event by its own questions ──
 module _ (z : Sizes) (st : State) (g : Good z st) (e : Event) where
-  accepted : Asked (questions z st e) → step z st e ≡ completed (result z st e) (carried z st e)
-  accepted a = step-own z st e (g .0) (g .1) ∙ sym (own-yes z st e 0 (sym (yes-all (questions z st e) a)) refl)
+  accepted : Asked (questions z st e) → step z st e ≡ completed (result z st e) (whole z st e)
+  accepted a = step-own z st e (g .0) (g .1) ∙ sym (whole-yes z st e 0 (sym (yes-all (questions z st e) a)) refl)
 
   -- its first question is 3, and fails
   refused3 : (r : Rule) (q : Questions) → questions z st e ≡ ask 3 r q → ¬ (Holds r) → step z st e ≡ refusal 3 st
-  refused3 r q p h = step-own z st e (g .0) (g .1) ∙ sym (own-no z st e 3 (sym (ap firstNo p ∙ first-no 3 r q h)) (omega arith))
+  refused3 r q p h = step-own z st e (g .0) (g .1) ∙ sym (whole-no z st e 3 (sym (ap firstNo p ∙ first-no 3 r q h)) (omega arith))
 
 -- ── claim ──
 -- the entries xs are warm and those of ys, which follow, are not: one look for each of xs, and one more
@@ -170,10 +172,11 @@ module _ (z : Sizes) (st : State) (f : Fit z st) (r : Ruled z st) (s : ℕ) wher
       (onCore (λ c. setFreeQueue (queue-same i) (setRemovalList (list-same i) (setFrames (frames-same i) c))) st)) ∙ counted-same z st f r
 
 truncate-all : (z : Sizes) (st : State) → Good z st → (s : ℕ) → s < z .slots → ¬ (files st .number s ≡ 0) → files st .active s ≡ 1 → step z st (Event.Writeback (Truncate s (z .pages))) ≡ completed 0 st
-unfolding carried result
+unfolding whole supplied isFault filled carried result
 truncate-all z st g s h n a =
     accepted z st g (Event.Writeback (Truncate s (z .pages))) ((h, omega arith), (n, (a, (λ p l k. absurd (k l), (λ p l k. absurd (k l), tt)))))
-    ∙ ap (completed 0) (truncated-same z st (fit z st (g .0)) (ruled z st (g .1)) s)
+    ∙ ap (completed 0) (ap (λ (x : State). setChip (onlyLive z (files x .state) (st .memory .chip)) x) (truncated-same z st (fit z st (g .0)) (ruled z st (g .1)) s)
+    ∙ ap (λ (k : Chip). setChip k st) (nothing-dropped z (st .memory .chip) (chip-fits z st (g .0)) (files st .state) (λ b l q e. chip-ruled z st (g .1) .live b l q e .0)))
 
 -- ── the edges ──
 pub record EdgesAll : Type 0 where

@@ -24,7 +24,7 @@ use Rattle.model.specs.Laws.Ruled.{Ruled, ruled}
 use Rattle.model.specs.Laws.Fit.{Fit, fit}
 use Rattle.model.specs.Laws.Index.{page-below}
 use Rattle.model.specs.Pages
-use Rattle.model.specs.Step.{outcome, answer, carried, result, step}
+use Rattle.model.specs.Step.{outcome, answer, carried, result, step, supplied, whole}
 use Rattle.invariant.proofs.Kept.{asked-all}
 
 -- what a fault's questions say of the page, and that it has an address or a record is free
@@ -76,10 +76,14 @@ module _ (z : Sizes) (st : State) (f : Fit z st) (r : Ruled z st) where
 -- Over every state: a fault that is carried out, of a page without an address.
 pub takes-nearest : (z : Sizes) (st : State) (s p : ℕ) → step z st (Event.Page (Fault s p)) .answer .refusal ≡ 0 → files st .address (pageOf z s p) ≡ 0
     → (q : ℕ) × Takes z st (pageOf z s p) q (step z st (Event.Page (Fault s p)) .left)
-unfolding step carried
+unfolding step whole supplied carried
 takes-nearest z st s p = go (answer z st (Event.Page (Fault s p))) refl
   where
-    go : (n : ℕ) → answer z st (Event.Page (Fault s p)) ≡ n → (let o = outcome n (result z st (Event.Page (Fault s p))) st (carried z st (Event.Page (Fault s p))) in
+    go : (n : ℕ) → answer z st (Event.Page (Fault s p)) ≡ n → (let o = outcome n (result z st (Event.Page (Fault s p))) st (whole z st (Event.Page (Fault s p))) in
         o .answer .refusal ≡ 0 → files st .address (pageOf z s p) ≡ 0 → (q : ℕ) × Takes z st (pageOf z s p) q (o .left))
-    go zero h u e = let a = asked-all z st (Event.Page (Fault s p)) h in (_, fault-takes z st (fit z st (a .0)) (ruled z st (a .1 .0)) s p (a .1 .1) e)
+    go zero h u e = let a = asked-all z st (Event.Page (Fault s p)) h in (
+      _,
+      (let t = fault-takes z st (fit z st (a .0)) (ruled z st (a .1 .0)) s p (a .1 .1) e in
+          record { was-free = t .was-free; near = t .near; by-hand = t .by-hand; address = t .address; nulled = t .nulled; owner = t .owner; hand = t .hand }),
+    )
     go (suc n) h u e = absurd (omega (arith, u))

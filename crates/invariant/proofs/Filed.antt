@@ -132,7 +132,7 @@ module _ (z : Sizes) (pos : 0 < z .pages) (s n q : ℕ) (v : Files) (d : OnDisk 
 -- the frames: no page in a frame holds a record that is taken
 module _ (z : Sizes) (st : State) (f : Fit z st) (r : Ruled z st) (disk′ : Disk) (held′ : Held) where
   abbrev refiled : State
-  refiled = record { disk = disk′; memory = record { core = st .memory .core; held = held′; slots = st .memory .slots; line = st .memory .line; used = st .memory .used } }
+  refiled = record { disk = disk′; memory = record { core = st .memory .core; held = held′; slots = st .memory .slots; chip = st .memory .chip; line = st .memory .line; used = st .memory .used } }
 
   pub filing-frames : disk′ .records ≡ st .disk .records → held′ .addresses ≡ st .memory .held .addresses → ((i : ℕ) → i < allPages z → (q : ℕ) → files st .address i ≡ suc q → at (held′ .states) q ≡ files st .state q)
       → held′ .pool .hand < z .records → DiskFit z disk′ → HeldFit z held′ → Framing z refiled

@@ -75,7 +75,7 @@ module _ (z : Sizes) (st : State) (f : Fit z st) (r : Ruled z st) where
         ∙ ap (λ (x : ℕ). at (st .disk .records) (x * z .words + w)) t
         ∙ sym (if-yes (files st .state q) LIVE (at (st .disk .records) (q * z .words + w)) 0 (ap (files st .state) s ∙ lv .2))
 
-    read-good : old .transfer ≡ READING → Framing z (Writeback.readGood z st k)
+    pub read-good : old .transfer ≡ READING → Framing z (Writeback.readGood z st k)
     unfolding Writeback.readGood
     read-good e = one-frame z st (Writeback.readGood z st k) k 0 1
         (record {

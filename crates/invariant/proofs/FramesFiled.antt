@@ -37,7 +37,7 @@ use Rattle.invariant.proofs.Stands.{seat-at}
 module _ (z : Sizes) (st : State) (f : Fit z st) (r : Ruled z st) where
   -- the state with another disk, other held tables and other slots
   abbrev refiled : Disk → Held → Slots → State
-  refiled d h a = record { disk = d; memory = record { core = st .memory .core; held = h; slots = a; line = st .memory .line; used = st .memory .used } }
+  refiled d h a = record { disk = d; memory = record { core = st .memory .core; held = h; slots = a; chip = st .memory .chip; line = st .memory .line; used = st .memory .used } }
 
   -- what the event has to say: the disk keeps its records' words, each framed page its address, its record's state and its slot's switch
   filed : (d : Disk) (h : Held) (a : Slots) → ((k : ℕ) → k < z .frames → Kept z (files st) (files (refiled d h a)) (at (st .disk .records)) (at (d .records)) (frames st .frame k .page))

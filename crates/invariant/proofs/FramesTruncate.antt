@@ -64,6 +64,7 @@ module _ (z : Sizes) (st : State) (f : Fit z st) (r : Ruled z st) (s k : ℕ) wh
         pool = st .memory .held .pool;
       };
       slots = st .memory .slots;
+      chip = st .memory .chip;
       line = st .memory .line;
       used = st .memory .used;
     };

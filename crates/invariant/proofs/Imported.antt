@@ -20,6 +20,9 @@ use Rattle.model.specs.Laws.Fit.{fit, all-fit}
 use Rattle.model.specs.Step.{outcome, asked}
 use Rattle.model.specs.Import.{sheetOf, made, imported, importAnswer, import}
 use Rattle.model.specs.Terms.{Good, MovedBy}
+use Rattle.invariant.proofs.ChipKept.{Copies}
+use Rattle.invariant.proofs.Kept.{good-chip}
+use Rattle.invariant.proofs.ImportChip.{midway-chip, import-chip}
 use Rattle.invariant.proofs.Records.{Tidied}
 use Rattle.invariant.proofs.Imports.{Sound, Before, midway, import-kept, import-line, state-at, owner-at}
 
@@ -50,8 +53,12 @@ module _ (z : Sizes) (st : State) (s q n : ℕ) (b : List ℕ) where
       enough zero h e = omega arith
       enough (suc c) h e = let g = h (omega arith) in omega (arith, g, e)
 
-  sound-good : (st′ : State) → Sound z st′ → Good z st′
-  sound-good st′ k = (all-fit z st′ (k .fit), rules z st′ (k .ruled))
+  sound-good : (st′ : State) → Sound z st′ → Copies z st′ → Good z st′
+  sound-good st′ k c = (all-fit z st′ (k .fit) (c .fit), rules z st′ (k .ruled) (c .rules))
+
+  chip-before : importAnswer z st s q n b ≡ 0 → Copies z st
+  unfolding importAnswer
+  chip-before e = let (sound, (keeps, own)) = all-yes 0 (asked z st (importQuestions z st s q n b)) tt e in good-chip z st (sound, keeps)
 
   -- an import, carried out or refused
   pub import-good : Good z st → Good z (import z st s q n b .left)
@@ -59,12 +66,12 @@ module _ (z : Sizes) (st : State) (s q n : ℕ) (b : List ℕ) where
   import-good g = go (importAnswer z st s q n b) refl
     where
       go : (m : ℕ) → importAnswer z st s q n b ≡ m → Good z (outcome m (numberIn b) st (imported z st s q n (sheetOf b)) .left)
-      go zero e = let k = import-kept z st s q n (sheetOf b) (import-before e) in sound-good _ (record { fit = k .0; ruled = k .1 })
+      go zero e = let k = import-kept z st s q n (sheetOf b) (import-before e) in sound-good _ (record { fit = k .0; ruled = k .1 }) (import-chip z st s q n (sheetOf b) (import-before e) (chip-before e))
       go (suc m) e = g
 
   -- and once the number is the highest and the first k records are stored
   pub import-midway : importAnswer z st s q n b ≡ 0 → (k : ℕ) → k ≤ countIn b → Good z (onDisk (λ d. made z st s q n (sheetOf b) k (raise n d)) st)
-  import-midway e k i = sound-good _ (midway z st s q n (sheetOf b) (import-before e) k i)
+  import-midway e k i = sound-good _ (midway z st s q n (sheetOf b) (import-before e) k i) (midway-chip z st s q n (sheetOf b) (import-before e) (chip-before e) k i)
 
   -- each record's state is left alone, or goes from free to filed
   import-along : importAnswer z st s q n b ≡ 0 → MovedBy byImport z st (imported z st s q n (sheetOf b))

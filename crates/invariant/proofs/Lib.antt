@@ -19,6 +19,7 @@ pub mod QueueMoves
 pub mod OneFrame
 pub mod FrameParts
 pub mod NewSeats
+pub mod Chip
 pub mod Stands
 pub mod FramesServed
 pub mod Freed
@@ -31,13 +32,18 @@ pub mod FramesTruncate
 pub mod FramesRestart
 pub mod Cases
 pub mod LineKept
+pub mod ChipKept
+pub mod ChipBeside
+pub mod ChipServed
 pub mod FramesKept
 pub mod Raised
 pub mod Kept
+pub mod ChipLaws
 pub mod Parts
 pub mod FreeStore
 pub mod Filed
 pub mod Imports
+pub mod ImportChip
 pub mod ImportUsed
 pub mod Imported
 pub mod Stores
@@ -46,6 +52,7 @@ pub mod AfterKept
 pub mod Never
 pub mod Tidy
 pub mod Nearer
+pub mod NearerCopy
 pub mod Served
 pub mod LimitsSum
 pub mod EdgesAll

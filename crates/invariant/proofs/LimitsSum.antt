@@ -35,7 +35,7 @@ use Rattle.model.specs.Pages
 use Rattle.model.specs.Writeback
 use Rattle.model.specs.Line
 use Rattle.model.specs.Restart as R
-use Rattle.model.specs.Step.{outcome, allFit, asked, answer, carried, result, step, restart}
+use Rattle.model.specs.Step.{outcome, allFit, asked, answer, carried, supplied, whole, result, step, restart}
 use Rattle.model.specs.Acts.{Act, event, looking, importing, exporting, restarting, cutting, cuttingIn, World, part, cutOff, act, run, landWrites, landUpdates, landed}
 use Rattle.sheets.specs.Sheet.{countIn}
 use Rattle.model.specs.Import.{sheetOf, storeRecord, storeSlot, importAnswer}
@@ -109,10 +109,10 @@ carried-sum z st (Event.Waiting Turn) i f r a = by-turn z st f r (Sum st) (λ l 
 
 -- For every state and every event but limit, carried out or refused.
 pub limits-sum : (z : Sizes) (st : State) (e : Event) → T (not (isLimit e)) → sum (step z st e .left .disk .limits) ≡ sum (st .disk .limits)
-unfolding step
+unfolding step whole supplied
 limits-sum z st e i = go (answer z st e) refl
   where
-    go : (n : ℕ) → answer z st e ≡ n → Sum st (outcome n (result z st e) st (carried z st e) .left)
+    go : (n : ℕ) → answer z st e ≡ n → Sum st (outcome n (result z st e) st (whole z st e) .left)
     go zero h = let a = asked-all z st e h in carried-sum z st e i (fit z st (a .0)) (ruled z st (a .1 .0)) (a .1 .1)
     go (suc n) h = refl
 

@@ -26,7 +26,7 @@ use Rattle.model.specs.Designs
 use Rattle.model.specs.Accounts
 use Rattle.model.specs.Pages
 use Rattle.model.specs.Line
-use Rattle.model.specs.Step.{outcome, answer, carried, result, step}
+use Rattle.model.specs.Step.{outcome, answer, carried, result, step, supplied, whole}
 use Rattle.model.specs.Acts.{Act, event, looking, importing, exporting, restarting, cutting, cuttingIn, World, act}
 use Rattle.model.specs.Terms.{MovedBy, Moves, AllMove}
 use Rattle.invariant.proofs.Kept.{asked-all}
@@ -83,10 +83,10 @@ along z st (Event.Waiting Turn) f k a = by-turn z st f k (MovedBy byEvent z st) 
 -- ── over lists ──
 module _ (z : Sizes) where
   event-moves : (st : State) (e : Event) → MovedBy byEvent z st (step z st e .left)
-  unfolding step
+  unfolding step whole supplied
   event-moves st e = go (answer z st e) refl
     where
-      go : (n : ℕ) → answer z st e ≡ n → MovedBy byEvent z st (outcome n (result z st e) st (carried z st e) .left)
+      go : (n : ℕ) → answer z st e ≡ n → MovedBy byEvent z st (outcome n (result z st e) st (whole z st e) .left)
       go zero h = let a = asked-all z st e h in along z st e (fit z st (a .0)) (ruled z st (a .1 .0)) (a .1 .1)
       go (suc n) h = λ r b. inl refl
 

@@ -129,7 +129,7 @@ module _ (z : Sizes) where
   module _ (st : State) (fs : Fit z st) (r : Ruled z st) where
     -- ── a page done, good ──
     module _ (f : ℕ) (hf : f < z .frames) (busy : ¬ (frames st .frame f .transfer ≡ NONE)) where
-      read-done : frames st .frame f .transfer ≡ READING → Onward st (counted z (Writeback.readGood z st f))
+      pub read-done : frames st .frame f .transfer ≡ READING → Onward st (counted z (Writeback.readGood z st f))
       unfolding counted Writeback.readGood
       read-done t = onward-put (put st _ f (Pages.fresh (pred (frames st .frame f .page))) fs hf refl) (λ i e n. (ap (λ (x : ℕ). suc (pred x)) e, λ w. omega (arith, w))) (λ w. absurd (omega (arith, w, t))) (λ s. inl s) refl refl
 

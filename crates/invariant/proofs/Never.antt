@@ -18,11 +18,11 @@ use Rattle.model.specs.Sizes.{sizesFit}
 use Rattle.model.specs.State.{Disk, Memory, State, files}
 use Rattle.model.specs.Setters.{raise}
 use Rattle.model.specs.Rules.{lower, diskRules, allRules}
-use Rattle.model.specs.Laws.Ruled.{ruled, rules, disk-ruled, rules-disk}
+use Rattle.model.specs.Laws.Ruled.{ruled, rules, disk-ruled, rules-disk, chip-ruled}
 use Rattle.model.specs.Questions.{questions, lookQuestions, importQuestions, exportQuestions}
-use Rattle.model.specs.Step.{outcome, diskLengths, memoryLengths, allFit, asked, answer, carried, result, step, restart, look, own-above}
+use Rattle.model.specs.Step.{outcome, diskLengths, memoryLengths, allFit, asked, answer, result, step, restart, look, own-above, whole}
 use Rattle.model.specs.Restart as R
-use Rattle.model.specs.Laws.Fit.{disk-fit, fit-disk, fit, all-fit}
+use Rattle.model.specs.Laws.Fit.{disk-fit, fit-disk, fit, all-fit, chip-fits}
 use Rattle.model.specs.Laws.Own.{first-yes}
 use Rattle.model.specs.Acts.{Act, event, looking, importing, exporting, restarting, cutting, cuttingIn, World, part, cutOff, act, allowed, legal, run, start}
 use Rattle.model.specs.Acts as A
@@ -77,7 +77,7 @@ said (suc n) r old new b = b
 -- once restarted, no event and no page look is answered 1 or 2
 pub event-blameless : (z : Sizes) (st : State) (e : Event) → Good z st → Holds (blameless (step z st e .answer .refusal))
 unfolding step answer
-event-blameless z st e g = said (firstNo (asked z st (questions z st e))) (result z st e) st (carried z st e) (not-blamed z st (questions z st e) (own-above z st e) g)
+event-blameless z st e g = said (firstNo (asked z st (questions z st e))) (result z st e) st (whole z st e) (not-blamed z st (questions z st e) (own-above z st e) g)
 
 pub look-blameless : (z : Sizes) (st : State) (s p : ℕ) → Good z st → Holds (blameless (look z st s p .answer .refusal))
 unfolding look
@@ -114,7 +114,7 @@ raise-safe z w n s = record {
   disk = fit-disk z (raise n (w .state .disk)) (raise-disk z (w .state .disk) n (disk-fit z (w .state .disk) (s .disk)));
   memory = s .memory;
   rules = rules-disk z (raisedIn n w .state) (disk-ruled z (w .state) (s .rules));
-  up = λ u. let g = s .up u in (all-fit z _ (raise-fit z (w .state) n (fit z (w .state) (g .0))), rules z _ (raise-ruled z (w .state) n (ruled z (w .state) (g .1))));
+  up = λ u. let g = s .up u in (all-fit z _ (raise-fit z (w .state) n (fit z (w .state) (g .0))) (chip-fits z (w .state) (g .0)), rules z _ (raise-ruled z (w .state) n (ruled z (w .state) (g .1))) (chip-ruled z (w .state) (g .1)));
 }
 
 -- in the midst of a call the world is safe

@@ -29,7 +29,7 @@ use Rattle.model.specs.Pages
 use Rattle.model.specs.Writeback
 use Rattle.model.specs.Line
 use Rattle.model.specs.Restart as R
-use Rattle.model.specs.Step.{outcome, allFit, answer, carried, result, step, restart}
+use Rattle.model.specs.Step.{outcome, allFit, answer, carried, result, step, restart, supplied, whole}
 use Rattle.model.specs.Stores as S
 use Rattle.model.specs.Stores.{Call, stores, byAnswer, made, first}
 use Rattle.sheets.specs.Sheet.{countIn}
@@ -89,10 +89,10 @@ carried-stays z st (Event.Waiting Turn) f r a = by-turn z st f r (Same st) (λ l
 
 -- For every state and every event, carried out or refused.
 pub parents-stay : (z : Sizes) (st : State) (e : Event) → step z st e .left .disk .parents ≡ st .disk .parents
-unfolding step
+unfolding step whole supplied
 parents-stay z st e = go (answer z st e) refl
   where
-    go : (n : ℕ) → answer z st e ≡ n → Same st (outcome n (result z st e) st (carried z st e) .left)
+    go : (n : ℕ) → answer z st e ≡ n → Same st (outcome n (result z st e) st (whole z st e) .left)
     go zero h = let a = asked-all z st e h in carried-stays z st e (fit z st (a .0)) (ruled z st (a .1 .0)) (a .1 .1)
     go (suc n) h = refl
 

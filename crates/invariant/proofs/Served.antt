@@ -19,22 +19,27 @@ use Rattle.model.specs.declared.event.Writeback.the-variants.{PageDone, MapDone
 use Rattle.model.specs.declared.event.Waiting.the-variants.{Turn}
 use Rattle.model.specs.declared.event.Event.{Event}
 use Rattle.model.specs.declared.event.Event.the-variants as Event
-use Rattle.model.specs.State.{State, frames, pageOf, slotOf, framed}
+use Rattle.model.specs.State.{State, frames, pageOf, slotOf, framed, Chip, files}
 use Rattle.model.specs.Laws.Index.{page-again}
+use Rattle.model.specs.Setters.{onCore, setChip}
+use Rattle.model.specs.Chip.{arrives, onlyLive}
+use Rattle.model.specs.Pages.{faultFrame}
 use Rattle.model.specs.Questions.{Turning, nobody, serves, goesBack, faults, claims, sendsAway, nextPage, nextFault, pageQuestions, questions, turnQuestions, turning}
-use Rattle.model.specs.Writeback
 use Rattle.model.specs.Line
 use Rattle.model.specs.Laws.LineLaws.{Treats, empty, served, back, faulting, claiming, away, treats}
-use Rattle.model.specs.Step.{Outcome, outcome, answer, result, carried, step}
-use Rattle.model.specs.Laws.Own.{own, step-own}
+use Rattle.model.specs.Step as Step
+use Rattle.model.specs.Step.{Outcome, outcome, answer, result, carried, step, turnFaults, filled, whole}
+use Rattle.model.specs.Laws.Own.{step-own, ownWhole}
 use Rattle.model.specs.Laws.Ruled.{Ruled, ruled}
 use Rattle.model.specs.Laws.Fit.{Fit, fit}
 use Rattle.model.specs.Turns.{Deed, turn, pageDone, mapDone, turns, Gone, pagesOf, calm, after, calmTurns, gone, afterAll, NoneRefused, Left}
 use Rattle.model.specs.Terms.{Good, unwired}
-use Rattle.invariant.proofs.Kept.{kept, asked-all}
+use Rattle.invariant.proofs.Chip.{nothing-dropped}
+use Rattle.invariant.proofs.Kept.{kept, asked-all, good-chip}
 use Rattle.invariant.proofs.Never.{later}
 use Rattle.invariant.proofs.LineKept.{fault-line, claim-line}
 use Rattle.invariant.proofs.Nearer.{Here, Near, here, room, far, near-pos, Onward, near-on, page-done, map-done, fault-here, fault-unwired, claim-room, claim-unwired, none-free, listed}
+use Rattle.invariant.proofs.NearerCopy.{served-on}
 
 -- somebody waits: the first, and those behind
 members-first : (q : List ℕ) → 0 < size q → members q ≡ first q ∷ members (pop q)
@@ -57,12 +62,19 @@ module _ (z : Sizes) where
     abbrev line : List ℕ
     line = st .memory .line
 
+    -- what a turn leaves in the chip, and in all
+    abbrev Kept : Turning → Chip
+    Kept t = onlyLive z (files (Line.turned z st t) .state) (st .memory .chip)
+
+    abbrev Turned : Turning → State
+    Turned t = setChip (Kept t) (onCore (λ c. if (turnFaults t) (arrives z (st .memory .chip) (Line.turned z st t) (faultFrame st) c) c) (Line.turned z st t))
+
     -- a turn's outcome by its treatment of the first request
     abbrev By : Turning → Outcome State
-    By t = outcome (firstNo (turnQuestions z st t)) (Line.treated t) st (Line.turned z st t)
+    By t = outcome (firstNo (turnQuestions z st t)) (Line.treated t) st (Turned t)
 
     turn-is : step z st (Event.Waiting Turn) ≡ By (turning z st)
-    unfolding own result carried Line.turn Line.turnResult
+    unfolding ownWhole result whole Step.supplied Step.isFault filled carried Line.turn Line.turnResult
     turn-is = step-own z st (Event.Waiting Turn) (g .0) (g .1)
 
     by-treat : (P : Outcome State → Type 0) → ((t : Turning) → Treats z st t → P (By t)) → P (step z st (Event.Waiting Turn))
@@ -99,8 +111,8 @@ module _ (z : Sizes) where
           go nobody h = (refl, u)
           go serves h = (refl, u)
           go goesBack h = absurd (no-back h)
-          go faults h = (refl, fault-unwired z st fs r _ _ (fault-room h) u)
-          go claims h = subst (λ (n : ℕ). Keeps (outcome n 0 st (Writeback.claim z st))) (sym (claims-asked h)) (refl, claim-unwired z st fs r (claim-listed h) u)
+          go faults (faulting s i a) = (refl, served-on z st g _ _ a (Kept faults) .unwired′ (fault-unwired z st fs r _ _ (fault-room (faulting s i a)) u))
+          go claims h = subst (λ (n : ℕ). Keeps (outcome n 0 st (Turned claims))) (sym (claims-asked h)) (refl, claim-unwired z st fs r (claim-listed h) u)
           go (sendsAway n) h = (refl, u)
 
       -- ── the first request leaves, or comes nearer ──
@@ -114,11 +126,11 @@ module _ (z : Sizes) where
         Waits st′ = (k n : ℕ) → Near z st′ (nextPage z st′) n → n + 3 * k ≤ turns ds → k < size (st′ .memory .line) → Left (suc k) (members (st′ .memory .line)) (gone z st′ ds)
 
         -- the first one has left: the others wait at most three turns each
-        leaves : (k m : ℕ) → Waits (Line.leaves z st) → (m ≡ 1) ⊎ (2 < m) → 0 < size line → 3 * k ≤ turns ds → k < size line
-            → Left (suc k) (members line) (record { page = nextPage z st; result = m } ∷ gone z (Line.leaves z st) ds)
-        leaves k m rest how w e h = rw (members-first line w) (refl, (how, go k e h))
+        leaves : (c : Chip) (k m : ℕ) → Waits (setChip c (Line.leaves z st)) → (m ≡ 1) ⊎ (2 < m) → 0 < size line → 3 * k ≤ turns ds → k < size line
+            → Left (suc k) (members line) (record { page = nextPage z st; result = m } ∷ gone z (setChip c (Line.leaves z st)) ds)
+        leaves c k m rest how w e h = rw (members-first line w) (refl, (how, go k e h))
           where
-            go : (k : ℕ) → 3 * k ≤ turns ds → k < size line → Left k (members (pop line)) (gone z (Line.leaves z st) ds)
+            go : (k : ℕ) → 3 * k ≤ turns ds → k < size line → Left k (members (pop line)) (gone z (setChip c (Line.leaves z st)) ds)
             go zero e h = tt
             go (suc k) e h = rest k 3 far (omega (arith, e)) (omega (arith, h, size-pop line))
 
@@ -149,34 +161,34 @@ module _ (z : Sizes) where
 
             go : (t : Turning) → Treats z st t → Waits (By t .left) → Left (suc k) (members line) (Then (By t))
             go nobody (empty e) w = absurd (omega (arith, e, l))
-            go serves (served s i q) w = leaves k 1 w (inl refl) s (omega (arith, h, least)) l
+            go serves (served s i q) w = leaves (Kept serves) k 1 w (inl refl) s (omega (arith, h, least)) l
             go goesBack q w = absurd (no-back q)
-            go faults (faulting s i a) w = stays k 1 _ w (fault-line z st _ _)
-                (here (subst (Here z (Line.turned z st faults)) page-same (fault-here z st fs r _ _ (fault-room (faulting s i a))))) (omega (arith, h, more i)) l
-            go claims (claiming s i e) w = subst (λ (m : ℕ). Waits (outcome m 0 st (Writeback.claim z st) .left) → Left (suc k) (members line) (Then (outcome m 0 st (Writeback.claim z st)))) (sym (claims-asked (claiming s i e)))
+            go faults (faulting s i a) w = stays k 1 _ w (served-on z st g _ _ a (Kept faults) .line′ ∙ fault-line z st _ _)
+                (here (subst (Here z (Turned faults)) page-same (served-on z st g _ _ a (Kept faults) .here′ _ (fault-here z st fs r _ _ (fault-room (faulting s i a)))))) (omega (arith, h, more i)) l
+            go claims (claiming s i e) w = subst (λ (m : ℕ). Waits (outcome m 0 st (Turned claims) .left) → Left (suc k) (members line) (Then (outcome m 0 st (Turned claims)))) (sym (claims-asked (claiming s i e)))
                 (λ v. stays k 2 _ v (claim-line z st) (room (claim-room z st fs r (claim-listed (claiming s i e)))) (omega (arith, h, most i (none-free z st fs r e))) l) w
-            go (sendsAway m) (away s i _ e a b) w = rw (ne-eqb m 0 a) (leaves k m w (inr (omega (arith, ltb→lt 2 (firstNo (pageQuestions z st (nextFault z st))) (later 2 (pageQuestions z st (nextFault z st)) tt (λ x. a (sym e ∙ x))), e))) s (omega (arith, h, least)) l)
+            go (sendsAway m) (away s i _ e a b) w = rw (ne-eqb m 0 a) (leaves (Kept (sendsAway m)) k m w (inr (omega (arith, ltb→lt 2 (firstNo (pageQuestions z st (nextFault z st))) (later 2 (pageQuestions z st (nextFault z st)) tt (λ x. a (sym e ∙ x))), e))) s (omega (arith, h, least)) l)
 
   -- ── a list ──
   -- a good done report, carried out or refused
-  done-on : (st : State) (g : Good z st) (e : Event) → (Asked (questions z st e) → Onward z st (carried z st e)) → Onward z st (step z st e .left)
-  unfolding step
-  done-on st g e f = go (answer z st e) refl
+  done-on : (st : State) (g : Good z st) (e : Event) → Step.supplied z st e ≡ carried z st e → (Asked (questions z st e) → Onward z st (carried z st e)) → Onward z st (step z st e .left)
+  unfolding step whole
+  done-on st g e q f = go (answer z st e) refl
     where
-      go : (n : ℕ) → answer z st e ≡ n → Onward z st (outcome n (result z st e) st (carried z st e) .left)
-      go zero h = f (asked-all z st e h .1 .1)
+      go : (n : ℕ) → answer z st e ≡ n → Onward z st (outcome n (result z st e) st (whole z st e) .left)
+      go zero h = let o = subst (Onward z st) (sym q) (f (asked-all z st e h .1 .1)) in record { here′ = o .here′; room′ = o .room′; unwired′ = o .unwired′; line′ = o .line′ }
       go (suc n) h = record { here′ = λ i p. p; room′ = λ p. p; unwired′ = λ p. p; line′ = refl }
 
   page-on : (st : State) (g : Good z st) (f : ℕ) → Onward z st (after z st (pageDone f))
-  unfolding carried
-  page-on st g f = done-on st g (Event.Writeback (PageDone f 1)) go
+  unfolding carried Step.supplied Step.isFault
+  page-on st g f = done-on st g (Event.Writeback (PageDone f 1)) refl go
     where
       go : Asked (questions z st (Event.Writeback (PageDone f 1))) → Onward z st (carried z st (Event.Writeback (PageDone f 1)))
       go a = page-done z st (fit z st (g .0)) (ruled z st (g .1)) f (a .0 .0) (a .1 .0)
 
   map-on : (st : State) (g : Good z st) (s : ℕ) → Onward z st (after z st (mapDone s))
-  unfolding carried
-  map-on st g s = done-on st g (Event.Writeback (MapDone s 1)) go
+  unfolding carried Step.supplied Step.isFault
+  map-on st g s = done-on st g (Event.Writeback (MapDone s 1)) refl go
     where
       go : Asked (questions z st (Event.Writeback (MapDone s 1))) → Onward z st (carried z st (Event.Writeback (MapDone s 1)))
       go a = map-done z st (fit z st (g .0)) (ruled z st (g .1)) s
@@ -222,17 +234,22 @@ pub turn-leaves : (z : Sizes) (st : State) → Good z st → (let o = step z st 
 unfolding firstNo
 turn-leaves z st g = by-treat z st g (λ o. ¬ (o .answer .result ≡ 0) → o .left ≡ Line.leaves z st) go
   where
-    claimed : (n : ℕ) → ¬ (outcome n 0 st (Writeback.claim z st) .answer .result ≡ 0) → outcome n 0 st (Writeback.claim z st) .left ≡ Line.leaves z st
+    claimed : (n : ℕ) → ¬ (outcome n 0 st (Turned z st g claims) .answer .result ≡ 0) → outcome n 0 st (Turned z st g claims) .left ≡ Line.leaves z st
     claimed zero d = absurd (d refl)
     claimed (suc n) d = absurd (d refl)
 
+    -- no record's state changes, so no copy is dropped
+    all-stay : setChip (Kept z st g serves) (Line.leaves z st) ≡ Line.leaves z st
+    all-stay = let c = good-chip z st g in
+        ap (λ (k : Chip). setChip k (Line.leaves z st)) (nothing-dropped z (st .memory .chip) (c .fit) (files st .state) (λ b h q e. c .rules .live b h q e .0))
+
     go : (t : Turning) → Treats z st t → ¬ (By z st g t .answer .result ≡ 0) → By z st g t .left ≡ Line.leaves z st
     go nobody h d = absurd (d refl)
-    go serves h d = refl
+    go serves h d = all-stay
     go goesBack h d = absurd (d refl)
     go faults h d = absurd (d refl)
     go claims h d = claimed (firstNo (turnQuestions z st claims)) d
-    go (sendsAway m) h d = refl
+    go (sendsAway m) h d = all-stay
 
 module _ (z : Sizes) where
   -- those that stood in the line are those that have left, then those that wait
@@ -250,16 +267,16 @@ module _ (z : Sizes) where
       here : (x : State) → x .memory .line ≡ st .memory .line → Stood ds x → members (st .memory .line) ≡ pagesOf (gone z x ds) ++ members (afterAll z x ds .memory .line)
       here x e w = ap members (sym e) ∙ w
 
-      left : 0 < size (st .memory .line) → Stood ds (Line.leaves z st) → members (st .memory .line) ≡ nextPage z st ∷ (pagesOf (gone z (Line.leaves z st) ds) ++ members (afterAll z (Line.leaves z st) ds .memory .line))
-      left h w = members-first (st .memory .line) h ∙ ap (λ (l : List ℕ). nextPage z st ∷ l) w
+      left : (c : Chip) → 0 < size (st .memory .line) → (let x = setChip c (Line.leaves z st) in Stood ds x → members (st .memory .line) ≡ nextPage z st ∷ (pagesOf (gone z x ds) ++ members (afterAll z x ds .memory .line)))
+      left c h w = members-first (st .memory .line) h ∙ ap (λ (l : List ℕ). nextPage z st ∷ l) w
 
       go : (t : Turning) → Treats z st t → P (By z st g t)
       go nobody h w = w
-      go serves (served s i q) w = left s w
+      go serves (served s i q) w = left (Kept z st g serves) s w
       go goesBack h w = absurd (no-back z st g u c h)
-      go faults h w = here _ (fault-line z st _ _) w
-      go claims h w = subst (λ (m : ℕ). P (outcome m 0 st (Writeback.claim z st))) (sym (claims-asked z st g u c h)) (λ v. here _ (claim-line z st) v) w
-      go (sendsAway m) (away s i _ e a b) w = rw (ne-eqb m 0 a) (left s w)
+      go faults (faulting s i a) w = here _ (served-on z st g _ _ a (Kept z st g faults) .line′ ∙ fault-line z st _ _) w
+      go claims h w = subst (λ (m : ℕ). P (outcome m 0 st (Turned z st g claims))) (sym (claims-asked z st g u c h)) (λ v. here _ (claim-line z st) v) w
+      go (sendsAway m) (away s i _ e a b) w = rw (ne-eqb m 0 a) (left (Kept z st g (sendsAway m)) s w)
 
   stood : (ds : List Deed) (st : State) → Good z st → Holds (unwired z st) → T (calmTurns z st ds) → Stood ds st
   unfolding calmTurns gone afterAll

@@ -30,6 +30,7 @@ use Rattle.model.specs.Accounts
 use Rattle.model.specs.Pages
 use Rattle.model.specs.Writeback
 use Rattle.model.specs.Line
+use Rattle.model.specs.Step as Step
 use Rattle.model.specs.Step.{outcome, answer, carried, result, step}
 use Rattle.model.specs.Import
 use Rattle.model.specs.Import.{Sheet, sheetOf, storeRecord, storeSlot, imported, importAnswer, import}
@@ -100,10 +101,10 @@ carried-stores z st (Event.Waiting Turn) f r a = by-turn z st f r (Same st) (λ 
 
 -- For every state and every event, carried out or refused: its stores, in order, and nothing stored otherwise.
 pub stores-whole : (z : Sizes) (st : State) (e : Event) → step z st e .left .disk ≡ allOf (made z st (S.event e)) (st .disk)
-unfolding step made S.answered
+unfolding step Step.whole Step.supplied made S.answered
 stores-whole z st e = go (answer z st e) refl
   where
-    go : (n : ℕ) → answer z st e ≡ n → outcome n (result z st e) st (carried z st e) .left .disk ≡ allOf (byAnswer n (stores z st (S.event e))) (st .disk)
+    go : (n : ℕ) → answer z st e ≡ n → outcome n (result z st e) st (Step.whole z st e) .left .disk ≡ allOf (byAnswer n (stores z st (S.event e))) (st .disk)
     go zero h = let a = asked-all z st e h in carried-stores z st e (fit z st (a .0)) (ruled z st (a .1 .0)) (a .1 .1)
     go (suc n) h = unfold first in refl
 

@@ -31,7 +31,7 @@ use Rattle.model.specs.Pages
 use Rattle.model.specs.Writeback
 use Rattle.model.specs.Line
 use Rattle.model.specs.Restart as R
-use Rattle.model.specs.Step.{outcome, diskLengths, memoryLengths, answer, carried, result, step, restart}
+use Rattle.model.specs.Step.{outcome, diskLengths, memoryLengths, answer, carried, supplied, whole, result, step, restart}
 use Rattle.model.specs.Acts.{Act, event, looking, importing, exporting, restarting, cutting, cuttingIn, World, act, allowed, legal, run, start}
 use Rattle.model.specs.Terms.{tidy}
 use Rattle.invariant.proofs.LineKept.{by-turn}
@@ -78,10 +78,10 @@ restarted-tidy z w st d = record {
 
 module _ (z : Sizes) where
   event-tidy : (st : State) (e : Event) → Tidied z st → Tidied z (step z st e .left)
-  unfolding step
+  unfolding step whole supplied
   event-tidy st e t = go (answer z st e) refl
     where
-      go : (n : ℕ) → answer z st e ≡ n → Tidied z (outcome n (result z st e) st (carried z st e) .left)
+      go : (n : ℕ) → answer z st e ≡ n → Tidied z (outcome n (result z st e) st (whole z st e) .left)
       go zero h = let a = asked-all z st e h in tidies z st e (fit z st (a .0)) (ruled z st (a .1 .0)) (a .1 .1) t
       go (suc n) h = t
 

@@ -27,10 +27,11 @@ use Rattle.model.specs.declared.event.Event.the-variants as Event
 use Rattle.model.specs.declared.request.Request.{Request}
 use Rattle.model.specs.declared.request.Decoded.{Decoded}
 use Rattle.model.specs.declared.request.Decoded.the-variants.{Known, Unknown}
-use Rattle.model.specs.State.{Core, State, files, frames, noFrame, frameAt, NONE, READING, pageOf, framed, live}
-use Rattle.model.specs.Setters.{counted, setUsedSwitch}
+use Rattle.model.specs.State.{Core, Chip, State, files, frames, noFrame, frameAt, NONE, READING, pageOf, framed, live}
+use Rattle.model.specs.Setters.{onCore, setChip, counted, setUsedSwitch}
 use Rattle.model.specs.Questions.{questions}
 use Rattle.model.specs.Parts.{wordAt, setPart, frameOf}
+use Rattle.model.specs.Chip.{placeOf, found, takeCopy, arrives}
 use Rattle.model.specs.Designs
 use Rattle.model.specs.Accounts
 use Rattle.model.specs.Pages
@@ -38,7 +39,7 @@ use Rattle.model.specs.Writeback
 use Rattle.model.specs.Line
 use Rattle.model.specs.Writeback.{looking, beginsWrite, recordIn, cutFrame}
 use Rattle.model.specs.Requests.{decoded, decodedNumber}
-use Rattle.model.specs.Step.{outcome, asked, answer, carried, result, step}
+use Rattle.model.specs.Step.{outcome, asked, answer, carried, isFault, supplied, whole, result, step}
 use Rattle.model.specs.Calls.{apply, stepOf, unknown}
 use Rattle.sheets.specs.Sheet.{numberIn}
 use Rattle.model.specs.Import.{sheetOf, imported, importAnswer, import}
@@ -52,7 +53,8 @@ use Rattle.invariant.proofs.Looks.{Took, looking-takes}
 use Rattle.invariant.proofs.FrameParts.{part-other, word-other}
 use Rattle.invariant.proofs.Stands.{frame-of, moving-place, seat-at}
 use Rattle.invariant.proofs.Freed.{set-there, set-elsewhere}
-use Rattle.invariant.proofs.Kept.{asked-all, kept}
+use Rattle.invariant.proofs.ChipServed.{by-fault}
+use Rattle.invariant.proofs.Kept.{asked-all, kept, carried-kept}
 use Rattle.invariant.proofs.Imported.{import-good}
 
 -- frame f is as it was, and so are its words
@@ -208,13 +210,32 @@ module _ (z : Sizes) (st : State) (fits : Fit z st) (r : Ruled z st) (f : ℕ) (
   untouched (Event.Waiting (Join s p)) a o = same-core z st _ f refl
   untouched (Event.Waiting Turn) a o = by-turn z st fits r Same (λ l h. same-core z st _ f refl) (λ q. fault-untouched _ _ q) (λ q. claim-untouched q) a
 
+  -- ── and what the chip does: the frame that a fault takes stood in the free queue ──
+  beside : (x : State) (k : Chip) → Same x → Same (setChip k x)
+  beside x k u = record { words = u .words; page = u .page; transfer = u .transfer }
+
+  other-taken : (e : Event) → T (isFault z st e) → Asked (questions z st e) → ¬ (f ≡ Pages.faultFrame st)
+  unfolding Pages.faultFrame
+  other-taken e y a d = let b = by-fault z st e y a in
+      let queued : frames st .queued (first (st .memory .core .free-queue)) ≡ 1 = first-once (st .memory .core .free-queue) (fits .memory .free-queue) (r .queues .free-queue) (once-free z st r) (b .asked .1 .1 .1 .1 .1 .1 .0) in
+      omega (arith, nowhere, queued, ap (frames st .queued) d)
+
+  whole-untouched : (e : Event) → Asked (questions z st e) → T (not (isDone f e)) → Same (whole z st e)
+  unfolding whole supplied arrives takeCopy
+  whole-untouched e a o =
+      let u = untouched e a o in let x = carried z st e in let k = Pages.faultFrame st in let fx = carried-kept z st e fits r a .0 in
+      beside _ _ (if-elim (λ (y : Core). Same (onCore (λ c. y) x)) (isFault z st e) _ (x .memory .core)
+      (λ y. if-elim (λ (y : Core). Same (onCore (λ c. y) x)) (test (found z (st .memory .chip) x k)) _ (x .memory .core)
+      (λ v. untouched-trans u (by-frame z x _ f (set-elsewhere (x .memory .core .frames) k _ f (other-taken e y a)) (λ w l. part-other z (z .frames) (x .memory .core .words) (fx .memory .words) k (wordAt z (st .memory .chip .words) (placeOf z (st .memory .chip) (recordIn z x k))) w l f (t .within) (other-taken e y a))))
+      (λ v. u)) (λ n. u))
+
 -- For every state that passes questions 1 and 2, every frame in transfer and every event but its page done: its words are after `step` what they were; it is in that transfer still, of that page.
 pub transfer-words : (z : Sizes) (st : State) (e : Event) → Good z st → (f : ℕ) → InTransfer z st f → T (not (isDone f e)) → Untouched z st (step z st e .left) f
 unfolding step
 transfer-words z st e g f t o = go (answer z st e) refl
   where
-    go : (n : ℕ) → answer z st e ≡ n → Untouched z st (outcome n (result z st e) st (carried z st e) .left) f
-    go zero h = untouched z st (fit z st (g .0)) (ruled z st (g .1)) f t e (asked-all z st e h .1 .1) o
+    go : (n : ℕ) → answer z st e ≡ n → Untouched z st (outcome n (result z st e) st (whole z st e) .left) f
+    go zero h = whole-untouched z st (fit z st (g .0)) (ruled z st (g .1)) f t e (asked-all z st e h .1 .1) o
     go (suc n) h = same-core z st st f refl
 
 -- .. and every request but one for its page done

@@ -17,6 +17,7 @@ use Rattle.model.specs.declared.event.Writeback.the-variants.{Claim}
 use Rattle.model.specs.declared.event.Event.the-variants as Event
 use Rattle.model.specs.State.{Disk, State, frames, NONE, allPages, slotOf}
 use Rattle.model.specs.Laws.Index.{slot-below}
+use Rattle.model.specs.Laws.Fit.{ChipFit}
 use Rattle.model.specs.Questions.{questions}
 use Rattle.model.specs.Parts.{wordAt}
 use Rattle.model.specs.Writeback.{looking, zeros, beginsWrite}
@@ -29,8 +30,8 @@ use Rattle.invariant.proofs.Stands as Stands
 use Rattle.crash.proofs.Link.{Owned}
 use Rattle.crash.proofs.Steps.{Good}
 use Rattle.isolation.specs.Words.{bareDisk, bare, like}
-use Rattle.isolation.specs.Shown.{Shown, listedLike, imagedLike, liveLike, framesLike, writtenLike, untouchedLike, wordsLike}
-use Rattle.isolation.proofs.Reworded.{reworded}
+use Rattle.isolation.specs.Shown.{Shown, listedLike, imagedLike, liveLike, framesLike, copiesLike, placesLike, writtenLike, untouchedLike, wordsLike}
+use Rattle.isolation.proofs.Reworded.{rewordedAs}
 use Rattle.isolation.proofs.Standing.{Stands}
 use Rattle.isolation.proofs.Told.{told, ToldLike, TextLike, WriteLike, last-like, like-zero, same-like}
 use Rattle.isolation.proofs.Ledgers.{Rightly}
@@ -40,6 +41,8 @@ pub record Alike (z : Sizes) (hidden : ℕ) (w w′ : World) : Type 0 where
   pub good′ : Good z w′
   pub stands : Stands z w
   pub stands′ : Stands z w′
+  pub chip : ChipFit z (w .state .memory .chip)
+  pub chip′ : ChipFit z (w′ .state .memory .chip)
   pub up : w .up ≡ w′ .up
   pub disk : bareDisk (w .state .disk) ≡ bareDisk (w′ .state .disk)
   pub tables : T (w .up) → bare (w .state) ≡ bare (w′ .state)
@@ -141,9 +144,21 @@ module _ (z : Sizes) (hidden : ℕ) (w w′ : World) (a : Alike z hidden w w′)
         let t′ = a .good′ .memory u′ .framed f h .holding i (rw g at p) .said (rw g at n) k m in
         rw (t, t′) (a .ledger .text i (a .good .ruled u .frames .fit f h .0 i p) (framed-design f h i p) k m)
 
+    -- ── the chip: each copy is its record's on both boards, and empty places hold zeros ──
+    copies-like : Holds (copiesLike z hidden w w′)
+    unfolding copiesLike liveLike
+    copies-like b h r p i j q k m =
+        let x = a .good .copies u .rules .live b h r p in
+        let x′ = a .good′ .copies u′ .rules .live b h r (sym (ap (λ (s : State). at (s .memory .chip .copies) b) e) ∙ p) in
+        rw (x .1 k m, x′ .1 k m) (live-like i j r q (x .0) k m)
+
+    places-like : Holds (placesLike z hidden w w′)
+    unfolding placesLike
+    places-like b h p k m = a .good .copies u .rules .empty b h p k m ∙ sym (a .good′ .copies u′ .rules .empty b h (sym (ap (λ (s : State). at (s .memory .chip .copies) b) e) ∙ p) k m)
+
   pub shown : Shown z hidden w w′
   unfolding wordsLike
-  shown = record { up = a .up; disk = a .disk; tables = a .tables; words = (listed-like, (written-like, (untouched-like, λ u. (imaged-like u, (live-like u, frames-like u))))); designs = a .ledger .design }
+  shown = record { up = a .up; disk = a .disk; tables = a .tables; words = (listed-like, (written-like, (untouched-like, λ u. (imaged-like u, (live-like u, (frames-like u, (copies-like u, places-like u))))))); designs = a .ledger .design }
 
   -- ── a claim: the frame that it takes has a page, and its words are told alike ──
   module _ (u : T (w .up)) (q : Asked (questions z st (Event.Writeback Claim))) where
@@ -172,10 +187,10 @@ module _ (z : Sizes) (hidden : ℕ) (w w′ : World) (a : Alike z hidden w w′)
       some = rw (n .design) (framed-design u f hf i₀ page);
     }
 
-    zeros-same : zeros z (reworded st (st′ .disk .records) (st′ .memory .core .words)) f ≡ zeros z st f
+    zeros-same : zeros z (rewordedAs st′ st) f ≡ zeros z st f
     unfolding zeros framesLike
     zeros-same = all-same (z .words) _ _ (λ k m. sym (zero-same _ _ (like-zero hidden (w .ledger .design (slotOf z i₀)) _ _ (frames-like u f hf i₀ page (λ x. omega (arith, x, still)) k m))))
 
-    pub begins-same : beginsWrite z (reworded st (st′ .disk .records) (st′ .memory .core .words)) ≡ beginsWrite z st
+    pub begins-same : beginsWrite z (rewordedAs st′ st) ≡ beginsWrite z st
     unfolding beginsWrite looking
     begins-same = ap (λ (b : Bool). if (eqb (frames st .frame f .modified) 1) (not b) false) zeros-same

@@ -21,7 +21,7 @@ use Rattle.crash.proofs.Steps.{Good}
 use Rattle.crash.proofs.Births.{Born}
 use Rattle.crash.proofs.Given.{Given, view}
 use Rattle.isolation.specs.Words.{like}
-use Rattle.isolation.specs.Shown.{Shown, listedLike, imagedLike, liveLike, framesLike, writtenLike, untouchedLike, wordsLike}
+use Rattle.isolation.specs.Shown.{Shown, listedLike, imagedLike, liveLike, framesLike, copiesLike, placesLike, writtenLike, untouchedLike, wordsLike}
 use Rattle.isolation.proofs.Numbers.{Keeps}
 
 -- the same word by another name of its design
@@ -83,7 +83,7 @@ module _ (z : Sizes) (hidden n : ℕ) (w : World) (good : Good z w) (born : Born
   paged i h = by-slot (slotOf z i) (slot-below z (good .fit .sizes .pages) i h)
 
   pub shown-by : (w′ : World) → Shown z hidden w w′ → Shown z n (byNumber w) (byNumber w′)
-  unfolding byNumber wordsLike listedLike imagedLike liveLike framesLike writtenLike untouchedLike
+  unfolding byNumber wordsLike listedLike imagedLike liveLike framesLike copiesLike placesLike writtenLike untouchedLike
   shown-by w′ s =
       let (listed, (written, (untouched, restarted))) = s .words in
       record {
@@ -101,11 +101,14 @@ module _ (z : Sizes) (hidden n : ℕ) (w : World) (good : Good z w) (born : Born
             (
               λ r h t k m e. untouched r h (sym (last-by (w .ledger .number) r (w .ledger .finished) .0) ∙ t) k m e,
               λ u.
-                  let (imaged, (live, framed)) = restarted u in (
+                  let (imaged, (live, (framed, (copied, empty)))) = restarted u in (
                     λ i h r p k m. like-by hidden n _ _ _ _ (paged i h) (imaged i h r p k m),
                     (
                       λ i h r p q k m. like-by hidden n _ _ _ _ (paged i h) (live i h r p q k m),
-                      λ f h i p q k m. like-by hidden n _ _ _ _ (paged i (good .ruled u .frames .fit f h .0 i p)) (framed f h i p q k m),
+                      (
+                        λ f h i p q k m. like-by hidden n _ _ _ _ (paged i (good .ruled u .frames .fit f h .0 i p)) (framed f h i p q k m),
+                        (λ b h r p i j q k m. like-by hidden n _ _ _ _ (paged i j) (copied b h r p i j q k m), empty),
+                      ),
                     ),
                   ),
             ),

@@ -7,13 +7,14 @@ use lib.Dec.{T, eqb, ltb}
 use lib.ListN.{length}
 use Rattle.tables.specs.Base.{if}
 use Rattle.tables.specs.Laws.{and-right, if-elim}
-use Rattle.tables.specs.Rule.{test}
+use Rattle.tables.specs.Rule.{test, sound}
 use Rattle.model.specs.declared.sizes.Sizes.{Sizes}
 use Rattle.model.specs.declared.event.Event.{Event}
 use Rattle.model.specs.State.{Disk, Memory, State, files, frames, WRITING}
 use Rattle.model.specs.Writeback as Writeback
 use Rattle.model.specs.Setters.{raise}
 use Rattle.model.specs.Step.{answer, memoryLengths}
+use Rattle.model.specs.Laws.Fit.{ChipFit, chip-fit}
 use Rattle.model.specs.Import.{sheetOf, made}
 use Rattle.model.specs.Stores as S
 use Rattle.model.specs.Stores.{Call, stores, byAnswer, first}
@@ -21,7 +22,7 @@ use Rattle.model.specs.Acts.{cutting, cuttingIn, World, landWrites, landUpdates
 use Rattle.invariant.proofs.Midst.{Inside, inside, part-none, part-import}
 use Rattle.crash.proofs.Demand3.{act-keeps, part-keeps}
 use Rattle.isolation.specs.Words.{bareDisk, bare}
-use Rattle.isolation.proofs.Reworded.{reworded, is-reworded}
+use Rattle.isolation.proofs.Reworded.{rewordedAs, is-reworded}
 use Rattle.isolation.proofs.Told.{told, ToldLike}
 use Rattle.isolation.proofs.Landed.{cut-like}
 use Rattle.isolation.proofs.StandingAlong.{act-stands, part-stands}
@@ -36,22 +37,27 @@ unfolding landWrites Writeback.storeFrame
 writes-bare z st lands zero d = refl
 writes-bare z st lands (suc f) d = if-elim (λ (x : Disk). bareDisk x ≡ bareDisk d) (lands f && eqb (frames st .frame f .transfer) WRITING) _ _ (λ t. writes-bare z st lands f d) (λ t. writes-bare z st lands f d)
 
-updates-bare : (z : Sizes) (st : State) (rs ws : List ℕ) (lands : ℕ → Bool) (n : ℕ) (d d′ : Disk) → bareDisk d ≡ bareDisk d′ → bareDisk (landUpdates z st lands n d) ≡ bareDisk (landUpdates z (reworded st rs ws) lands n d′)
+updates-bare : (z : Sizes) (st other : State) (lands : ℕ → Bool) (n : ℕ) (d d′ : Disk) → bareDisk d ≡ bareDisk d′ → bareDisk (landUpdates z st lands n d) ≡ bareDisk (landUpdates z (rewordedAs other st) lands n d′)
 unfolding landUpdates Writeback.storeImage
-updates-bare z st rs ws lands zero d d′ e = e
-updates-bare z st rs ws lands (suc s) d d′ e = go (lands s && eqb (files st .updating s) 1) (updates-bare z st rs ws lands s d d′ e)
+updates-bare z st other lands zero d d′ e = e
+updates-bare z st other lands (suc s) d d′ e = go (lands s && eqb (files st .updating s) 1) (updates-bare z st other lands s d d′ e)
   where
-    go : (b : Bool) → (let x = landUpdates z st lands s d in let y = landUpdates z (reworded st rs ws) lands s d′ in bareDisk x ≡ bareDisk y
-        → bareDisk (if b (Writeback.storeImage z st s x) x) ≡ bareDisk (if b (Writeback.storeImage z (reworded st rs ws) s y) y))
+    go : (b : Bool) → (let x = landUpdates z st lands s d in let y = landUpdates z (rewordedAs other st) lands s d′ in bareDisk x ≡ bareDisk y
+        → bareDisk (if b (Writeback.storeImage z st s x) x) ≡ bareDisk (if b (Writeback.storeImage z (rewordedAs other st) s y) y))
     go true i = ap (λ (x : Disk). bareDisk (Writeback.storeImage z st s x)) i
     go false i = i
 
 landed-bare : (z : Sizes) (st st′ : State) (writes updates : ℕ → Bool) → bare st ≡ bare st′ → bareDisk (landed z st writes updates) ≡ bareDisk (landed z st′ writes updates)
 unfolding landed
 landed-bare z st st′ writes updates e =
-    let rs = st′ .disk .records in let ws = st′ .memory .core .words in
+    let o = rewordedAs st′ st in
     subst (λ (x : State). bareDisk (landed z st writes updates) ≡ bareDisk (landed z x writes updates)) (sym (is-reworded st st′ e))
-    (updates-bare z st rs ws updates (z .slots) _ _ (writes-bare z st writes (z .frames) (st .disk) ∙ sym (writes-bare z (reworded st rs ws) writes (z .frames) (reworded st rs ws .disk))))
+    (updates-bare z st st′ updates (z .slots) _ _ (writes-bare z st writes (z .frames) (st .disk) ∙ sym (writes-bare z o writes (z .frames) (o .disk))))
+
+-- the memory that a cut leaves is of the right lengths
+allowed-chip : (z : Sizes) (w : World) (writes updates : ℕ → Bool) (m : Memory) → T (allowed z w (cutting writes updates m)) → ChipFit z (m .chip)
+unfolding allowed
+allowed-chip z w writes updates m t = chip-fit z (m .chip) (sound (memoryLengths z m) t .1)
 
 pub cut-alike : (z : Sizes) (hidden : ℕ) (w w′ : World) (writes updates : ℕ → Bool) (m m′ : Memory) → T (allowed z w (cutting writes updates m)) → T (allowed z w′ (cutting writes updates m′))
     → Alike z hidden w w′ → Alike z hidden (act z w (cutting writes updates m)) (act z w′ (cutting writes updates m′))
@@ -61,6 +67,8 @@ cut-alike z hidden w w′ writes updates m m′ t t′ a = record {
   good′ = act-keeps z w′ (cutting writes updates m′) t′ (a .good′);
   stands = act-stands z w (cutting writes updates m) t (a .good) (a .stands);
   stands′ = act-stands z w′ (cutting writes updates m′) t′ (a .good′) (a .stands′);
+  chip = allowed-chip z w writes updates m t;
+  chip′ = allowed-chip z w′ writes updates m′ t′;
   up = refl;
   disk = subst (λ (c : Bool). bareDisk (if (w .up) (landed z (w .state) writes updates) (w .state .disk)) ≡ bareDisk (if c (landed z (w′ .state) writes updates) (w′ .state .disk))) (a .up) (go (w .up) refl);
   tables = λ u. absurd u;
@@ -78,7 +86,7 @@ module _ (z : Sizes) (hidden : ℕ) (w w′ : World) (a : Alike z hidden w w′)
   part-told (S.event e) k u = a .ledger
   part-told (S.importing s q n b) zero u = a .ledger
   part-told (S.importing s q n b) (suc k) u = subst (λ (x : State). ToldLike z hidden (told (partly z (w .state) s n (sheetOf b) k (w .ledger))) (told (partly z x s n (sheetOf b) k (w′ .ledger)))) (sym (is-reworded (w .state) (w′ .state) (a .tables u)))
-      (partly-like z (w .state) (w′ .state .disk .records) (w′ .state .memory .core .words) s hidden n (sheetOf b) (w .ledger) (w′ .ledger) (a .ledger) k)
+      (partly-like z (w .state) _ _ _ s hidden n (sheetOf b) (w .ledger) (w′ .ledger) (a .ledger) k)
 
   -- the same memory, and a disk with the same tables
   on-disks : (d d′ : Disk) → T (w .up) → bareDisk d ≡ bareDisk d′ → bare (record { disk = d; memory = w .state .memory }) ≡ bare (record { disk = d′; memory = w′ .state .memory })
@@ -91,7 +99,7 @@ module _ (z : Sizes) (hidden : ℕ) (w w′ : World) (a : Alike z hidden w w′)
       kept : AllKept (byAnswer (answer z (w .state) e) (stores z (w .state) (S.event e))) (byAnswer (answer z (w′ .state) e) (stores z (w′ .state) (S.event e)))
       kept = subst₂ (λ (n : ℕ) (x : State). AllKept (byAnswer (answer z (w .state) e) (stores z (w .state) (S.event e))) (byAnswer n (stores z x (S.event e))))
           (sym (answer-same z hidden w w′ a u e e (both-paired z hidden w w′ a u e))) (sym (is-reworded (w .state) (w′ .state) (a .tables u)))
-          (answered-kept (answer z (w .state) e) _ _ (stores-kept z (w .state) _ _ e))
+          (answered-kept (answer z (w .state) e) _ _ (stores-kept z (w .state) _ _ _ e))
 
   import-bare : (s q n : ℕ) (b : List ℕ) (k : ℕ) (m m′ : Memory) → Inside z w (S.importing s q n b) (suc k) m → Inside z w′ (S.importing s q n b) (suc k) m′
       → bare (part z w (S.importing s q n b) (suc k) .state) ≡ bare (part z w′ (S.importing s q n b) (suc k) .state)
@@ -111,6 +119,8 @@ module _ (z : Sizes) (hidden : ℕ) (w w′ : World) (a : Alike z hidden w w′)
     good′ = part-keeps z w′ c k m′ i′ (a .good′);
     stands = part-stands z w c k m i (a .stands);
     stands′ = part-stands z w′ c k m′ i′ (a .stands′);
+    chip = unfold part in part-keeps z w c k m i (a .good) .copies (i .up) .fit;
+    chip′ = unfold part in part-keeps z w′ c k m′ i′ (a .good′) .copies (i′ .up) .fit;
     up = unfold part in a .up;
     disk = ap (λ (s : State). s .disk) t;
     tables = λ x. t;

@@ -24,7 +24,7 @@ use Rattle.model.specs.Laws.Own.{first-yes}
 use Rattle.model.specs.Questions.{Turning, nobody, serves, goesBack, faults, claims, sendsAway, questions, turning, turnQuestions}
 use Rattle.model.specs.Pages.{faultFrame}
 use Rattle.model.specs.Writeback.{looking, beginsWrite, recordIn}
-use Rattle.model.specs.Step.{outcome, allFit, asked, answer, carried, result, step}
+use Rattle.model.specs.Step.{outcome, allFit, asked, answer, whole, result, step}
 use Rattle.model.specs.Ledger as L
 use Rattle.model.specs.Ledger.{Ledger, note}
 use Rattle.model.specs.Acts.{World, fed, fedTurn, noted, act, allowed, event}
@@ -32,7 +32,8 @@ use Rattle.invariant.proofs.Kept.{asked-all}
 use Rattle.crash.proofs.Steps.{Good}
 use Rattle.crash.proofs.Demand3.{act-keeps}
 use Rattle.isolation.specs.Words.{bare, like}
-use Rattle.isolation.proofs.Reworded.{reworded, is-reworded, questions-same, carried-bare, write-bare}
+use Rattle.isolation.proofs.Reworded.{rewordedAs, is-reworded, questions-same, carried-bare}
+use Rattle.isolation.proofs.Copied.{whole-bare, write-whole}
 use Rattle.isolation.proofs.Told.{told, ToldLike, same-like}
 use Rattle.isolation.proofs.Ledgers.{created-like, deleted-like, faulted-like, wrote-like, claimed-like, truncated-like, page-end-like}
 use Rattle.isolation.proofs.Landed.{map-end-like}
@@ -41,7 +42,7 @@ use Rattle.isolation.proofs.Alike.{Alike, taken-noted, begins-same}
 
 -- once restarted, questions 1 and 2 say yes, and a call is answered by its own
 pub own-questions : (z : Sizes) (w : World) (own : Questions) → T (w .up) → Good z w → firstNo (asked z (w .state) own) ≡ firstNo own
-own-questions z w own u g = let st = w .state in first-yes 1 (allFit z st) (ask 2 (allRules z st) own) (all-fit z st (g .fit)) ∙ first-yes 2 (allRules z st) own (rules z st (g .ruled u))
+own-questions z w own u g = let st = w .state in first-yes 1 (allFit z st) (ask 2 (allRules z st) own) (all-fit z st (g .fit) (g .copies u .fit)) ∙ first-yes 2 (allRules z st) own (rules z st (g .ruled u) (g .copies u .rules))
 
 own-answer : (z : Sizes) (w : World) (e : Event) → T (w .up) → Good z w → answer z (w .state) e ≡ firstNo (questions z (w .state) e)
 unfolding answer
@@ -69,7 +70,7 @@ module _ (z : Sizes) (hidden : ℕ) (w w′ : World) (a : Alike z hidden w w′)
 
   -- the second board's state, as the first's with other words
   abbrev other : State
-  other = reworded st (w′ .state .disk .records) (w′ .state .memory .core .words)
+  other = rewordedAs (w′ .state) st
 
   is-other : w′ .state ≡ other
   is-other = is-reworded st (w′ .state) (a .tables u)
@@ -124,7 +125,7 @@ module _ (z : Sizes) (hidden : ℕ) (w w′ : World) (a : Alike z hidden w w′)
   -- ── two events with the same questions, tables and notes ──
   pub record Paired (e e′ : Event) : Type 0 where
     pub asks : questions z (w′ .state) e′ ≡ questions z st e
-    pub tables : Asked (questions z st e) → bare (carried z st e) ≡ bare (carried z (w′ .state) e′)
+    pub tables : Asked (questions z st e) → bare (whole z st e) ≡ bare (whole z (w′ .state) e′)
     pub noted : Asked (questions z st e) → Noted (fed z st e) (fed z (w′ .state) e′)
 
   pub answer-same : (e e′ : Event) → Paired e e′ → answer z (w′ .state) e′ ≡ answer z st e
@@ -132,7 +133,7 @@ module _ (z : Sizes) (hidden : ℕ) (w w′ : World) (a : Alike z hidden w w′)
 
   -- what an answer leaves
   abbrev after : World → Event → ℕ → World
-  after x e n = let o = outcome n (result z (x .state) e) (x .state) (carried z (x .state) e) in record { up = x .up; state = o .left; ledger = noted z o (fed z (x .state) e) (x .ledger) }
+  after x e n = let o = outcome n (result z (x .state) e) (x .state) (whole z (x .state) e) in record { up = x .up; state = o .left; ledger = noted z o (fed z (x .state) e) (x .ledger) }
 
   module _ (e e′ : Event) (p : Paired e e′) where
     tables-after : (n : ℕ) → answer z st e ≡ n → bare (after w e n .state) ≡ bare (after w′ e′ n .state)
@@ -151,6 +152,8 @@ module _ (z : Sizes) (hidden : ℕ) (w w′ : World) (a : Alike z hidden w w′)
       good′ = act-keeps z w′ (event e′) (up-allowed z w′ e′ (rw (a .up) at u)) (a .good′);
       stands = act-stands z w (event e) (up-allowed z w e u) (a .good) (a .stands);
       stands′ = act-stands z w′ (event e′) (up-allowed z w′ e′ (rw (a .up) at u)) (a .good′) (a .stands′);
+      chip = act-keeps z w (event e) (up-allowed z w e u) (a .good) .copies u .fit;
+      chip′ = act-keeps z w′ (event e′) (up-allowed z w′ e′ (rw (a .up) at u)) (a .good′) .copies (rw (a .up) at u) .fit;
       up = a .up;
       disk = ap (λ (s : State). s .disk) t;
       tables = λ x. t;
@@ -167,24 +170,24 @@ module _ (z : Sizes) (hidden : ℕ) (w w′ : World) (a : Alike z hidden w w′)
 
     pub results-same : result z (w′ .state) e′ ≡ result z st e → step z st e .answer .result ≡ step z (w′ .state) e′ .answer .result
     unfolding step
-    results-same q = subst (λ (n : ℕ). outcome (answer z st e) (result z st e) st (carried z st e) .answer .result ≡ outcome n (result z (w′ .state) e′) (w′ .state) (carried z (w′ .state) e′) .answer .result) (sym (answer-same e e′ p)) (go (answer z st e))
+    results-same q = subst (λ (n : ℕ). outcome (answer z st e) (result z st e) st (whole z st e) .answer .result ≡ outcome n (result z (w′ .state) e′) (w′ .state) (whole z (w′ .state) e′) .answer .result) (sym (answer-same e e′ p)) (go (answer z st e))
       where
-        go : (n : ℕ) → outcome n (result z st e) st (carried z st e) .answer .result ≡ outcome n (result z (w′ .state) e′) (w′ .state) (carried z (w′ .state) e′) .answer .result
+        go : (n : ℕ) → outcome n (result z st e) st (whole z st e) .answer .result ≡ outcome n (result z (w′ .state) e′) (w′ .state) (whole z (w′ .state) e′) .answer .result
         go zero = sym q
         go (suc n) = refl
 
   -- ── the same event, and a write of another value ──
   pub both-paired : (e : Event) → Paired e e
   both-paired e = record {
-    asks = ap (λ (s : State). questions z s e) is-other ∙ questions-same z st _ _ e;
-    tables = λ q. subst (λ (s : State). bare (carried z st e) ≡ bare (carried z s e)) (sym is-other) (sym (carried-bare z st _ _ e q (λ k. begins-same z hidden w w′ a u k) .tables));
+    asks = ap (λ (s : State). questions z s e) is-other ∙ questions-same z st _ _ _ e;
+    tables = λ q. subst (λ (s : State). bare (whole z st e) ≡ bare (whole z s e)) (sym is-other) (sym (whole-bare z st _ _ _ e (carried-bare z st _ _ _ e q (λ k. begins-same z hidden w w′ a u k)) .tables));
     noted = λ q. subst (λ (s : State). Noted (fed z st e) (fed z s e)) (sym is-other) (event-fed e q);
   }
 
   pub write-paired : (s p k x y : ℕ) → Holds (like hidden (l .design s) x y) → Paired (Event.Page (Write s p k x)) (Event.Page (Write s p k y))
-  unfolding carried fed
+  unfolding fed
   write-paired s p k x y v = record {
-    asks = ap (λ (t : State). questions z t (Event.Page (Write s p k y))) is-other ∙ questions-same z st (w′ .state .disk .records) (w′ .state .memory .core .words) (Event.Page (Write s p k y));
-    tables = λ q. subst (λ (t : State). bare (carried z st (Event.Page (Write s p k x))) ≡ bare (carried z t (Event.Page (Write s p k y)))) (sym is-other) (sym (write-bare z st _ _ s p k x y .tables));
+    asks = ap (λ (t : State). questions z t (Event.Page (Write s p k y))) is-other ∙ questions-same z st (w′ .state .disk .records) (w′ .state .memory .core .words) (w′ .state .memory .chip .words) (Event.Page (Write s p k y));
+    tables = λ q. subst (λ (t : State). bare (whole z st (Event.Page (Write s p k x))) ≡ bare (whole z t (Event.Page (Write s p k y)))) (sym is-other) (sym (write-whole z st _ _ _ s p k x y .tables));
     noted = λ q. wrote-like z hidden l l′ (a .ledger) s p k x y (rw (slot-of-page z (a .good .fit .sizes .pages) s p (q .0 .1 .0)) v);
   }

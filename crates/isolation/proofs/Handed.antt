@@ -16,7 +16,7 @@ use Rattle.model.specs.State.{State, pageOf}
 use Rattle.model.specs.Laws.Ruled.{rules}
 use Rattle.model.specs.Laws.Index.{slot-of-page, page-below}
 use Rattle.model.specs.Questions.{questions, lookQuestions}
-use Rattle.model.specs.Step.{outcome, asked, answer, carried, result, step, look}
+use Rattle.model.specs.Step.{outcome, asked, answer, whole, result, step, look}
 use Rattle.model.specs.Acts.{World}
 use Rattle.invariant.proofs.Kept.{asked-all}
 use Rattle.crash.proofs.Says.{says-from-pack}
@@ -31,7 +31,7 @@ pub no-result : (z : Sizes) (x : State) (e : Event) (n : ℕ) → step z x e .an
 unfolding step
 no-result z x e n = go (answer z x e)
   where
-    go : (m : ℕ) → outcome m (result z x e) x (carried z x e) .answer .refusal ≡ suc n → outcome m (result z x e) x (carried z x e) .answer .result ≡ 0
+    go : (m : ℕ) → outcome m (result z x e) x (whole z x e) .answer .refusal ≡ suc n → outcome m (result z x e) x (whole z x e) .answer .result ≡ 0
     go zero h = absurd (omega (arith, h))
     go (suc m) h = refl
 
@@ -53,7 +53,7 @@ look-asked z x s p h = all-yes 0 (asked z x (lookQuestions z x s p)) tt (sym (re
 
 pub read-asked : (z : Sizes) (x : State) (s p k : ℕ) → step z x (Event.Page (Read s p k)) .answer .refusal ≡ 0 → Asked (questions z x (Event.Page (Read s p k)))
 unfolding step
-read-asked z x s p k h = let e : Event = Event.Page (Read s p k) in asked-all z x e (sym (refused (answer z x e) (result z x e) x (carried z x e)) ∙ h) .1 .1
+read-asked z x s p k h = let e : Event = Event.Page (Read s p k) in asked-all z x e (sym (refused (answer z x e) (result z x e) x (whole z x e)) ∙ h) .1 .1
 
 module _ (z : Sizes) (hidden : ℕ) (w w′ : World) (a : Alike z hidden w w′) (u : T (w .up)) where
   abbrev st : State

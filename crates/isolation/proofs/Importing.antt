@@ -26,9 +26,9 @@ made-bare z st s q n h zero d = refl
 made-bare z st s q n h (suc k) d = made-bare z st s q n h k d
 
 -- ── the records taken, by tables alone ──
-module _ (z : Sizes) (st : State) (rs ws : List ℕ) (s : ℕ) where
+module _ (z : Sizes) (st : State) (rs ws ks : List ℕ) (s : ℕ) where
   abbrev st′ : State
-  st′ = reworded st rs ws
+  st′ = reworded st rs ws ks
 
   taking-at : (k : ℕ) → taking z st′ s k ≡ taking z st s k
   unfolding taking

@@ -17,7 +17,7 @@ use Rattle.model.specs.Acts.{importing, World, wholly, act, allowed}
 use Rattle.crash.proofs.Demand3.{act-keeps}
 use Rattle.isolation.specs.Words.{bare}
 use Rattle.isolation.specs.Answers.{Answers}
-use Rattle.isolation.proofs.Reworded.{reworded, is-reworded}
+use Rattle.isolation.proofs.Reworded.{rewordedAs, is-reworded}
 use Rattle.isolation.proofs.Told.{told, ToldLike}
 use Rattle.isolation.proofs.StandingAlong.{act-stands}
 use Rattle.isolation.proofs.Importing.{imported-bare, wholly-like}
@@ -33,7 +33,7 @@ module _ (z : Sizes) (hidden : ℕ) (w w′ : World) (a : Alike z hidden w w′)
 
   -- the second board's state, as the first's with other words
   abbrev other : State
-  other = reworded st (w′ .state .disk .records) (w′ .state .memory .core .words)
+  other = rewordedAs (w′ .state) st
 
   is-other : w′ .state ≡ other
   is-other = is-reworded st (w′ .state) (a .tables u)
@@ -62,11 +62,11 @@ module _ (z : Sizes) (hidden : ℕ) (w w′ : World) (a : Alike z hidden w w′)
       record { up = x .up; state = o .left; ledger = if (eqb (o .answer .refusal) 0) (wholly z (x .state) s n (sheetOf b) (x .ledger)) (x .ledger) }
 
   tables-after : (m : ℕ) → bare (after w m .state) ≡ bare (after w′ m .state)
-  tables-after zero = sym (ap (λ (x : State). bare (imported z x s q n (sheetOf b))) is-other ∙ imported-bare z st _ _ s q n (sheetOf b) .tables)
+  tables-after zero = sym (ap (λ (x : State). bare (imported z x s q n (sheetOf b))) is-other ∙ imported-bare z st _ _ _ s q n (sheetOf b) .tables)
   tables-after (suc m) = a .tables u
 
   told-after : (m : ℕ) → ToldLike z hidden (told (after w m .ledger)) (told (after w′ m .ledger))
-  told-after zero = subst (λ (x : State). ToldLike z hidden (told (wholly z st s n (sheetOf b) (w .ledger))) (told (wholly z x s n (sheetOf b) (w′ .ledger)))) (sym is-other) (wholly-like z st _ _ s hidden n (sheetOf b) (w .ledger) (w′ .ledger) (a .ledger))
+  told-after zero = subst (λ (x : State). ToldLike z hidden (told (wholly z st s n (sheetOf b) (w .ledger))) (told (wholly z x s n (sheetOf b) (w′ .ledger)))) (sym is-other) (wholly-like z st _ _ _ s hidden n (sheetOf b) (w .ledger) (w′ .ledger) (a .ledger))
   told-after (suc m) = rw (ne-eqb (suc m) 0 (λ x. omega (arith, x))) (a .ledger)
 
   -- once restarted an import may come
@@ -81,6 +81,8 @@ module _ (z : Sizes) (hidden : ℕ) (w w′ : World) (a : Alike z hidden w w′)
     good′ = act-keeps z w′ (importing s q n b) (may w′ u′) (a .good′);
     stands = act-stands z w (importing s q n b) (may w u) (a .good) (a .stands);
     stands′ = act-stands z w′ (importing s q n b) (may w′ u′) (a .good′) (a .stands′);
+    chip = act-keeps z w (importing s q n b) (may w u) (a .good) .copies u .fit;
+    chip′ = act-keeps z w′ (importing s q n b) (may w′ u′) (a .good′) .copies u′ .fit;
     up = a .up;
     disk = ap (λ (x : State). x .disk) t;
     tables = λ x. t;

@@ -14,9 +14,9 @@ use Rattle.model.specs.declared.event.Event.the-variants as Event
 use Rattle.model.specs.State.{Disk, Memory, State, files, slotOf}
 use Rattle.model.specs.Parts.{wordAt}
 use Rattle.model.specs.Laws.Ruled as R
-use Rattle.model.specs.Laws.Fit.{disk-fit}
+use Rattle.model.specs.Laws.Fit.{disk-fit, chip-fit}
 use Rattle.model.specs.Restart.{formatted}
-use Rattle.model.specs.Step.{result, step}
+use Rattle.model.specs.Step.{memoryLengths, result, step}
 use Rattle.model.specs.Ledger.{unwritten, packDesign, packNumber, filled, noWrite}
 use Rattle.model.specs.Acts.{Act, event, looking, importing, exporting, restarting, cutting, cuttingIn, World, act, allowed, legal, start}
 use Rattle.invariant.proofs.Records.{disk-alone}
@@ -42,7 +42,7 @@ module _ (z : Sizes) (hidden : ℕ) (w w′ : World) (a : Alike z hidden w w′)
   result-like e u = go e
     where
       other : (e : Event) → T (not (reads e)) → step z (w .state) e .answer .result ≡ step z (w′ .state) e .answer .result
-      other e n = results-same z hidden w w′ a u e e (both-paired z hidden w w′ a u e) (ap (λ (s : State). result z s e) (is-reworded (w .state) (w′ .state) (a .tables u)) ∙ result-same z (w .state) (w′ .state .disk .records) (w′ .state .memory .core .words) e n)
+      other e n = results-same z hidden w w′ a u e e (both-paired z hidden w w′ a u e) (ap (λ (s : State). result z s e) (is-reworded (w .state) (w′ .state) (a .tables u)) ∙ result-same z (w .state) (w′ .state .disk .records) (w′ .state .memory .core .words) (w′ .state .memory .chip .words) e n)
 
       go : (e : Event) → Holds (results hidden (w .ledger .design) (event e) (answered z w (event e) .result) (answered z w′ (event e) .result))
       go (Event.Design e) = other (Event.Design e) tt
@@ -86,13 +86,15 @@ seen z hidden (x ∷ xs) (y ∷ ys) w w′ t t′ h a =
     (shown z hidden w w′ a, (o .0, seen z hidden xs ys (act z w x) (act z w′ y) (and-right (allowed z w x) (legal z (act z w x) xs) t) (and-right (allowed z w′ y) (legal z (act z w′ y) ys) t′) (h .1) (o .1)))
 
 -- ── the start ──
-start-alike : (z : Sizes) (hidden : ℕ) (pack pack′ : Disk) (junk junk′ : Memory) → AlikePacks z hidden pack pack′ → Good z (start z pack junk) → Good z (start z pack′ junk′) → Alike z hidden (start z pack junk) (start z pack′ junk′)
+start-alike : (z : Sizes) (hidden : ℕ) (pack pack′ : Disk) (junk junk′ : Memory) → Holds (memoryLengths z junk) → Holds (memoryLengths z junk′) → AlikePacks z hidden pack pack′ → Good z (start z pack junk) → Good z (start z pack′ junk′) → Alike z hidden (start z pack junk) (start z pack′ junk′)
 unfolding start unwritten packDesign packNumber packsLike noWrite
-start-alike z hidden pack pack′ junk junk′ p g g′ = record {
+start-alike z hidden pack pack′ junk junk′ m m′ p g g′ = record {
   good = g;
   good′ = g′;
   stands = start-stands z pack junk;
   stands′ = start-stands z pack′ junk′;
+  chip = chip-fit z (junk .chip) (m .1);
+  chip′ = chip-fit z (junk′ .chip) (m′ .1);
   up = refl;
   disk = p .tables;
   tables = λ u. absurd u;
@@ -118,7 +120,7 @@ same-packs z hidden pack = record { tables = refl; words = λ i h r e k m. same-
 pub isolated : Isolated
 isolated z hidden pack pack′ junk junk′ sizes lengths lengths′ memory memory′ rules p acts acts′ t t′ h =
     seen z hidden acts acts′ (start z pack junk) (start z pack′ junk′) t t′ h
-    (start-alike z hidden pack pack′ junk junk′ p (start-good z pack junk sizes (disk-fit z pack lengths) memory r) (start-good z pack′ junk′ sizes (disk-fit z pack′ lengths′) memory′ r′))
+    (start-alike z hidden pack pack′ junk junk′ memory memory′ p (start-good z pack junk sizes (disk-fit z pack lengths) memory r) (start-good z pack′ junk′ sizes (disk-fit z pack′ lengths′) memory′ r′))
   where
     r : R.OnDisk z (files (record { disk = pack; memory = junk }))
     r = R.disk-ruled z (record { disk = pack; memory = junk }) rules
@@ -130,4 +132,4 @@ isolated z hidden pack pack′ junk junk′ sizes lengths lengths′ memory memo
 pub isolated-formatted : IsolatedFormatted
 isolated-formatted z hidden parents junk junk′ sizes low memory memory′ acts acts′ t t′ h =
     seen z hidden acts acts′ (start z (formatted z parents) junk) (start z (formatted z parents) junk′) t t′ h
-    (start-alike z hidden (formatted z parents) (formatted z parents) junk junk′ (same-packs z hidden (formatted z parents)) (format-good z parents junk sizes low memory) (format-good z parents junk′ sizes low memory′))
+    (start-alike z hidden (formatted z parents) (formatted z parents) junk junk′ memory memory′ (same-packs z hidden (formatted z parents)) (format-good z parents junk sizes low memory) (format-good z parents junk′ sizes low memory′))

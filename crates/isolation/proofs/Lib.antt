@@ -1,5 +1,6 @@
 -- Another mill's pattern cannot show: the relation between two boards is kept by every act, and the theorem.
 pub mod Reworded
+pub mod Copied
 pub mod Told
 pub mod Ledgers
 pub mod Landed

@@ -16,7 +16,7 @@ use Rattle.model.specs.declared.event.Event.{Event}
 use Rattle.model.specs.declared.event.Event.the-variants as Event
 use Rattle.tables.specs.Rule.{same, test}
 use Rattle.model.specs.State.{State, files, frames, READING, pageOf, live, usedOf, charged}
-use Rattle.model.specs.Setters.{onDisk, onCore, setRecords, setWords, counted}
+use Rattle.model.specs.Setters.{onDisk, onCore, setRecords, setWords, setChip, counted}
 use Rattle.model.specs.Parts.{frameOf}
 use Rattle.model.specs.Questions.{Turning, nobody, serves, goesBack, faults, claims, sendsAway, questions, turning, turnQuestions, wouldStore}
 use Rattle.model.specs.Designs
@@ -26,15 +26,19 @@ use Rattle.model.specs.Writeback
 use Rattle.model.specs.Writeback.{beginsWrite}
 use Rattle.model.specs.Line
 use Rattle.model.specs.Step.{carried, result}
-use Rattle.isolation.specs.Words.{bare}
+use Rattle.isolation.specs.Words.{setCopied, bare}
 
 -- the state with other words
-abbrev pub reworded : State → List ℕ → List ℕ → State
-reworded st rs ws = onDisk (setRecords rs) (onCore (setWords ws) st)
+abbrev pub reworded : State → List ℕ → List ℕ → List ℕ → State
+reworded st rs ws ks = onDisk (setRecords rs) (onCore (setWords ws) (setChip (setCopied ks (st .memory .chip)) st))
+
+-- .. with the words of another
+abbrev pub rewordedAs : State → State → State
+rewordedAs st′ st = reworded st (st′ .disk .records) (st′ .memory .core .words) (st′ .memory .chip .words)
 
 -- a state whose tables but the words are those of another is that one, reworded
-pub is-reworded : (st st′ : State) → bare st ≡ bare st′ → st′ ≡ reworded st (st′ .disk .records) (st′ .memory .core .words)
-is-reworded st st′ e = ap (λ (x : State). reworded x (st′ .disk .records) (st′ .memory .core .words)) (sym e)
+pub is-reworded : (st st′ : State) → bare st ≡ bare st′ → st′ ≡ rewordedAs st′ st
+is-reworded st st′ e = ap (rewordedAs st′) (sym e)
 
 -- two states with the same tables but for the words
 pub record Same (x y : State) : Type 0 where
@@ -65,9 +69,9 @@ reads (Event.Page (Unwire s p)) = false
 reads (Event.Writeback e) = false
 reads (Event.Waiting e) = false
 
-module _ (z : Sizes) (st : State) (rs ws : List ℕ) where
+module _ (z : Sizes) (st : State) (rs ws ks : List ℕ) where
   abbrev st′ : State
-  st′ = reworded st rs ws
+  st′ = reworded st rs ws ks
 
   pub questions-same : (e : Event) → questions z st′ e ≡ questions z st e
   unfolding charged usedOf counted Accounts.move turning wouldStore

@@ -25,7 +25,7 @@ use Rattle.model.specs.Rules.{diskRules}
 use Rattle.model.specs.Laws.Ruled.{Ruled}
 use Rattle.model.specs.Restart.{raised, restarted}
 use Rattle.model.specs.Laws.Fit.{Fit}
-use Rattle.model.specs.Step.{outcome, allFit, answer, carried, result, step, restart}
+use Rattle.model.specs.Step.{outcome, allFit, answer, supplied, whole, result, step, restart}
 use Rattle.model.specs.Ledger as L
 use Rattle.model.specs.Ledger.{Ledger, note, ended, spent, carriedIn, pageWrite, placed, lose, finishWrite, finishUpdate, finishWrites, finishUpdates, noWrite, unwritten}
 use Rattle.model.specs.Demand3.{lastInto}
@@ -158,10 +158,10 @@ module _ (z : Sizes) where
       subst (λ (st : State). Stand z (at (st .disk .records)) (x .pack) (x .finished)) (sym (p .2)) (midway-stands z (w .state) (w .ledger) s q m (sheetOf b) (import-before z (w .state) s q m b (p .0)) k n (p .1))
 
   event-stands : (w : World) (e : Event) → T (w .up) → Good z w → Stands z w → Stand z (at (act z w (event e) .state .disk .records)) (w .ledger .pack) (act z w (event e) .ledger .finished)
-  unfolding act step noted
+  unfolding act step noted whole supplied
   event-stands w e u g s = go (answer z (w .state) e) refl
     where
-      go : (n : ℕ) → answer z (w .state) e ≡ n → (let o = outcome n (result z (w .state) e) (w .state) (carried z (w .state) e) in Stand z (at (o .left .disk .records)) (w .ledger .pack) (noted z o (fed z (w .state) e) (w .ledger) .finished))
+      go : (n : ℕ) → answer z (w .state) e ≡ n → (let o = outcome n (result z (w .state) e) (w .state) (whole z (w .state) e) in Stand z (at (o .left .disk .records)) (w .ledger .pack) (noted z o (fed z (w .state) e) (w .ledger) .finished))
       go zero a = carried-stands z (w .state) (w .ledger) (g .fit) (g .ruled u) (g .memory u) s e (asked-all z (w .state) e a .1 .1)
       go (suc n) a = rw (ne-eqb (suc n) 0 (λ x. omega (arith, x))) s
 

@@ -44,9 +44,9 @@ pub answered-kept : (n : ℕ) (fs gs : List (Disk → Disk)) → AllKept fs gs �
 answered-kept zero fs gs a = a
 answered-kept (suc n) fs gs a = tt
 
-module _ (z : Sizes) (st : State) (rs ws : List ℕ) where
+module _ (z : Sizes) (st : State) (rs ws ks : List ℕ) where
   abbrev st′ : State
-  st′ = reworded st rs ws
+  st′ = reworded st rs ws ks
 
   done-kept : (f : ℕ) (a b : Bool) → AllKept (if a [] (if b (storeFrame z st f ∷ []) [])) (if a [] (if b (storeFrame z st′ f ∷ []) []))
   unfolding storeFrame

@@ -9,29 +9,31 @@ use Rattle.tables.specs.Base.{at, if, all}
 use Rattle.tables.specs.Rule.{test}
 use Rattle.sheets.specs.Sheet.{printed}
 use Rattle.model.specs.declared.event.Page.the-variants.{Fault, Write}
-use Rattle.model.specs.declared.event.Writeback.the-variants.{Claim, PageDone}
+use Rattle.model.specs.declared.event.Writeback.the-variants.{Claim, Truncate, PageDone}
 use Rattle.model.specs.declared.event.Event.{Event}
 use Rattle.model.specs.declared.event.Event.the-variants as Event
 use Rattle.model.specs.Lines.{FREE}
 use Rattle.model.specs.State.{State}
-use Rattle.model.specs.Setters.{onDisk, onCore, onHeld, setRecords, setLimits, setWords, setStates, setHand, setUsed}
+use Rattle.model.specs.Setters.{onDisk, onCore, onHeld, setRecords, setLimits, setWords, setStates, setHand, setUsed, setChip}
 use Rattle.model.specs.Parts.{wordAt}
 use Rattle.model.specs.Accounts
-use Rattle.model.specs.Step.{carried}
+use Rattle.model.specs.Step.{carried, whole}
 use Rattle.model.specs.Export.{pageText}
 use Rattle.model.specs.Demand3.{lastInto}
 use Rattle.model.specs.Acts.{Act, World, run}
 use Rattle.edges.specs.Lists.{limit, create, delete, activate, deactivate, fault, read, write, wire, claim, truncate, update, pageDone, mapDone, turn, look, restart, small, said}
 use Rattle.edges.specs.Sheets.{import}
+use Rattle.isolation.specs.Words.{setCopied}
 use Rattle.isolation.specs.Answers.{results}
-use Rattle.isolation.specs.Shown.{listedLike, imagedLike, liveLike, framesLike, writtenLike, untouchedLike, wordsLike}
+use Rattle.isolation.specs.Shown.{listedLike, imagedLike, liveLike, framesLike, copiesLike, placesLike, writtenLike, untouchedLike, wordsLike}
 use Rattle.isolation.specs.Pairs.{diskTables, memoryTables, same, Board, first, second, fresh, rubbish, cutAt, exportTo, opened, put}
 
--- the sentences that say no: 1 the disk's tables, 2 the memory's, 3 listed records, 4 those of begun images, 5 live ones, 6 frames, 7 records that were written, 8 records that were not; 9 the words as a whole
+-- the sentences that say no: 1 the disk's tables, 2 the memory's, 3 listed records, 4 those of begun images, 5 live ones, 6 frames, 7 records that were written, 8 records that were not; 9 copies in the chip, 10 its empty places; 11 the words as a whole
 unfoldable denied : World → World → List ℕ
-unfolding said lastInto listedLike imagedLike liveLike framesLike writtenLike untouchedLike wordsLike
+unfolding said lastInto listedLike imagedLike liveLike framesLike copiesLike placesLike writtenLike untouchedLike wordsLike
 denied w w′ = no 1 (same (diskTables (w .state .disk)) (diskTables (w′ .state .disk))) (no 2 (same (memoryTables (w .state .memory)) (memoryTables (w′ .state .memory)))
-    (no 3 (test (listedLike small 1 w w′)) (no 4 (test (imagedLike small 1 w w′)) (no 5 (test (liveLike small 1 w w′)) (no 6 (test (framesLike small 1 w w′)) (no 7 (test (writtenLike small 1 w w′)) (no 8 (test (untouchedLike small 1 w w′)) (no 9 (test (wordsLike small 1 w w′)) []))))))))
+    (no 3 (test (listedLike small 1 w w′)) (no 4 (test (imagedLike small 1 w w′)) (no 5 (test (liveLike small 1 w w′)) (no 6 (test (framesLike small 1 w w′)) (no 7 (test (writtenLike small 1 w w′)) (no 8 (test (untouchedLike small 1 w w′))
+    (no 9 (test (copiesLike small 1 w w′)) (no 10 (test (placesLike small 1 w w′)) (no 11 (test (wordsLike small 1 w w′)) []))))))))))
   where
     no : ℕ → Bool → List ℕ → List ℕ
     no n true rest = rest
@@ -58,11 +60,11 @@ handed acts call b = call (run small (fresh b) (acts b) .state)
 -- ── the lists ──
 -- a page of each design in a frame: the hidden one's holds 9 or 4, the other's 6
 abbrev framed : Board → List Act
-framed b = opened ++ put b ++ fault 0 0 ∷ fault 1 0 ∷ pageDone 0 1 ∷ pageDone 1 1 ∷ []
+framed b = opened ++ put b ++ fault 0 0 ∷ fault 1 0 ∷ []
 
 -- the hidden design's page has left frame 0, and the other design's is being read into it
 abbrev reading : Board → List Act
-reading b = opened ++ put b ++ fault 1 0 ∷ []
+reading b = opened ++ put b ++ deactivate 1 ∷ activate 1 ∷ fault 1 0 ∷ []
 
 -- the hidden design's record has been freed, and the other design's page 1 holds it, nulled
 abbrev taken : Board → List Act
@@ -74,7 +76,18 @@ begun b = framed b ++ update 1 ∷ []
 
 -- the hidden design's page is written in its frame, and may be claimed
 abbrev due : Board → List Act
-due b = opened ++ put b ++ fault 0 0 ∷ pageDone 0 1 ∷ write 0 0 0 (b .value 1) ∷ []
+due b = opened ++ put b ++ fault 0 0 ∷ write 0 0 0 (b .value 1) ∷ []
+
+-- the hidden design's copy is dropped: its place, the first, is empty
+abbrev dropped : Board → List Act
+dropped b = opened ++ put b ++ truncate 0 0 ∷ []
+
+-- the chip with other words, and with other places
+abbrev inChip : List ℕ → State → State
+inChip ws st = setChip (setCopied ws (st .memory .chip)) st
+
+abbrev inPlaces : List ℕ → List ℕ → State → State
+inPlaces rs n st = setChip (record { words = st .memory .chip .words; copies = rs; next = n }) st
 
 -- ── the wrong keepers ──
 -- a fault that does not zero the frame
@@ -112,6 +125,18 @@ exportBelow st = length (printed (small .words) (small .pages) 7 (λ p j. pageTe
 abbrev exportByEntry : State → ℕ
 exportByEntry st = length (printed (small .words) (small .pages) 7 (λ p j. at (st .disk .maps) p))
 
+-- a truncate that empties a copy's place and leaves its words there
+abbrev lingers : Board → State → State
+lingers b st = inChip (st .memory .chip .words) (whole small st (Event.Writeback (Truncate 0 0)))
+
+-- a keeper that has not dropped the copy of a record which has passed to the other design
+abbrev undropped : Board → State → State
+undropped b st = setChip (record { words = b .value 1 ∷ 0 ∷ 0 ∷ 6 ∷ []; copies = 1 ∷ 2 ∷ []; next = 0 ∷ [] }) st
+
+-- a fault that takes a copy only if its first word is below 5
+abbrev faultByWord : Board → State → State
+faultByWord b st = if (ltb (at (st .memory .chip .words) 0) 5) (whole small st (Event.Page (Fault 0 0))) (carried small st (Event.Page (Fault 0 0)))
+
 -- an act of each kind, but a read of the hidden design, if that is in slot 1
 abbrev id : ℕ → ℕ
 id s = s
@@ -128,37 +153,48 @@ pub record Denials : Type 0 where
   -- unhurt, nothing is denied
   whole : after framed (λ st. st) ≡ []
   -- a word of the other design in its frame, and in its record, which is listed and live; and in a begun image
-  frame : after framed (onCore (setWords (4 ∷ 0 ∷ 0 ∷ 7 ∷ []))) ≡ 6 ∷ 9 ∷ []
-  record′ : after framed (onDisk (setRecords (4 ∷ 0 ∷ 0 ∷ 7 ∷ 0 ∷ 0 ∷ 0 ∷ 0 ∷ []))) ≡ 3 ∷ 5 ∷ 7 ∷ 9 ∷ []
-  image : after begun (onDisk (setRecords (4 ∷ 0 ∷ 0 ∷ 7 ∷ 0 ∷ 0 ∷ 0 ∷ 0 ∷ []))) ≡ 3 ∷ 4 ∷ 5 ∷ 7 ∷ 9 ∷ []
+  frame : after framed (onCore (setWords (4 ∷ 0 ∷ 0 ∷ 7 ∷ []))) ≡ 6 ∷ 11 ∷ []
+  record′ : after framed (onDisk (setRecords (4 ∷ 0 ∷ 0 ∷ 7 ∷ 0 ∷ 0 ∷ 0 ∷ 0 ∷ []))) ≡ 3 ∷ 5 ∷ 7 ∷ 11 ∷ []
+  image : after begun (onDisk (setRecords (4 ∷ 0 ∷ 0 ∷ 7 ∷ 0 ∷ 0 ∷ 0 ∷ 0 ∷ []))) ≡ 3 ∷ 4 ∷ 5 ∷ 7 ∷ 11 ∷ []
   -- the hidden design's words may be any, but zero on both or on neither
   other-value : after framed (onCore (setWords (1 ∷ 0 ∷ 0 ∷ 6 ∷ []))) ≡ []
-  zero-on-one : after framed (onCore (setWords (0 ∷ 0 ∷ 0 ∷ 6 ∷ []))) ≡ 6 ∷ 9 ∷ []
-  zero-record : after framed (onDisk (setRecords (4 ∷ 1 ∷ 0 ∷ 6 ∷ 0 ∷ 0 ∷ 0 ∷ 0 ∷ []))) ≡ 3 ∷ 5 ∷ 7 ∷ 9 ∷ []
+  zero-on-one : after framed (onCore (setWords (0 ∷ 0 ∷ 0 ∷ 6 ∷ []))) ≡ 6 ∷ 11 ∷ []
+  zero-record : after framed (onDisk (setRecords (4 ∷ 1 ∷ 0 ∷ 6 ∷ 0 ∷ 0 ∷ 0 ∷ 0 ∷ []))) ≡ 3 ∷ 5 ∷ 7 ∷ 11 ∷ []
   -- a table
   table : after framed (onDisk (setLimits (5 ∷ []))) ≡ 1 ∷ []
   used : after framed (setUsed (1 ∷ [])) ≡ 2 ∷ []
   -- a record that nobody has written since the format
-  untouched : after framed (onDisk (setRecords (4 ∷ 0 ∷ 0 ∷ 6 ∷ 1 ∷ 0 ∷ 0 ∷ 0 ∷ []))) ≡ 8 ∷ 9 ∷ []
+  untouched : after framed (onDisk (setRecords (4 ∷ 0 ∷ 0 ∷ 6 ∷ 1 ∷ 0 ∷ 0 ∷ 0 ∷ []))) ≡ 8 ∷ 11 ∷ []
   -- not what an earlier holder left in a reading frame, nor what stands in a free one
   left : after reading (onCore (setWords (3 ∷ 3 ∷ 3 ∷ 3 ∷ []))) ≡ []
   -- until the restart only the disk is compared: the words as a whole are not denied by what memory holds, but by a listed record
   down : after (λ b. framed b ++ cutAt b [] [] ∷ []) (λ st. st) ≡ 2 ∷ 5 ∷ 6 ∷ []
-  down-record : after (λ b. framed b ++ cutAt b [] [] ∷ []) (onDisk (setRecords (4 ∷ 0 ∷ 0 ∷ 7 ∷ 0 ∷ 0 ∷ 0 ∷ 0 ∷ []))) ≡ 2 ∷ 3 ∷ 4 ∷ 5 ∷ 6 ∷ 7 ∷ 9 ∷ []
+  down-record : after (λ b. framed b ++ cutAt b [] [] ∷ []) (onDisk (setRecords (4 ∷ 0 ∷ 0 ∷ 7 ∷ 0 ∷ 0 ∷ 0 ∷ 0 ∷ []))) ≡ 2 ∷ 3 ∷ 4 ∷ 5 ∷ 6 ∷ 7 ∷ 11 ∷ []
   -- nor what one left in a record that another design holds now and has not written, but for zeros
   held : after taken (onDisk (setRecords (1 ∷ 0 ∷ 0 ∷ 6 ∷ 0 ∷ 0 ∷ 0 ∷ 0 ∷ []))) ≡ []
-  held-zero : after taken (onDisk (setRecords (0 ∷ 0 ∷ 0 ∷ 6 ∷ 0 ∷ 0 ∷ 0 ∷ 0 ∷ []))) ≡ 7 ∷ 9 ∷ []
+  held-zero : after taken (onDisk (setRecords (0 ∷ 0 ∷ 0 ∷ 6 ∷ 0 ∷ 0 ∷ 0 ∷ 0 ∷ []))) ≡ 7 ∷ 11 ∷ []
   -- a fault that does not zero a page's frame
-  unzeroed-denied : wrongly (λ b. opened ++ put b) unzeroed ≡ 6 ∷ 9 ∷ []
+  unzeroed-denied : wrongly (λ b. opened ++ put b) unzeroed ≡ 6 ∷ 11 ∷ []
   -- a look at a reading frame of the other design would show the hidden one's words: 9 on one board, 4 on the other
   looked-early : handed reading lookedEarly first ≡ 9 ∷ 0 ∷ []
   looked-early′ : handed reading lookedEarly second ≡ 4 ∷ 0 ∷ []
   -- a record handed out while it is listed
-  handed-out : wrongly (λ b. framed b ++ truncate 1 0 ∷ claim ∷ []) handedOut ≡ 3 ∷ 7 ∷ 9 ∷ []
+  handed-out : wrongly (λ b. framed b ++ truncate 1 0 ∷ claim ∷ []) handedOut ≡ 3 ∷ 7 ∷ 11 ∷ []
+  -- the chip: a word of the other design's copy; the hidden one's may be any, but zero on both or on neither; a word in an empty place; a place, the next place
+  copy : after framed (inChip (4 ∷ 0 ∷ 0 ∷ 7 ∷ [])) ≡ 9 ∷ 11 ∷ []
+  copy-value : after framed (inChip (1 ∷ 0 ∷ 0 ∷ 6 ∷ [])) ≡ []
+  copy-zero : after framed (inChip (0 ∷ 0 ∷ 0 ∷ 6 ∷ [])) ≡ 9 ∷ 11 ∷ []
+  empty-place : after dropped (inChip (1 ∷ 0 ∷ 0 ∷ 6 ∷ [])) ≡ 10 ∷ 11 ∷ []
+  place : after framed (inPlaces (1 ∷ 3 ∷ []) (0 ∷ [])) ≡ 2 ∷ []
+  next : after framed (inPlaces (1 ∷ 2 ∷ []) (1 ∷ [])) ≡ 2 ∷ []
+  -- words that stay in a dropped copy's place, a copy that stays when its record passes on, a copy that is taken by what it holds
+  lingers-denied : wrongly (λ b. opened ++ put b) lingers ≡ 10 ∷ 11 ∷ []
+  undropped-denied : wrongly taken undropped ≡ 9 ∷ 11 ∷ []
+  fault-denied : wrongly (λ b. opened ++ put b) faultByWord ≡ 2 ∷ []
   -- a limit that looks at a word
   limit-denied : wrongly framed limitByWord ≡ 1 ∷ []
   -- a claim that looks at more of a word than whether it is zero
-  claim-denied : wrongly due claimBelow ≡ 2 ∷ 6 ∷ 9 ∷ []
+  claim-denied : wrongly due claimBelow ≡ 2 ∷ 6 ∷ 11 ∷ []
   -- an export that does: 30 bytes on one board, 17 on the other; by its entries alone it tells nothing
   export-below : handed (λ b. opened ++ put b ++ deactivate 0 ∷ []) exportBelow first ≡ 30
   export-below′ : handed (λ b. opened ++ put b ++ deactivate 0 ∷ []) exportBelow second ≡ 17
@@ -191,6 +227,15 @@ denials = record {
   looked-early = refl;
   looked-early′ = refl;
   handed-out = refl;
+  copy = refl;
+  copy-value = refl;
+  copy-zero = refl;
+  empty-place = refl;
+  place = refl;
+  next = refl;
+  lingers-denied = refl;
+  undropped-denied = refl;
+  fault-denied = refl;
   limit-denied = refl;
   claim-denied = refl;
   export-below = refl;

@@ -22,7 +22,7 @@ use Rattle.edges.specs.Lists.{limit, create, delete, activate, deactivate, faul
 use Rattle.edges.specs.Sheets.{sheet, import}
 use Rattle.isolation.specs.Twins.{both, written, cut, cutIn, Twins}
 use Rattle.isolation.specs.Answers.{answered, results}
-use Rattle.isolation.specs.Shown.{listedLike, imagedLike, liveLike, framesLike, writtenLike, untouchedLike, wordsLike}
+use Rattle.isolation.specs.Shown.{listedLike, imagedLike, liveLike, framesLike, copiesLike, placesLike, writtenLike, untouchedLike, wordsLike}
 
 -- ── the tables, listed ──
 abbrev switches : List Frame → List ℕ
@@ -34,7 +34,7 @@ diskTables d = d .numbers ++ d .accounts ++ d .maps ++ d .limits ++ d .parents +
 
 abbrev pub memoryTables : Memory → List ℕ
 memoryTables m = switches (m .core .frames) ++ m .core .free-queue ++ m .core .removal-list ++ m .held .addresses ++ m .held .states ++ m .held .owners ++ m .held .free-map
-    ++ m .held .pool .hand ∷ m .held .pool .free ∷ m .slots .active ++ m .slots .updating ++ m .slots .images ++ m .line ++ m .used
+    ++ m .held .pool .hand ∷ m .held .pool .free ∷ m .slots .active ++ m .slots .updating ++ m .slots .images ++ m .chip .copies ++ m .chip .next ++ m .line ++ m .used
 
 abbrev pub same : List ℕ → List ℕ → Bool
 same [] [] = true
@@ -44,7 +44,7 @@ same (x ∷ xs) (y ∷ ys) = eqb x y && same xs ys
 
 -- ── the claim, computed ──
 unfoldable alike : ℕ → World → World → Bool
-unfolding said lastInto listedLike imagedLike liveLike framesLike writtenLike untouchedLike wordsLike
+unfolding said lastInto listedLike imagedLike liveLike framesLike copiesLike placesLike writtenLike untouchedLike wordsLike
 alike hidden w w′ = same (diskTables (w .state .disk)) (diskTables (w′ .state .disk)) && onceUp (w .up) && test (wordsLike small hidden w w′)
   where
     onceUp : Bool → Bool
@@ -107,6 +107,7 @@ rubbish = record {
     pool = record { hand = 2; free = 1 };
   };
   slots = record { active = replicate (small .slots) 0; updating = replicate (small .slots) 1; images = replicate (allPages small) 1 };
+  chip = record { words = replicate (small .chip * small .words) 7; copies = replicate (small .chip) 2; next = replicate 1 3 };
   line = replicate LINE 1;
   used = replicate (small .accounts) 3;
 }
@@ -157,9 +158,15 @@ opened = restart ∷ limit 0 4 ∷ create 0 0 7 ∷ create 1 0 8 ∷ activate 0 
 abbrev pub put : Board → List Act
 put b = fault 0 0 ∷ write 0 0 0 (b .value 1) ∷ write 0 0 1 (b .value 0) ∷ fault 1 0 ∷ write 1 0 1 6 ∷ claim ∷ claim ∷ pageDone 0 1 ∷ pageDone 1 1 ∷ update 0 ∷ update 1 ∷ mapDone 0 1 ∷ mapDone 1 1 ∷ []
 
--- pages of both are brought in and read
+-- pages of both are brought in, from the chip, and from the disk; they are read
+abbrev found : List Act
+found = fault 0 0 ∷ fault 1 0 ∷ []
+
+abbrev fetched : List Act
+fetched = fault 0 0 ∷ fault 1 0 ∷ pageDone 0 1 ∷ pageDone 1 1 ∷ []
+
 abbrev readBoth : List Act
-readBoth = fault 0 0 ∷ fault 1 0 ∷ pageDone 0 1 ∷ pageDone 1 1 ∷ read 0 0 0 ∷ read 0 0 1 ∷ look 0 0 ∷ look 1 0 ∷ read 1 0 1 ∷ []
+readBoth = read 0 0 0 ∷ read 0 0 1 ∷ look 0 0 ∷ look 1 0 ∷ read 1 0 1 ∷ []
 
 -- the hidden design has a page on the disk and is inactive
 abbrev rested : Board → List Act
@@ -170,17 +177,20 @@ asks b = exportTo 0 29 ∷ exportTo 0 30 ∷ delete 0 ∷ read 0 0 2 ∷ write 0
 
 pub record Pairs : Type 0 where
   -- written, stored, read again; a cut at which an open write of each lands, and restarts
-  woven : T (holds λ b. opened ++ put b ++ readBoth ++ write 0 0 1 (b .value 3) ∷ write 1 0 0 5 ∷ claim ∷ claim ∷ cutAt b (0 ∷ 1 ∷ []) [] ∷ restart ∷ activate 0 ∷ activate 1 ∷ readBoth)
+  woven : T (holds λ b. opened ++ put b ++ found ++ readBoth ++ write 0 0 1 (b .value 3) ∷ write 1 0 0 5 ∷ claim ∷ claim ∷ cutAt b (0 ∷ 1 ∷ []) [] ∷ restart ∷ activate 0 ∷ activate 1 ∷ fetched ++ readBoth)
   -- the hidden design's page is truncated, its record freed, and the other design takes it, reads zeros and writes; frames change hands, one read fails
-  handed-on : T (holds λ b. opened ++ put b ++ fault 0 0 ∷ pageDone 0 1 ∷ truncate 0 0 ∷ update 0 ∷ mapDone 0 1 ∷ fault 1 1 ∷ read 1 1 0 ∷ look 1 1 ∷ fault 1 0 ∷ pageDone 0 0 ∷ fault 1 0 ∷ pageDone 0 1 ∷ write 1 1 0 2
+  handed-on : T (holds λ b. opened ++ put b ++ deactivate 1 ∷ activate 1 ∷ fault 0 0 ∷ truncate 0 0 ∷ update 0 ∷ mapDone 0 1 ∷ fault 1 1 ∷ read 1 1 0 ∷ look 1 1 ∷ fault 1 0 ∷ pageDone 0 0 ∷ fault 1 0 ∷ pageDone 0 1 ∷ write 1 1 0 2
       ∷ claim ∷ claim ∷ pageDone 1 1 ∷ update 1 ∷ cutAt b [] (1 ∷ []) ∷ cutAt b (0 ∷ []) (0 ∷ []) ∷ restart ∷ activate 1 ∷ fault 1 1 ∷ pageDone 0 1 ∷ read 1 1 0 ∷ [])
   -- a listed page of the hidden design is written to zeros on both boards and claimed; at the cut the old words come back
-  zeros : T (holds λ b. opened ++ put b ++ fault 0 0 ∷ pageDone 0 1 ∷ write 0 0 0 (b .value 0) ∷ claim ∷ fault 1 1 ∷ write 1 1 1 3 ∷ claim ∷ update 0 ∷ pageDone 1 1 ∷ cutAt b [] [] ∷ restart ∷ activate 0 ∷ fault 0 0 ∷ pageDone 0 1
+  zeros : T (holds λ b. opened ++ put b ++ fault 0 0 ∷ write 0 0 0 (b .value 0) ∷ claim ∷ fault 1 1 ∷ write 1 1 1 3 ∷ claim ∷ update 0 ∷ pageDone 1 1 ∷ cutAt b [] [] ∷ restart ∷ activate 0 ∷ fault 0 0 ∷ pageDone 0 1
       ∷ read 0 0 0 ∷ [])
   -- the hidden design ends and its slot is taken again: what is written there now is the same on both boards
   ended : T (holds λ b. opened ++ put b ++ truncate 0 0 ∷ update 0 ∷ mapDone 0 1 ∷ deactivate 0 ∷ delete 0 ∷ create 0 0 9 ∷ activate 0 ∷ fault 0 0 ∷ read 0 0 0 ∷ write 0 0 1 5 ∷ claim ∷ pageDone 0 1 ∷ update 0 ∷ cutAt b [] (0 ∷ []) ∷ restart ∷ [])
   -- the waiting line: turns fault, claim and serve
-  waited : T (holds λ b. opened ++ put b ++ join 0 0 ∷ join 1 0 ∷ join 1 1 ∷ turn ∷ pageDone 0 1 ∷ turn ∷ write 0 0 1 (b .value 2) ∷ turn ∷ pageDone 1 1 ∷ turn ∷ turn ∷ turn ∷ [])
+  waited : T (holds λ b. opened ++ put b ++ deactivate 1 ∷ activate 1 ∷ join 0 0 ∷ join 1 0 ∷ join 1 1 ∷ turn ∷ turn ∷ write 0 0 1 (b .value 2) ∷ turn ∷ pageDone 1 1 ∷ turn ∷ turn ∷ turn ∷ [])
+  -- the chip: the hidden design's copy is taken, and replaced; another page of the other design takes its place, and it is read and goes in at the other one's
+  copied : T (holds λ b. opened ++ put b ++ fault 0 0 ∷ read 0 0 0 ∷ write 0 0 1 (b .value 3) ∷ claim ∷ pageDone 0 1 ∷ fault 0 0 ∷ read 0 0 1 ∷ claim ∷ fault 1 1 ∷ write 1 1 0 5 ∷ claim ∷ pageDone 0 1 ∷ fault 1 1 ∷ look 1 1
+      ∷ claim ∷ fault 0 0 ∷ pageDone 0 1 ∷ read 0 0 1 ∷ claim ∷ fault 1 0 ∷ pageDone 1 1 ∷ read 1 0 1 ∷ truncate 0 0 ∷ [])
   -- the hidden design comes by a sheet and is woven further; both designs are exported
   imported : T (holds λ b. restart ∷ limit 0 4 ∷ import 0 7 sheet ∷ create 1 0 8 ∷ exportTo 0 43 ∷ activate 0 ∷ activate 1 ∷ fault 0 0 ∷ pageDone 0 1 ∷ write 0 0 0 (b .value 1) ∷ fault 1 0 ∷ write 1 0 0 6 ∷ claim ∷ claim
       ∷ pageDone 0 1 ∷ pageDone 1 1 ∷ update 0 ∷ update 1 ∷ mapDone 0 1 ∷ mapDone 1 1 ∷ deactivate 0 ∷ deactivate 1 ∷ exportTo 0 50 ∷ exportTo 1 50 ∷ cutAt b [] [] ∷ restart ∷ exportTo 0 43 ∷ exportTo 1 30 ∷ [])
@@ -201,6 +211,7 @@ pairs = record {
   zeros = tt;
   ended = tt;
   waited = tt;
+  copied = tt;
   imported = tt;
   cut-inside = tt;
   half-created = tt;

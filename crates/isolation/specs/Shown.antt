@@ -1,6 +1,7 @@
 -- What two boards hold between two acts: the tables, and the words by the design that they are of.
 use mathlib.Core.Path.{_≡_}
-use Prim.Native.Nat.{ℕ}
+use Prim.Native.Nat.{ℕ, suc}
+use Rattle.tables.specs.Base.{at}
 use Rattle.tables.specs.Rule.{Rule, same, below, is, non, _and_, _then_, each, named, Holds}
 use Rattle.model.specs.declared.sizes.Sizes.{Sizes}
 use Rattle.model.specs.Lines.{LIVE}
@@ -37,6 +38,16 @@ module _ (z : Sizes) (hidden : ℕ) (w w′ : World) where
   framesLike = each (z .frames) λ f. named (frames (w .state) .frame f .page) λ i. non (same (frames (w .state) .frame f .transfer) READING)
       then partLike z hidden (designOf i) (w .state .memory .core .words) (w′ .state .memory .core .words) f
 
+  -- the chip's: a copy's, by the page that holds its record
+  unfoldable pub copiesLike : Rule
+  copiesLike = each (z .chip) λ b. named (at (w .state .memory .chip .copies) b) λ r. each (allPages z) λ i. same (files (w .state) .address i) (suc r)
+      then partLike z hidden (designOf i) (w .state .memory .chip .words) (w′ .state .memory .chip .words) b
+
+  -- and an empty place's, which are nobody's, are the same
+  unfoldable pub placesLike : Rule
+  placesLike = each (z .chip) λ b. same (at (w .state .memory .chip .copies) b) 0
+      then each (z .words) λ k. same (wordAt z (w .state .memory .chip .words) b k) (wordAt z (w′ .state .memory .chip .words) b k)
+
   -- .. or a nulled, released or leaving record: these, and free ones, by the design whose finished write was the last into them
   unfoldable pub writtenLike : Rule
   writtenLike = each (z .records) λ r. (let x = lastInto r (w .ledger .finished) in
@@ -49,7 +60,7 @@ module _ (z : Sizes) (hidden : ℕ) (w w′ : World) where
 
   -- Until restart only the disk is compared.
   unfoldable pub wordsLike : Rule
-  wordsLike = listedLike and writtenLike and untouchedLike and (is (w .up) then imagedLike and liveLike and framesLike)
+  wordsLike = listedLike and writtenLike and untouchedLike and (is (w .up) then imagedLike and liveLike and framesLike and copiesLike and placesLike)
 
   -- ── .. and so are all tables .. ──
   pub record Shown : Type 0 where

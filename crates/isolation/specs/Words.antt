@@ -3,16 +3,23 @@ use Prim.Native.Nat.{ℕ}
 use mathlib.Core.List.{List, []}
 use Rattle.tables.specs.Rule.{Rule, same, non, _and_, _then_, each}
 use Rattle.model.specs.declared.sizes.Sizes.{Sizes}
-use Rattle.model.specs.State.{Disk, State}
-use Rattle.model.specs.Setters.{onDisk, onCore, setRecords, setWords}
+use Rattle.model.specs.State.{Disk, Chip, State}
+use Rattle.model.specs.Setters.{onDisk, onCore, setRecords, setWords, setChip}
 use Rattle.model.specs.Parts.{wordAt}
 
--- a disk part and a state without their words
+-- a chip with other words
+abbrev pub setCopied : List ℕ → Chip → Chip
+setCopied ws k = record { words = ws; copies = k .copies; next = k .next }
+
+-- a disk part, a chip and a state without their words
 abbrev pub bareDisk : Disk → Disk
 bareDisk d = setRecords [] d
 
+abbrev pub bareChip : Chip → Chip
+bareChip k = setCopied [] k
+
 abbrev pub bare : State → State
-bare st = onDisk bareDisk (onCore (setWords []) st)
+bare st = onDisk bareDisk (onCore (setWords []) (setChip (bareChip (st .memory .chip)) st))
 
 -- A word of the hidden design is zero on both boards or on neither; any other design's is the same on both.
 abbrev pub like : ℕ → ℕ → ℕ → ℕ → Rule

@@ -56,8 +56,9 @@ use Rattle.keeper.proofs.import.keeper_import as fn
 
 abbrev pub stayed : Stays (fn.ended .signature .params) (fn.ended .kept)
 stayed =
-    let v = value 22 in let g = gave 22 in let h = seen 22 in
-    (v Z, (v usize, (v usize, (v u32, (h 0 tt u8, (h 1 tt F, (gave-ref (2 ∷ []) tt (plain (λ _. P)), (g 3 tt u32, (g 4 tt u32, (g 5 tt u16, (g 6 tt u16, (h 7 tt u16, (h 8 tt u16, (g 9 tt u32, (h 10 tt u32, (h 11 tt u16, (h 12 tt u16, (h 13 tt u16, (g 14 tt u8, (g 15 tt u8, (g 16 tt u32, (h 17 tt u8, (h 18 tt u8, (h 19 tt u16, (h 20 tt u16, (g 21 tt u16, tt))))))))))))))))))))))))))
+    let v = value 25 in let g = gave 25 in let h = seen 25 in
+    let i = u8 in let j = u16 in let k = u32 in
+    (v Z, (v usize, (v usize, (v u32, (h 0 tt u8, (h 1 tt F, (gave-ref (2 ∷ []) tt (plain (λ _. P)), (g 3 tt k, (g 4 tt k, (g 5 tt j, (g 6 tt j, (h 7 tt j, (h 8 tt j, (g 9 tt k, (h 10 tt k, (h 11 tt j, (h 12 tt j, (h 13 tt j, (g 14 tt i, (g 15 tt i, (g 16 tt k, (h 17 tt i, (h 18 tt i, (h 19 tt j, (h 20 tt k, (h 21 tt j, (h 22 tt j, (h 23 tt j, (g 24 tt j, tt)))))))))))))))))))))))))))))
 
 module _ {M : Type 1} (𝓤 : URA M) (H : Heap 𝓤) (A : Atoms 𝓤) (at-mem : Memory → SProp 𝓤) (run : Routine → Fun 𝓤) where
   abbrev pub Core : Contract 𝓤
@@ -65,7 +66,8 @@ module _ {M : Type 1} (𝓤 : URA M) (H : Heap 𝓤) (A : Atoms 𝓤) (at-mem : 
 
 -- what the slices have at the end
 abbrev pub Lasts : Type 0
-Lasts = Unit {0} × (Unit {0} × (Unit {0} × (Unit {0} × (Unit {0} × (Unit {0} × (Unit {0} × (Unit {0} × (List ℕ × (List ℕ × (List ℕ × (List ℕ × (Unit {0} × (Unit {0} × (List ℕ × (Unit {0} × (Unit {0} × (Unit {0} × (Unit {0} × (List ℕ × (List ℕ × (List ℕ × (Unit {0} × (Unit {0} × (Unit {0} × (Unit {0} × (List ℕ × (Unit {0})))))))))))))))))))))))))))
+Lasts = Unit {0} × (Unit {0} × (Unit {0} × (Unit {0} × (Unit {0} × (Unit {0} × (Unit {0} × (Unit {0} × (List ℕ × (List ℕ × (List ℕ × (List ℕ × (Unit {0} × (Unit {0} × (List ℕ × (Unit {0} × (Unit {0} ×
+    (Unit {0} × (Unit {0} × (List ℕ × (List ℕ × (List ℕ × (Unit {0} × (Unit {0} × (Unit {0} × (Unit {0} × (Unit {0} × (Unit {0} × (Unit {0} × (List ℕ × (Unit {0}))))))))))))))))))))))))))))))
 
 -- slot, account and number; the sheet; the frames, the pool and the tables
 module _ (z : Sizes) (s q m : ℕ) (x0 : RefT (List ℕ)) (xf : RefT (List Frame)) (xp : RefT Pool) (xs : EachTable (RefT (List ℕ))) where
@@ -77,8 +79,9 @@ module _ (z : Sizes) (s q m : ℕ) (x0 : RefT (List ℕ)) (xf : RefT (List Frame
       .1 .1 .1 .1 .1 .1 .1 .1 .0)) (fsep (finally u16 (name (xs .1 .1 .1 .0)) (ms .1 .1 .1 .1 .1 .1 .1 .1 .1 .1 .1 .0)) (fsep ftrue (fsep ftrue (fsep (finally u32 (name (xs .1 .1 .1 .1 .1 .1 .0)) (ms
       .1 .1 .1 .1 .1 .1 .1 .1 .1 .1 .1 .1 .1 .1 .0)) (fsep ftrue (fsep ftrue (fsep ftrue (fsep ftrue (fsep (finally u8 (name (xs .1 .1 .1 .1 .1 .1 .1 .1 .1 .1 .1 .0)) (ms .1 .1 .1 .1 .1 .1 .1 .1 .1 .1
       .1 .1 .1 .1 .1 .1 .1 .1 .1 .0)) (fsep (finally u8 (name (xs .1 .1 .1 .1 .1 .1 .1 .1 .1 .1 .1 .1 .0)) (ms .1 .1 .1 .1 .1 .1 .1 .1 .1 .1 .1 .1 .1 .1 .1 .1 .1 .1 .1 .1 .0)) (fsep (finally u32 (name
-      (xs .1 .1 .1 .1 .1 .1 .1 .1 .1 .1 .1 .1 .1 .0)) (ms .1 .1 .1 .1 .1 .1 .1 .1 .1 .1 .1 .1 .1 .1 .1 .1 .1 .1 .1 .1 .1 .0)) (fsep ftrue (fsep ftrue (fsep ftrue (fsep ftrue (fsep (finally u16 (name
-      (xs .1 .1 .1 .1 .1 .1 .1 .1 .1 .1 .1 .1 .1 .1 .1 .1 .1 .1 .0)) (ms .1 .1 .1 .1 .1 .1 .1 .1 .1 .1 .1 .1 .1 .1 .1 .1 .1 .1 .1 .1 .1 .1 .1 .1 .1 .1 .0)) ftrue))))))))))))))))))
+      (xs .1 .1 .1 .1 .1 .1 .1 .1 .1 .1 .1 .1 .1 .0)) (ms .1 .1 .1 .1 .1 .1 .1 .1 .1 .1 .1 .1 .1 .1 .1 .1 .1 .1 .1 .1 .1 .0)) (fsep ftrue (fsep ftrue (fsep ftrue (fsep ftrue (fsep ftrue (fsep ftrue
+      (fsep ftrue (fsep (finally u16 (name (xs .1 .1 .1 .1 .1 .1 .1 .1 .1 .1 .1 .1 .1 .1 .1 .1 .1 .1 .1 .1 .1 .0)) (ms .1 .1 .1 .1 .1 .1 .1 .1 .1 .1 .1 .1 .1 .1 .1 .1 .1 .1 .1 .1 .1 .1 .1 .1 .1 .1 .1
+      .1 .1 .0)) ftrue)))))))))))))))))))))
 
   -- the state then, by its frames and its pool
   abbrev after : List Frame → Pool → Lasts → State
@@ -88,8 +91,9 @@ module _ (z : Sizes) (s q m : ℕ) (x0 : RefT (List ℕ)) (xf : RefT (List Frame
       let s = h .1 .1 .1 .1 in
       allOf zs pool (d .0) (d .1 .0) (d .1 .1 .0) (d .1 .1 .1 .0) (now (xs .1 .1 .1 .1 .0)) (now (xs .1 .1 .1 .1 .1 .0)) (d .1 .1 .1 .1 .1 .1 .0) (now (xs .1 .1 .1 .1 .1 .1 .1 .0)) (now (xs .1 .1 .1
       .1 .1 .1 .1 .1 .0)) (now (xs .1 .1 .1 .1 .1 .1 .1 .1 .1 .0)) (now (xs .1 .1 .1 .1 .1 .1 .1 .1 .1 .1 .0)) (h .1 .0) (h .1 .1 .0) (h .1 .1 .1 .0) (now (xs .1 .1 .1 .1 .1 .1 .1 .1 .1 .1 .1 .1 .1 .1
-      .0)) (now (xs .1 .1 .1 .1 .1 .1 .1 .1 .1 .1 .1 .1 .1 .1 .1 .0)) (now (xs .1 .1 .1 .1 .1 .1 .1 .1 .1 .1 .1 .1 .1 .1 .1 .1 .0)) (now (xs .1 .1 .1 .1 .1 .1 .1 .1 .1 .1 .1 .1 .1 .1 .1 .1 .1 .0)) (s
-      .1 .1 .1 .1 .0)
+      .0)) (now (xs .1 .1 .1 .1 .1 .1 .1 .1 .1 .1 .1 .1 .1 .1 .1 .0)) (now (xs .1 .1 .1 .1 .1 .1 .1 .1 .1 .1 .1 .1 .1 .1 .1 .1 .0)) (now (xs .1 .1 .1 .1 .1 .1 .1 .1 .1 .1 .1 .1 .1 .1 .1 .1 .1 .0))
+      (now (xs .1 .1 .1 .1 .1 .1 .1 .1 .1 .1 .1 .1 .1 .1 .1 .1 .1 .1 .0)) (now (xs .1 .1 .1 .1 .1 .1 .1 .1 .1 .1 .1 .1 .1 .1 .1 .1 .1 .1 .1 .0)) (now (xs .1 .1 .1 .1 .1 .1 .1 .1 .1 .1 .1 .1 .1 .1 .1
+      .1 .1 .1 .1 .1 .0)) (s .1 .1 .1 .1 .1 .1 .1 .0)
 
   abbrev Says : Imported → Lasts → Type 0
   Says out ms = record { answer = out .answer; left = after (framesOf (loaded (now xf)) n) (out .pool) ms } ≡ import z (lent (framesOf (loaded (now xf)) n) (now xp) xs) s q m (now x0)
@@ -99,18 +103,18 @@ module _ (z : Sizes) (s q m : ℕ) (x0 : RefT (List ℕ)) (xf : RefT (List Frame
       .1 .1 .1 .1 .0) ≡ length (now (xs .1 .1 .0))) × ((length (ms .1 .1 .1 .1 .1 .1 .1 .1 .1 .1 .1 .0) ≡ length (now (xs .1 .1 .1 .0))) × ((length (ms .1 .1 .1 .1 .1 .1 .1 .1 .1 .1 .1 .1 .1 .1 .0) ≡
       length (now (xs .1 .1 .1 .1 .1 .1 .0))) × ((length (ms .1 .1 .1 .1 .1 .1 .1 .1 .1 .1 .1 .1 .1 .1 .1 .1 .1 .1 .1 .0) ≡ length (now (xs .1 .1 .1 .1 .1 .1 .1 .1 .1 .1 .1 .0))) × ((length (ms .1 .1
       .1 .1 .1 .1 .1 .1 .1 .1 .1 .1 .1 .1 .1 .1 .1 .1 .1 .1 .0) ≡ length (now (xs .1 .1 .1 .1 .1 .1 .1 .1 .1 .1 .1 .1 .0))) × ((length (ms .1 .1 .1 .1 .1 .1 .1 .1 .1 .1 .1 .1 .1 .1 .1 .1 .1 .1 .1 .1
-      .1 .0) ≡ length (now (xs .1 .1 .1 .1 .1 .1 .1 .1 .1 .1 .1 .1 .1 .0))) × ((length (ms .1 .1 .1 .1 .1 .1 .1 .1 .1 .1 .1 .1 .1 .1 .1 .1 .1 .1 .1 .1 .1 .1 .1 .1 .1 .1 .0) ≡ length (now (xs .1 .1 .1
-      .1 .1 .1 .1 .1 .1 .1 .1 .1 .1 .1 .1 .1 .1 .1 .0))) × Unit {0})))))))))
+      .1 .0) ≡ length (now (xs .1 .1 .1 .1 .1 .1 .1 .1 .1 .1 .1 .1 .1 .0))) × ((length (ms .1 .1 .1 .1 .1 .1 .1 .1 .1 .1 .1 .1 .1 .1 .1 .1 .1 .1 .1 .1 .1 .1 .1 .1 .1 .1 .1 .1 .1 .0) ≡ length (now (xs
+      .1 .1 .1 .1 .1 .1 .1 .1 .1 .1 .1 .1 .1 .1 .1 .1 .1 .1 .1 .1 .1 .0))) × Unit {0})))))))))
 
   -- what the call's contract says, from that, for a slice of frames of any length
   said : (out : Imported) (ms : Lasts) → Says out ms → record { answer = out .answer; left = after (now xf) (out .pool) ms } ≡ import z (lent (now xf) (now xp) xs) s q m (now x0)
   said out ms says =
       of-any-length z (now xf) (lent (now xf) (now xp) xs) (λ (st : State). import z st s q m (now x0)) (import-refuses z s q m (now x0)) (after (now xf) (out .pool) ms) (out .answer) says
 
-module _ {M : Type 1} (𝓤 : URA M) (H : Heap 𝓤) (A : Atoms 𝓤) (W : Given 𝓤 H A) (at-mem : Memory → SProp 𝓤) (run : Routine → Fun 𝓤) (κ0 : Lft) (q0 : Share) (κ1 : Lft) (q1 : Share) (κ2 : Lft) (q2 : Share) (κs : Lfts 19) (qs : Shares 19)
+module _ {M : Type 1} (𝓤 : URA M) (H : Heap 𝓤) (A : Atoms 𝓤) (W : Given 𝓤 H A) (at-mem : Memory → SProp 𝓤) (run : Routine → Fun 𝓤) (κ0 : Lft) (q0 : Share) (κ1 : Lft) (q1 : Share) (κ2 : Lft) (q2 : Share) (κs : Lfts 22) (qs : Shares 22)
     (z : Sizes) (s q m : ℕ) (x0 : RefT (List ℕ)) (xf : RefT (List Frame)) (xp : RefT Pool) (xs : EachTable (RefT (List ℕ))) where
   -- the lifetimes, references and machine values of sheet and tables, and their tokens
-  abbrev pub κt : Lfts 20
+  abbrev pub κt : Lfts 23
   κt = (κ0, κs)
 
   abbrev pub xt : RefT (List ℕ) × EachTable (RefT (List ℕ))
@@ -120,7 +124,7 @@ module _ {M : Type 1} (𝓤 : URA M) (H : Heap 𝓤) (A : Atoms 𝓤) (W : Given
   vt = (table-val x0 ∷ [], tables-vals xs)
 
   abbrev toks : Item 𝓤
-  toks = ‵ (flft κ0 q0) ⊛ tokens 𝓤 19 κs qs
+  toks = ‵ (flft κ0 q0) ⊛ tokens 𝓤 22 κs qs
 
   abbrev bound : walkOf 𝓤 H A fn.ended stayed (fn.clauses 𝓤 H A at-mem run) .Ghost
   bound = (((κ0, (κ1, (κ2, κs))), (q0, (q1, (q2, qs))), tt, (z, (s, (q, (m, (x0, (xf, (xp, xs))))))), (sizes-val z ∷ [], (vint w64 s ∷ [], (vint w64 q ∷ [], (vint w32 m ∷ [], (table-val x0 ∷ [], (frames-val xf ∷ [], (pool-ptr xp ∷ [], tables-vals xs)))))))), tt)
@@ -133,7 +137,7 @@ module _ {M : Type 1} (𝓤 : URA M) (H : Heap 𝓤) (A : Atoms 𝓤) (W : Given
   exits out ms e₁ is =
       qed W (‵ (flft κ1 q1) ∷ ‵ (flft κ2 q2) ∷ toks ∷ ‵ (fres (name xp) (P .coded .code (out .pool))) ∷ ‵ (Fin z s q m x0 xf xp xs ms) ∷ []) ∵
       suffices ! _ (ends-at 𝓤 H A fn.ended stayed (fn.clauses 𝓤 H A at-mem run) W bound (answer-val out) (out .answer) (tt, (tt, (tt, (tt, (tt, (tt, (out .pool, ms .1 .1 .1 .1 .1 .1 .1 .1)))))))
-      (tt, (tt, (tt, (tt, (tt, (tt, (tt, (e₁ .1 .0, (e₁ .1 .1 .0, (e₁ .1 .1 .1 .0, (e₁ .1 .1 .1 .1 .0, (tt, (tt, (e₁ .1 .1 .1 .1 .1 .0, (tt, (tt, (tt, (tt, (e₁ .1 .1 .1 .1 .1 .1 .0, (e₁ .1 .1 .1 .1 .1 .1 .1 .0, (e₁ .1 .1 .1 .1 .1 .1 .1 .1 .0, (tt, (tt, (tt, (tt, e₁ .1 .1 .1 .1 .1 .1 .1 .1 .1))))))))))))))))))))))))))
+      (tt, (tt, (tt, (tt, (tt, (tt, (tt, (e₁ .1 .0, (e₁ .1 .1 .0, (e₁ .1 .1 .1 .0, (e₁ .1 .1 .1 .1 .0, (tt, (tt, (e₁ .1 .1 .1 .1 .1 .0, (tt, (tt, (tt, (tt, (e₁ .1 .1 .1 .1 .1 .1 .0, (e₁ .1 .1 .1 .1 .1 .1 .1 .0, (e₁ .1 .1 .1 .1 .1 .1 .1 .1 .0, (tt, (tt, (tt, (tt, (tt, (tt, (tt, e₁ .1 .1 .1 .1 .1 .1 .1 .1 .1)))))))))))))))))))))))))))))
       $
       says ! (said z s q m x0 xf xp xs out ms (e₁ .0)) $
       -- the token of the sheet to the front, then those of frames and pool
@@ -170,8 +174,8 @@ module _ {M : Type 1} (𝓤 : URA M) (H : Heap 𝓤) (A : Atoms 𝓤) (W : Given
       n3. move ! (1 ∷ []) $ fsplit ! $ fsplit ! $ move ! (1 ∷ []) $ feqL ! (λ n4. move ! (1 ∷ []) $ fsplit ! $ drop ! $ fsplit ! $ drop ! $ fsplit ! $ fsplit ! $ move ! (1 ∷ []) $ feqL ! (λ n7. move !
       (1 ∷ []) $ fsplit ! $ drop ! $ fsplit ! $ drop ! $ fsplit ! $ drop ! $ fsplit ! $ drop ! $ fsplit ! $ fsplit ! $ move ! (1 ∷ []) $ feqL ! (λ n12. move ! (1 ∷ []) $ fsplit ! $ fsplit ! $ move !
       (1 ∷ []) $ feqL ! (λ n13. move ! (1 ∷ []) $ fsplit ! $ fsplit ! $ move ! (1 ∷ []) $ feqL ! (λ n14. move ! (1 ∷ []) $ fsplit ! $ drop ! $ fsplit ! $ drop ! $ fsplit ! $ drop ! $ fsplit ! $ drop !
-      $ fsplit ! $ fsplit ! $ move ! (1 ∷ []) $ feqL ! (λ n19. move ! (1 ∷ []) $
-      move ! (1 ∷ 0 ∷ []) $ fjoin ! $ nothing ! $ fjoin ! $ nothing ! $ fjoin ! $ nothing ! $ fjoin ! $ nothing ! $ fjoin ! $ move ! (1 ∷ 0 ∷ []) $ fjoin ! $ move ! (1 ∷ 0 ∷ []) $ fjoin ! $ move ! (1
-      ∷ 0 ∷ []) $ fjoin ! $ nothing ! $ fjoin ! $ nothing ! $ fjoin ! $ nothing ! $ fjoin ! $ nothing ! $ fjoin ! $ move ! (1 ∷ 0 ∷ []) $ fjoin ! $ nothing ! $ fjoin ! $ nothing ! $ fjoin ! $ move !
-      (1 ∷ 0 ∷ []) $ fjoin ! $ move ! (1 ∷ 0 ∷ []) $ fjoin ! $ move ! (1 ∷ 0 ∷ []) $ fjoin ! $ move ! (1 ∷ 0 ∷ []) $ fjoin ! $
-      show ! (λ (ms : Lasts). guard 𝓤 (Left z s q m x0 xf xp xs r ms) (sem 𝓤 H A (Fin z s q m x0 xf xp xs ms))) ms $ check ! (e₁, (n1, (n2, (n3, (n4, (n7, (n12, (n13, (n14, (n19, tt)))))))))) $ done !)))))))))))
+      $ fsplit ! $ drop ! $ fsplit ! $ drop ! $ fsplit ! $ drop ! $ fsplit ! $ fsplit ! $ move ! (1 ∷ []) $ feqL ! (λ n22. move ! (1 ∷ []) $
+      move ! (1 ∷ 0 ∷ []) $ fjoin ! $ nothing ! $ fjoin ! $ nothing ! $ fjoin ! $ nothing ! $ fjoin ! $ nothing ! $ fjoin ! $ nothing ! $ fjoin ! $ nothing ! $ fjoin ! $ nothing ! $ fjoin ! $ move !
+      (1 ∷ 0 ∷ []) $ fjoin ! $ move ! (1 ∷ 0 ∷ []) $ fjoin ! $ move ! (1 ∷ 0 ∷ []) $ fjoin ! $ nothing ! $ fjoin ! $ nothing ! $ fjoin ! $ nothing ! $ fjoin ! $ nothing ! $ fjoin ! $ move ! (1 ∷ 0 ∷
+      []) $ fjoin ! $ nothing ! $ fjoin ! $ nothing ! $ fjoin ! $ move ! (1 ∷ 0 ∷ []) $ fjoin ! $ move ! (1 ∷ 0 ∷ []) $ fjoin ! $ move ! (1 ∷ 0 ∷ []) $ fjoin ! $ move ! (1 ∷ 0 ∷ []) $ fjoin ! $
+      show ! (λ (ms : Lasts). guard 𝓤 (Left z s q m x0 xf xp xs r ms) (sem 𝓤 H A (Fin z s q m x0 xf xp xs ms))) ms $ check ! (e₁, (n1, (n2, (n3, (n4, (n7, (n12, (n13, (n14, (n22, tt)))))))))) $ done !)))))))))))

@@ -54,8 +54,9 @@ use Rattle.keeper.proofs.apply_all.keeper_apply_all as fn
 
 abbrev pub stayed : Stays (fn.ended .signature .params) (fn.ended .kept)
 stayed =
-    let v = value 23 in let g = gave 23 in let h = seen 23 in
-    (v Z, (h 0 tt u32, (g 1 tt u32, (g 2 tt F, (gave-ref (3 ∷ []) tt (plain (λ _. P)), (g 4 tt u32, (g 5 tt u32, (g 6 tt u16, (g 7 tt u16, (g 8 tt u16, (h 9 tt u16, (g 10 tt u32, (g 11 tt u32, (g 12 tt u16, (g 13 tt u16, (g 14 tt u16, (g 15 tt u8, (g 16 tt u8, (g 17 tt u32, (g 18 tt u8, (g 19 tt u8, (g 20 tt u16, (g 21 tt u16, (g 22 tt u16, tt))))))))))))))))))))))))
+    let v = value 26 in let g = gave 26 in let h = seen 26 in
+    let i = u8 in let j = u16 in let k = u32 in
+    (v Z, (h 0 tt u32, (g 1 tt u32, (g 2 tt F, (gave-ref (3 ∷ []) tt (plain (λ _. P)), (g 4 tt k, (g 5 tt k, (g 6 tt j, (g 7 tt j, (g 8 tt j, (h 9 tt j, (g 10 tt k, (g 11 tt k, (g 12 tt j, (g 13 tt j, (g 14 tt j, (g 15 tt i, (g 16 tt i, (g 17 tt k, (g 18 tt i, (g 19 tt i, (g 20 tt j, (g 21 tt k, (g 22 tt j, (g 23 tt j, (g 24 tt j, (g 25 tt j, tt)))))))))))))))))))))))))))
 
 module _ {M : Type 1} (𝓤 : URA M) (H : Heap 𝓤) (A : Atoms 𝓤) (at-mem : Memory → SProp 𝓤) (run : Routine → Fun 𝓤) where
   abbrev pub Core : Contract 𝓤
@@ -63,7 +64,8 @@ module _ {M : Type 1} (𝓤 : URA M) (H : Heap 𝓤) (A : Atoms 𝓤) (at-mem : 
 
 -- what the slices have at the end
 abbrev pub Lasts : Type 0
-Lasts = Unit {0} × (Unit {0} × (Unit {0} × (Unit {0} × (Unit {0} × (List ℕ × (List ℕ × (List ℕ × (List ℕ × (List ℕ × (List ℕ × (Unit {0} × (List ℕ × (List ℕ × (List ℕ × (List ℕ × (List ℕ × (List ℕ × (List ℕ × (List ℕ × (List ℕ × (List ℕ × (List ℕ × (List ℕ × (List ℕ × (Unit {0})))))))))))))))))))))))))
+Lasts = Unit {0} × (Unit {0} × (Unit {0} × (Unit {0} × (Unit {0} × (List ℕ × (List ℕ × (List ℕ × (List ℕ × (List ℕ × (List ℕ × (Unit {0} × (List ℕ × (List ℕ × (List ℕ × (List ℕ × (List ℕ × (List ℕ ×
+    (List ℕ × (List ℕ × (List ℕ × (List ℕ × (List ℕ × (List ℕ × (List ℕ × (List ℕ × (List ℕ × (List ℕ × (Unit {0}))))))))))))))))))))))))))))
 
 module _ (z : Sizes) (x0 x1 : RefT (List ℕ)) (xf : RefT (List Frame)) (xp : RefT Pool) (xs : EachTable (RefT (List ℕ))) where
   abbrev n : ℕ
@@ -79,9 +81,12 @@ module _ (z : Sizes) (x0 x1 : RefT (List ℕ)) (xf : RefT (List Frame)) (xp : Re
       .1 .1 .1 .0)) (ms .1 .1 .1 .1 .1 .1 .1 .1 .1 .1 .1 .1 .1 .1 .1 .1 .1 .1 .0)) (fsep (finally u32 (name (xs .1 .1 .1 .1 .1 .1 .1 .1 .1 .1 .1 .1 .1 .0)) (ms .1 .1 .1 .1 .1 .1 .1 .1 .1 .1 .1 .1 .1
       .1 .1 .1 .1 .1 .1 .0)) (fsep (finally u8 (name (xs .1 .1 .1 .1 .1 .1 .1 .1 .1 .1 .1 .1 .1 .1 .0)) (ms .1 .1 .1 .1 .1 .1 .1 .1 .1 .1 .1 .1 .1 .1 .1 .1 .1 .1 .1 .1 .0)) (fsep (finally u8 (name (xs
       .1 .1 .1 .1 .1 .1 .1 .1 .1 .1 .1 .1 .1 .1 .1 .0)) (ms .1 .1 .1 .1 .1 .1 .1 .1 .1 .1 .1 .1 .1 .1 .1 .1 .1 .1 .1 .1 .1 .0)) (fsep (finally u16 (name (xs .1 .1 .1 .1 .1 .1 .1 .1 .1 .1 .1 .1 .1 .1
-      .1 .1 .0)) (ms .1 .1 .1 .1 .1 .1 .1 .1 .1 .1 .1 .1 .1 .1 .1 .1 .1 .1 .1 .1 .1 .1 .0)) (fsep (finally u16 (name (xs .1 .1 .1 .1 .1 .1 .1 .1 .1 .1 .1 .1 .1 .1 .1 .1 .1 .0)) (ms .1 .1 .1 .1 .1 .1
+      .1 .1 .0)) (ms .1 .1 .1 .1 .1 .1 .1 .1 .1 .1 .1 .1 .1 .1 .1 .1 .1 .1 .1 .1 .1 .1 .0)) (fsep (finally u32 (name (xs .1 .1 .1 .1 .1 .1 .1 .1 .1 .1 .1 .1 .1 .1 .1 .1 .1 .0)) (ms .1 .1 .1 .1 .1 .1
       .1 .1 .1 .1 .1 .1 .1 .1 .1 .1 .1 .1 .1 .1 .1 .1 .1 .0)) (fsep (finally u16 (name (xs .1 .1 .1 .1 .1 .1 .1 .1 .1 .1 .1 .1 .1 .1 .1 .1 .1 .1 .0)) (ms .1 .1 .1 .1 .1 .1 .1 .1 .1 .1 .1 .1 .1 .1 .1
-      .1 .1 .1 .1 .1 .1 .1 .1 .1 .0)) ftrue)))))))))))))))))))
+      .1 .1 .1 .1 .1 .1 .1 .1 .1 .0)) (fsep (finally u16 (name (xs .1 .1 .1 .1 .1 .1 .1 .1 .1 .1 .1 .1 .1 .1 .1 .1 .1 .1 .1 .0)) (ms .1 .1 .1 .1 .1 .1 .1 .1 .1 .1 .1 .1 .1 .1 .1 .1 .1 .1 .1 .1 .1 .1
+      .1 .1 .1 .0)) (fsep (finally u16 (name (xs .1 .1 .1 .1 .1 .1 .1 .1 .1 .1 .1 .1 .1 .1 .1 .1 .1 .1 .1 .1 .0)) (ms .1 .1 .1 .1 .1 .1 .1 .1 .1 .1 .1 .1 .1 .1 .1 .1 .1 .1 .1 .1 .1 .1 .1 .1 .1 .1 .0))
+      (fsep (finally u16 (name (xs .1 .1 .1 .1 .1 .1 .1 .1 .1 .1 .1 .1 .1 .1 .1 .1 .1 .1 .1 .1 .1 .0)) (ms .1 .1 .1 .1 .1 .1 .1 .1 .1 .1 .1 .1 .1 .1 .1 .1 .1 .1 .1 .1 .1 .1 .1 .1 .1 .1 .1 .0))
+      ftrue))))))))))))))))))))))
 
   -- the state then, by its frames and its pool
   abbrev after : List Frame → Pool → Lasts → State
@@ -90,7 +95,7 @@ module _ (z : Sizes) (x0 x1 : RefT (List ℕ)) (xf : RefT (List Frame)) (xp : Re
       let m = d .1 .1 .1 .1 .1 .1 .1 in
       let h = m .1 .1 .1 in
       let s = h .1 .1 .1 .1 in
-      allOf zs pool (d .0) (d .1 .0) (d .1 .1 .0) (d .1 .1 .1 .0) (d .1 .1 .1 .1 .0) (now (xs .1 .1 .1 .1 .1 .0)) (d .1 .1 .1 .1 .1 .1 .0) (m .0) (m .1 .0) (m .1 .1 .0) (h .0) (h .1 .0) (h .1 .1 .0) (h .1 .1 .1 .0) (s .0) (s .1 .0) (s .1 .1 .0) (s .1 .1 .1 .0) (s .1 .1 .1 .1 .0)
+      allOf zs pool (d .0) (d .1 .0) (d .1 .1 .0) (d .1 .1 .1 .0) (d .1 .1 .1 .1 .0) (now (xs .1 .1 .1 .1 .1 .0)) (d .1 .1 .1 .1 .1 .1 .0) (m .0) (m .1 .0) (m .1 .1 .0) (h .0) (h .1 .0) (h .1 .1 .0) (h .1 .1 .1 .0) (s .0) (s .1 .0) (s .1 .1 .0) (s .1 .1 .1 .0) (s .1 .1 .1 .1 .0) (s .1 .1 .1 .1 .1 .0) (s .1 .1 .1 .1 .1 .1 .0) (s .1 .1 .1 .1 .1 .1 .1 .0)
 
   -- the answers then
   abbrev told : Lasts → List ℕ
@@ -111,7 +116,10 @@ module _ (z : Sizes) (x0 x1 : RefT (List ℕ)) (xf : RefT (List Frame)) (xp : Re
       .1 .1 .1 .1 .1 .1 .1 .1 .1 .1 .1 .1 .1 .1 .1 .1 .1 .1 .1 .0) ≡ length (now (xs .1 .1 .1 .1 .1 .1 .1 .1 .1 .1 .1 .1 .1 .1 .1 .0))) × ((length (ms .1 .1 .1 .1 .1 .1 .1 .1 .1 .1 .1 .1 .1 .1 .1 .1
       .1 .1 .1 .1 .1 .1 .0) ≡ length (now (xs .1 .1 .1 .1 .1 .1 .1 .1 .1 .1 .1 .1 .1 .1 .1 .1 .0))) × ((length (ms .1 .1 .1 .1 .1 .1 .1 .1 .1 .1 .1 .1 .1 .1 .1 .1 .1 .1 .1 .1 .1 .1 .1 .0) ≡ length
       (now (xs .1 .1 .1 .1 .1 .1 .1 .1 .1 .1 .1 .1 .1 .1 .1 .1 .1 .0))) × ((length (ms .1 .1 .1 .1 .1 .1 .1 .1 .1 .1 .1 .1 .1 .1 .1 .1 .1 .1 .1 .1 .1 .1 .1 .1 .0) ≡ length (now (xs .1 .1 .1 .1 .1 .1
-      .1 .1 .1 .1 .1 .1 .1 .1 .1 .1 .1 .1 .0))) × Unit {0})))))))))))))))))))
+      .1 .1 .1 .1 .1 .1 .1 .1 .1 .1 .1 .1 .0))) × ((length (ms .1 .1 .1 .1 .1 .1 .1 .1 .1 .1 .1 .1 .1 .1 .1 .1 .1 .1 .1 .1 .1 .1 .1 .1 .1 .0) ≡ length (now (xs .1 .1 .1 .1 .1 .1 .1 .1 .1 .1 .1 .1 .1
+      .1 .1 .1 .1 .1 .1 .0))) × ((length (ms .1 .1 .1 .1 .1 .1 .1 .1 .1 .1 .1 .1 .1 .1 .1 .1 .1 .1 .1 .1 .1 .1 .1 .1 .1 .1 .0) ≡ length (now (xs .1 .1 .1 .1 .1 .1 .1 .1 .1 .1 .1 .1 .1 .1 .1 .1 .1 .1
+      .1 .1 .0))) × ((length (ms .1 .1 .1 .1 .1 .1 .1 .1 .1 .1 .1 .1 .1 .1 .1 .1 .1 .1 .1 .1 .1 .1 .1 .1 .1 .1 .1 .0) ≡ length (now (xs .1 .1 .1 .1 .1 .1 .1 .1 .1 .1 .1 .1 .1 .1 .1 .1 .1 .1 .1 .1 .1
+      .0))) × Unit {0}))))))))))))))))))))))
 
   -- what the call's contract says, from that, for a slice of frames of any length
   said : (out : Pooled) (ms : Lasts) (zs : List Frame) → zs ≡ saved (now xf) (out .frames) → length (out .frames) ≡ 64 → Says out ms
@@ -119,10 +127,10 @@ module _ (z : Sizes) (x0 x1 : RefT (List ℕ)) (xf : RefT (List Frame)) (xp : Re
   said out ms zs e l says =
       whole-list z (now xf) (lent (now xf) (now xp) xs) (now x0) (now x1) (after (now xf) (out .pool) ms) (out .answer) (told ms) (out .frames) l says zs e
 
-module _ {M : Type 1} (𝓤 : URA M) (H : Heap 𝓤) (A : Atoms 𝓤) (W : Given 𝓤 H A) (at-mem : Memory → SProp 𝓤) (run : Routine → Fun 𝓤) (κ0 : Lft) (q0 : Share) (κ1 : Lft) (q1 : Share) (κ2 : Lft) (q2 : Share) (κ3 : Lft) (q3 : Share) (κs : Lfts 19) (qs : Shares 19)
+module _ {M : Type 1} (𝓤 : URA M) (H : Heap 𝓤) (A : Atoms 𝓤) (W : Given 𝓤 H A) (at-mem : Memory → SProp 𝓤) (run : Routine → Fun 𝓤) (κ0 : Lft) (q0 : Share) (κ1 : Lft) (q1 : Share) (κ2 : Lft) (q2 : Share) (κ3 : Lft) (q3 : Share) (κs : Lfts 22) (qs : Shares 22)
     (z : Sizes) (x0 x1 : RefT (List ℕ)) (xf : RefT (List Frame)) (xp : RefT Pool) (xs : EachTable (RefT (List ℕ))) where
   -- the lifetimes, shares, references and machine values of requests, answers and tables, and their tokens
-  abbrev pub κt : Lfts 21
+  abbrev pub κt : Lfts 24
   κt = (κ0, (κ1, κs))
 
   abbrev pub xt : RefT (List ℕ) × (RefT (List ℕ) × EachTable (RefT (List ℕ)))
@@ -132,7 +140,7 @@ module _ {M : Type 1} (𝓤 : URA M) (H : Heap 𝓤) (A : Atoms 𝓤) (W : Given
   vt = (table-val x0 ∷ [], (table-val x1 ∷ [], tables-vals xs))
 
   abbrev toks : Item 𝓤
-  toks = ‵ (flft κ0 q0) ⊛ (‵ (flft κ1 q1) ⊛ tokens 𝓤 19 κs qs)
+  toks = ‵ (flft κ0 q0) ⊛ (‵ (flft κ1 q1) ⊛ tokens 𝓤 22 κs qs)
 
   abbrev bound : walkOf 𝓤 H A fn.ended stayed (fn.clauses 𝓤 H A at-mem run) .Ghost
   bound = (((κ0, (κ1, (κ2, (κ3, κs)))), (q0, (q1, (q2, (q3, qs)))), tt, (z, (x0, (x1, (xf, (xp, xs))))), (sizes-val z ∷ [], (table-val x0 ∷ [], (table-val x1 ∷ [], (frames-val xf ∷ [], (pool-ptr xp ∷ [], tables-vals xs)))))), tt)
@@ -176,9 +184,10 @@ module _ {M : Type 1} (𝓤 : URA M) (H : Heap 𝓤) (A : Atoms 𝓤) (W : Given
       []) $ feqL ! (λ n12. move ! (1 ∷ []) $ fsplit ! $ fsplit ! $ move ! (1 ∷ []) $ feqL ! (λ n13. move ! (1 ∷ []) $ fsplit ! $ fsplit ! $ move ! (1 ∷ []) $ feqL ! (λ n14. move ! (1 ∷ []) $ fsplit !
       $ fsplit ! $ move ! (1 ∷ []) $ feqL ! (λ n15. move ! (1 ∷ []) $ fsplit ! $ fsplit ! $ move ! (1 ∷ []) $ feqL ! (λ n16. move ! (1 ∷ []) $ fsplit ! $ fsplit ! $ move ! (1 ∷ []) $ feqL ! (λ n17.
       move ! (1 ∷ []) $ fsplit ! $ fsplit ! $ move ! (1 ∷ []) $ feqL ! (λ n18. move ! (1 ∷ []) $ fsplit ! $ fsplit ! $ move ! (1 ∷ []) $ feqL ! (λ n19. move ! (1 ∷ []) $ fsplit ! $ fsplit ! $ move !
-      (1 ∷ []) $ feqL ! (λ n20. move ! (1 ∷ []) $
+      (1 ∷ []) $ feqL ! (λ n20. move ! (1 ∷ []) $ fsplit ! $ fsplit ! $ move ! (1 ∷ []) $ feqL ! (λ n21. move ! (1 ∷ []) $ fsplit ! $ fsplit ! $ move ! (1 ∷ []) $ feqL ! (λ n22. move ! (1 ∷ []) $
+      fsplit ! $ fsplit ! $ move ! (1 ∷ []) $ feqL ! (λ n23. move ! (1 ∷ []) $
       move ! (1 ∷ 0 ∷ []) $ fjoin ! $ move ! (1 ∷ 0 ∷ []) $ fjoin ! $ move ! (1 ∷ 0 ∷ []) $ fjoin ! $ move ! (1 ∷ 0 ∷ []) $ fjoin ! $ move ! (1 ∷ 0 ∷ []) $ fjoin ! $ move ! (1 ∷ 0 ∷ []) $ fjoin ! $
       move ! (1 ∷ 0 ∷ []) $ fjoin ! $ move ! (1 ∷ 0 ∷ []) $ fjoin ! $ move ! (1 ∷ 0 ∷ []) $ fjoin ! $ move ! (1 ∷ 0 ∷ []) $ fjoin ! $ move ! (1 ∷ 0 ∷ []) $ fjoin ! $ move ! (1 ∷ 0 ∷ []) $ fjoin ! $
-      move ! (1 ∷ 0 ∷ []) $ fjoin ! $ nothing ! $ fjoin ! $ move ! (1 ∷ 0 ∷ []) $ fjoin ! $ move ! (1 ∷ 0 ∷ []) $ fjoin ! $ move ! (1 ∷ 0 ∷ []) $ fjoin ! $ move ! (1 ∷ 0 ∷ []) $ fjoin ! $ move ! (1 ∷
-      0 ∷ []) $ fjoin ! $ move ! (1 ∷ 0 ∷ []) $ fjoin ! $
-      show ! (λ (ms : Lasts). guard 𝓤 (Left z x0 x1 xf xp xs r ms) (sem 𝓤 H A (Fin z x0 x1 xf xp xs ms))) ms $ check ! (e₁, (n1, (n2, (n3, (n4, (n5, (n6, (n8, (n9, (n10, (n11, (n12, (n13, (n14, (n15, (n16, (n17, (n18, (n19, (n20, tt)))))))))))))))))))) $ done !)))))))))))))))))))))
+      move ! (1 ∷ 0 ∷ []) $ fjoin ! $ move ! (1 ∷ 0 ∷ []) $ fjoin ! $ move ! (1 ∷ 0 ∷ []) $ fjoin ! $ move ! (1 ∷ 0 ∷ []) $ fjoin ! $ nothing ! $ fjoin ! $ move ! (1 ∷ 0 ∷ []) $ fjoin ! $ move ! (1 ∷
+      0 ∷ []) $ fjoin ! $ move ! (1 ∷ 0 ∷ []) $ fjoin ! $ move ! (1 ∷ 0 ∷ []) $ fjoin ! $ move ! (1 ∷ 0 ∷ []) $ fjoin ! $ move ! (1 ∷ 0 ∷ []) $ fjoin ! $
+      show ! (λ (ms : Lasts). guard 𝓤 (Left z x0 x1 xf xp xs r ms) (sem 𝓤 H A (Fin z x0 x1 xf xp xs ms))) ms $ check ! (e₁, (n1, (n2, (n3, (n4, (n5, (n6, (n8, (n9, (n10, (n11, (n12, (n13, (n14, (n15, (n16, (n17, (n18, (n19, (n20, (n21, (n22, (n23, tt))))))))))))))))))))))) $ done !))))))))))))))))))))))))

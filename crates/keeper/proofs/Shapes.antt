@@ -30,7 +30,7 @@ Each zero X = Unit {0}
 Each (suc n) X = X × Each n X
 
 abbrev pub EachTable : Type 0 → Type 0
-EachTable X = Each 19 X
+EachTable X = Each 22 X
 
 -- the machine value of a lent table; those of all tables, each in a list of its own, and all in one
 abbrev pub table-val : RefT (List ℕ) → Val
@@ -45,17 +45,22 @@ row zero xs = []
 row (suc n) xs = table-val (xs .0) ∷ row n (xs .1)
 
 abbrev pub tables-vals : EachTable (RefT (List ℕ)) → EachTable (List Val)
-tables-vals xs = vals 19 xs
+tables-vals xs = vals 22 xs
 
 abbrev pub tables-row : EachTable (RefT (List ℕ)) → List Val
-tables-row xs = row 19 xs
+tables-row xs = row 22 xs
+
+-- how n of them give their machine values
+abbrev pub each-vals : (n : ℕ) → Each n (RefT (List ℕ) → List Val)
+each-vals zero = tt
+each-vals (suc n) = (slice-vals, each-vals n)
 
 -- the state that is lent, by its frames, its pool and the tables
 abbrev pub lent : List Frame → Pool → EachTable (RefT (List ℕ)) → State
 lent ys p d =
     let m = d .1 .1 .1 .1 .1 .1 .1 in let h = m .1 .1 .1 in let s = h .1 .1 .1 .1 in
     allOf ys p (now (d .0)) (now (d .1 .0)) (now (d .1 .1 .0)) (now (d .1 .1 .1 .0)) (now (d .1 .1 .1 .1 .0)) (now (d .1 .1 .1 .1 .1 .0)) (now (d .1 .1 .1 .1 .1 .1 .0)) (now (m .0)) (now (m .1 .0)) (now (m .1 .1 .0))
-    (now (h .0)) (now (h .1 .0)) (now (h .1 .1 .0)) (now (h .1 .1 .1 .0)) (now (s .0)) (now (s .1 .0)) (now (s .1 .1 .0)) (now (s .1 .1 .1 .0)) (now (s .1 .1 .1 .1 .0))
+    (now (h .0)) (now (h .1 .0)) (now (h .1 .1 .0)) (now (h .1 .1 .1 .0)) (now (s .0)) (now (s .1 .0)) (now (s .1 .1 .0)) (now (s .1 .1 .1 .0)) (now (s .1 .1 .1 .1 .0)) (now (s .1 .1 .1 .1 .1 .0)) (now (s .1 .1 .1 .1 .1 .1 .0)) (now (s .1 .1 .1 .1 .1 .1 .1 .0))
 
 -- a reference by another ghost name, at another value
 abbrev pub anew : {X : Type 0} → RefT X → GName → X → RefT X

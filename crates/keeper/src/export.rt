@@ -35,12 +35,15 @@ pub extern "C" fn keeper_export(
     active: &[u8],
     updating: &[u8],
     images: &[u16],
+    chip_words: &[u32],
+    chip_records: &[u16],
+    chip_next: &[u16],
     line: &[u16],
     used: &[u16],
 ) -> Answer
     ensures { λ r. ⌜ handed r (now (sheet .exit)) ≡ export sizes
         (allEntered (now (frames .entry)) pool records numbers accounts maps limits parents highest
-        «frame_words» «free_queue» «removal_list» addresses states owners «free_map» active updating images line used)
+        «frame_words» «free_queue» «removal_list» addresses states owners «free_map» active updating images «chip_words» «chip_records» «chip_next» line used)
         slot (now (sheet .entry)) ⌝ }
 {
     let lent = frames.len();
@@ -69,6 +72,9 @@ pub extern "C" fn keeper_export(
         active,
         updating,
         images,
+        chip_words,
+        chip_records,
+        chip_next,
         line,
         used,
     )

@@ -38,15 +38,18 @@ pub extern "C" fn keeper_import(
     active: &[u8],
     updating: &[u8],
     images: &[u16],
+    chip_words: &[u32],
+    chip_records: &[u16],
+    chip_next: &[u16],
     line: &[u16],
     used: &mut [u16],
 ) -> Answer
     ensures { λ r. ⌜ leaves r
         (allLeft (now (frames .exit)) (now (pool .exit)) records numbers accounts maps limits parents highest
-        «frame_words» «free_queue» «removal_list» addresses states owners «free_map» active updating images line used)
+        «frame_words» «free_queue» «removal_list» addresses states owners «free_map» active updating images «chip_words» «chip_records» «chip_next» line used)
         ≡ import sizes
         (allEntered (now (frames .entry)) (now (pool .entry)) records numbers accounts maps limits parents highest
-        «frame_words» «free_queue» «removal_list» addresses states owners «free_map» active updating images line used)
+        «frame_words» «free_queue» «removal_list» addresses states owners «free_map» active updating images «chip_words» «chip_records» «chip_next» line used)
         slot account number (now (sheet .entry)) ⌝ }
 {
     let lent = frames.len();
@@ -78,6 +81,9 @@ pub extern "C" fn keeper_import(
         active,
         updating,
         images,
+        chip_words,
+        chip_records,
+        chip_next,
         line,
         used,
     );

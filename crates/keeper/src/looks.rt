@@ -36,11 +36,14 @@ pub fn page_look<'a>(
     active: &[u8],
     updating: &[u8],
     images: &[u16],
+    chip_words: &[u32],
+    chip_records: &[u16],
+    chip_next: &[u16],
     line: &[u16],
     used: &[u16],
 ) -> &'a [u32]
     ensures { λ r. ⌜ (let st = allEntered (now (frames .entry)) pool records numbers accounts maps limits parents highest
-        «frame_words» «free_queue» «removal_list» addresses states owners «free_map» active updating images line used in
+        «frame_words» «free_queue» «removal_list» addresses states owners «free_map» active updating images «chip_words» «chip_records» «chip_next» line used in
         (now r ≡ look sizes st slot page .left)
         × ((now (refusal .exit) ≡ look sizes st slot page .answer .refusal)
         × (ptr r ≡ wordAt (ptr («frame_words» .entry)) (partOf sizes st slot page .start)))) ⌝ }
@@ -72,6 +75,9 @@ pub fn page_look<'a>(
         active,
         updating,
         images,
+        chip_words,
+        chip_records,
+        chip_next,
         line,
         used,
     )
@@ -103,12 +109,15 @@ pub extern "C" fn keeper_page_look(
     active: &[u8],
     updating: &[u8],
     images: &[u16],
+    chip_words: &[u32],
+    chip_records: &[u16],
+    chip_next: &[u16],
     line: &[u16],
     used: &[u16],
 ) -> Part
     ensures { λ r. ⌜ r ≡ partOf sizes
         (allEntered (now (frames .entry)) pool records numbers accounts maps limits parents highest
-        «frame_words» «free_queue» «removal_list» addresses states owners «free_map» active updating images line used) slot page ⌝ }
+        «frame_words» «free_queue» «removal_list» addresses states owners «free_map» active updating images «chip_words» «chip_records» «chip_next» line used) slot page ⌝ }
 {
     let lent = frames.len();
     let values = load(frames);
@@ -136,6 +145,9 @@ pub extern "C" fn keeper_page_look(
         active,
         updating,
         images,
+        chip_words,
+        chip_records,
+        chip_next,
         line,
         used,
     )

@@ -35,15 +35,18 @@ pub extern "C" fn keeper_restart(
     active: &mut [u8],
     updating: &mut [u8],
     images: &mut [u16],
+    chip_words: &mut [u32],
+    chip_records: &mut [u16],
+    chip_next: &mut [u16],
     line: &mut [u16],
     used: &mut [u16],
 ) -> Answer
     ensures { λ r. ⌜ leaves r
         (allLeft (now (frames .exit)) (now (pool .exit)) records numbers accounts maps limits parents highest
-        «frame_words» «free_queue» «removal_list» addresses states owners «free_map» active updating images line used)
+        «frame_words» «free_queue» «removal_list» addresses states owners «free_map» active updating images «chip_words» «chip_records» «chip_next» line used)
         ≡ restart sizes
         (allEntered (now (frames .entry)) (now (pool .entry)) records numbers accounts maps limits parents highest
-        «frame_words» «free_queue» «removal_list» addresses states owners «free_map» active updating images line used) ⌝ }
+        «frame_words» «free_queue» «removal_list» addresses states owners «free_map» active updating images «chip_words» «chip_records» «chip_next» line used) ⌝ }
 {
     let lent = frames.len();
     let values = load(frames);
@@ -70,6 +73,9 @@ pub extern "C" fn keeper_restart(
         active,
         updating,
         images,
+        chip_words,
+        chip_records,
+        chip_next,
         line,
         used,
     );

@@ -42,7 +42,7 @@ narrow-at (x ∷ xs) t (suc i) = narrow-at xs (and-right (ltb x 4294967296) (nar
 
 -- ── two boards, just formatted: W and N are the same, nothing else is ──
 abbrev pub other : Sizes
-other = record { words = 2; records = 6; frames = 1; slots = 3; pages = 3; accounts = 2 }
+other = record { words = 2; records = 6; frames = 1; slots = 3; pages = 3; accounts = 2; chip = 1 }
 
 unfoldable boardHere : Board small
 unfolding said

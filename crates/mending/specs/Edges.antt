@@ -17,7 +17,7 @@ use Rattle.mending.specs.Mend.{Pack, Lent, placeAt, wants, cleared, gath
 
 -- three slots of two pages, three records, two accounts
 abbrev pub sizes : Sizes
-sizes = record { words = 1; records = 3; frames = 1; slots = 3; pages = 2; accounts = 2 }
+sizes = record { words = 1; records = 3; frames = 1; slots = 3; pages = 2; accounts = 2; chip = 1 }
 
 abbrev pub pack : List ℕ → List ℕ → List ℕ → Pack
 pack ns qs ms = record { numbers = ns; accounts = qs; maps = ms }
@@ -74,7 +74,7 @@ second-reason = pack (7 ∷ 0 ∷ 0 ∷ []) (0 ∷ 5 ∷ 1 ∷ []) (0 ∷ 0 ∷ 
 
 -- each step finds something
 abbrev all-five : Sizes
-all-five = record { words = 1; records = 3; frames = 1; slots = 4; pages = 2; accounts = 2 }
+all-five = record { words = 1; records = 3; frames = 1; slots = 4; pages = 2; accounts = 2; chip = 1 }
 
 abbrev hurt : Pack
 hurt = pack (7 ∷ 7 ∷ 0 ∷ 8 ∷ []) (2 ∷ 1 ∷ 1 ∷ 1 ∷ []) (2 ∷ 4 ∷ 1 ∷ 0 ∷ 0 ∷ 1 ∷ 1 ∷ 2 ∷ [])

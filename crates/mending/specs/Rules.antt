@@ -162,7 +162,7 @@ module _ (z : Sizes) (d : Disk) (fits : Holds (sizesFit z)) (long : Holds (diskL
   f = pack-fit z d fits long
 
   abbrev q : 0 < z .accounts
-  q = fits .1 .1 .1 .1 .1 .0
+  q = fits .1 .1 .1 .1 .1 .0 .0
 
   abbrev low : Rule
   low = lower (z .accounts) (at (d .parents))

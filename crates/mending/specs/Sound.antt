@@ -103,7 +103,7 @@ sound-same z st fits long h = let f = pack-fit z (st .disk) fits long in let o =
 
 -- "mending again lists no change", and changes none, whatever the parents
 pub mended-again : (z : Sizes) (d : Disk) → Holds (sizesFit z) → Holds (diskLengths z d) → (let e = mended z (packOf d) in (mended z e ≡ e) × (allChanges z e ≡ []))
-mended-again z d fits long = let f = pack-fit z d fits long in let g = after-fit z (packOf d) 5 f in let q = fits .1 .1 .1 .1 .1 .0 in
+mended-again z d fits long = let f = pack-fit z d fits long in let g = after-fit z (packOf d) 5 f in let q = fits .1 .1 .1 .1 .1 .0 .0 in
     let o : Sound z (mended z (packOf d)) g = record {
       empty-account = empty-account z (packOf d) f q;
       empty-map = empty-map z (packOf d) f q;

@@ -1,6 +1,7 @@
 -- Laws of the definitions: proved, so nothing here needs to be believed.
 pub mod Woven
 pub mod Ruled
+pub mod Apart
 pub mod Index
 pub mod Choice
 pub mod Nearest
@@ -10,6 +11,7 @@ pub mod Fit
 pub mod Bounds
 pub mod LineLaws
 pub mod Own
+pub mod Nulled
 pub mod EveryCall
 pub mod OwnLaws
 pub mod Creating

@@ -14,6 +14,7 @@ pub mod Designs
 pub mod Accounts
 pub mod Pages
 pub mod Writeback
+pub mod Chip
 pub mod Line
 pub mod Restart
 pub mod Step

@@ -9,6 +9,7 @@ use Rattle.tables.specs.Queue.{packed}
 use Rattle.model.specs.declared.sizes.Sizes.{Sizes}
 use Rattle.model.specs.Lines.{FREE, FILED}
 use Rattle.model.specs.State.{Disk, State, LINE, noFrame, allPages, slotOf}
+use Rattle.model.specs.Chip.{emptyChip}
 use Rattle.model.specs.Setters.{raise, counted}
 
 -- Format zeroes all of the disk part but the parents: those it is handed are stored, for account 0 always 0.
@@ -42,7 +43,7 @@ unfoldable pub raised : Sizes → Disk → Disk
 raised z d = raise (highestOf d (z .slots)) d
 
 -- Restart: from the disk part alone; memory may hold anything. All designs inactive, hand 0, free queue 0 to F−1, free frames zeroed.
--- Restart empties the line.
+-- Restart empties the line, and the chip, place 0 next.
 -- Restart sets all (states) anew: listed ones filed, others free.
 abbrev pub uncounted : Sizes → Disk → State
 uncounted z d = record {
@@ -57,6 +58,7 @@ uncounted z d = record {
       pool = record { hand = 0; free = 0 };
     };
     slots = record { active = replicate (z .slots) 0; updating = replicate (z .slots) 0; images = replicate (allPages z) 0 };
+    chip = emptyChip z;
     line = packed LINE [];
     used = [];
   };

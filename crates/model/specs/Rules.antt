@@ -6,7 +6,7 @@ use Rattle.tables.specs.Queue.{queue, queueOf}
 use Rattle.tables.specs.Rule.{Rule, same, below, non, _and_, _or_, _then_, each, some, named}
 use Rattle.model.specs.declared.sizes.Sizes.{Sizes}
 use Rattle.model.specs.Lines.{FILED, NULLED, LIVE, RELEASED, LEAVING}
-use Rattle.model.specs.State.{State, Files, Frames, files, frames, NONE, READING, WRITING, LINE, allPages, slotOf, mapWords, live, usedOf, freeCount, freeWord}
+use Rattle.model.specs.State.{State, Files, Frames, Chip, files, frames, NONE, READING, WRITING, LINE, allPages, slotOf, mapWords, live, usedOf, freeCount, freeWord}
 
 -- no number is named by two of the first n entries
 abbrev pub once : ℕ → (ℕ → ℕ) → Rule
@@ -168,6 +168,24 @@ module _ (z : Sizes) (v : Files) (c : Frames) where
   clean recordWord = each (z .frames) λ f. named (c .frame f .page) λ i. same (c .frame f .transfer) NONE then same (c .frame f .modified) 0 then named (v .address i) λ r.
       each (z .words) λ w. same (c .word (f * z .words + w)) (if (eqb (v .state r) LIVE) (recordWord (r * z .words + w)) 0)
 
+module _ (z : Sizes) (state recordWord : ℕ → ℕ) (k : Chip) where
+  -- ── (02) memory rules: the chip ──
+  -- the next place is below B;
+  abbrev pub nextFit : Rule
+  nextFit = below (at (k .next) 0) (z .chip)
+
+  -- no record twice;
+  abbrev pub copyOnce : Rule
+  copyOnce = once (z .chip) (at (k .copies))
+
+  -- empty places hold zeros;
+  abbrev pub copyEmpty : Rule
+  copyEmpty = each (z .chip) λ b. same (at (k .copies) b) 0 then each (z .words) λ w. same (at (k .words) (b * z .words + w)) 0
+
+  -- each copy is equal to its live record.
+  abbrev pub copyLive : Rule
+  copyLive = each (z .chip) λ b. named (at (k .copies) b) λ r. same (state r) LIVE and each (z .words) λ w. same (at (k .words) (b * z .words + w)) (recordWord (r * z .words + w))
+
 -- ── the two sets of rules ──
 module _ (z : Sizes) (st : State) where
   abbrev v : Files
@@ -204,8 +222,17 @@ module _ (z : Sizes) (st : State) where
   unfoldable pub lineRules : Rule
   lineRules = queueOf LINE (allPages z) (st .memory .line)
 
+  -- Question 2 also wants of the chip: ..
+  unfoldable pub chipRules : Rule
+  chipRules = let word = at (st .disk .records) in let k = st .memory .chip in
+      nextFit z (v .state) word k and copyOnce z (v .state) word k and copyEmpty z (v .state) word k and copyLive z (v .state) word k
+
+  -- the memory rules of the other tables
+  unfoldable pub tableRules : Rule
+  tableRules = rangeRules and recordRules and queueRules and frameRules and countRules and lineRules
+
   unfoldable pub memoryRules : Rule
-  memoryRules = rangeRules and recordRules and queueRules and frameRules and countRules and lineRules
+  memoryRules = tableRules and chipRules
 
   -- both sets
   unfoldable pub allRules : Rule

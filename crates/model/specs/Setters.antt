@@ -5,7 +5,7 @@ use lib.ListN.{set}
 use Rattle.tables.specs.Base.{tab}
 use Rattle.model.specs.declared.sizes.Sizes.{Sizes}
 use Rattle.model.specs.declared.frame.Frame.{Frame}
-use Rattle.model.specs.State.{Disk, Core, Held, Slots, State, files, frames, mapWords, usedOf, freeCount, freeWord}
+use Rattle.model.specs.State.{Disk, Core, Held, Slots, Chip, State, files, frames, mapWords, usedOf, freeCount, freeWord}
 
 -- ── the disk part ──
 abbrev pub onDisk : (Disk → Disk) → State → State
@@ -38,19 +38,22 @@ raise n d = setHighest (set (d .highest) 0 n) d
 
 -- ── the memory part ──
 abbrev pub onCore : (Core → Core) → State → State
-onCore f st = record { disk = st .disk; memory = record { core = f (st .memory .core); held = st .memory .held; slots = st .memory .slots; line = st .memory .line; used = st .memory .used } }
+onCore f st = record { disk = st .disk; memory = record { core = f (st .memory .core); held = st .memory .held; slots = st .memory .slots; chip = st .memory .chip; line = st .memory .line; used = st .memory .used } }
 
 abbrev pub onHeld : (Held → Held) → State → State
-onHeld f st = record { disk = st .disk; memory = record { core = st .memory .core; held = f (st .memory .held); slots = st .memory .slots; line = st .memory .line; used = st .memory .used } }
+onHeld f st = record { disk = st .disk; memory = record { core = st .memory .core; held = f (st .memory .held); slots = st .memory .slots; chip = st .memory .chip; line = st .memory .line; used = st .memory .used } }
 
 abbrev pub onSlots : (Slots → Slots) → State → State
-onSlots f st = record { disk = st .disk; memory = record { core = st .memory .core; held = st .memory .held; slots = f (st .memory .slots); line = st .memory .line; used = st .memory .used } }
+onSlots f st = record { disk = st .disk; memory = record { core = st .memory .core; held = st .memory .held; slots = f (st .memory .slots); chip = st .memory .chip; line = st .memory .line; used = st .memory .used } }
 
 abbrev pub setUsed : List ℕ → State → State
-setUsed x st = record { disk = st .disk; memory = record { core = st .memory .core; held = st .memory .held; slots = st .memory .slots; line = st .memory .line; used = x } }
+setUsed x st = record { disk = st .disk; memory = record { core = st .memory .core; held = st .memory .held; slots = st .memory .slots; chip = st .memory .chip; line = st .memory .line; used = x } }
 
 abbrev pub setLine : List ℕ → State → State
-setLine x st = record { disk = st .disk; memory = record { core = st .memory .core; held = st .memory .held; slots = st .memory .slots; line = x; used = st .memory .used } }
+setLine x st = record { disk = st .disk; memory = record { core = st .memory .core; held = st .memory .held; slots = st .memory .slots; chip = st .memory .chip; line = x; used = st .memory .used } }
+
+abbrev pub setChip : Chip → State → State
+setChip x st = record { disk = st .disk; memory = record { core = st .memory .core; held = st .memory .held; slots = st .memory .slots; chip = x; line = st .memory .line; used = st .memory .used } }
 
 abbrev pub setFrames : List Frame → Core → Core
 setFrames x c = record { frames = x; words = c .words; free-queue = c .free-queue; removal-list = c .removal-list }

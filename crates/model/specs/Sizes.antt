@@ -11,7 +11,7 @@ use Rattle.model.specs.declared.sizes.Sized.{Sized}
 use Rattle.model.specs.declared.sizes.Sized.the-variants.{Within, Outside}
 
 -- "W words of 32 bits in a page, 1 to 1,024; R records, 1 to 4,096; F frames, 1 to 64; S design slots, 1 to 64;
--- N pages in a design, 1 to 256; Q accounts, 1 to 16"
+-- N pages in a design, 1 to 256; Q accounts, 1 to 16". (02) "a chip of B pages, 1 to 256"
 abbrev pub mostWords : ℕ
 mostWords = 1024
 
@@ -30,6 +30,9 @@ mostPages = 256
 abbrev pub mostAccounts : ℕ
 mostAccounts = 16
 
+abbrev pub mostChip : ℕ
+mostChip = 256
+
 -- 1 to the most
 abbrev pub upTo : ℕ → ℕ → Rule
 upTo n most = below 0 n and below n (suc most)
@@ -42,9 +45,10 @@ sizesFit z =
     and upTo (z .slots) mostSlots
     and upTo (z .pages) mostPages
     and upTo (z .accounts) mostAccounts
+    and upTo (z .chip) mostChip
 
-abbrev pub sizesOf : ℕ → ℕ → ℕ → ℕ → ℕ → ℕ → Sizes
-sizesOf w r f s n q = record { words = w; records = r; frames = f; slots = s; pages = n; accounts = q }
+abbrev pub sizesOf : ℕ → ℕ → ℕ → ℕ → ℕ → ℕ → ℕ → Sizes
+sizesOf w r f s n q b = record { words = w; records = r; frames = f; slots = s; pages = n; accounts = q; chip = b }
 
 -- what a constructor of sizes answers
 unfoldable pub sized : Sizes → Sized

@@ -48,6 +48,12 @@ pub record Slots : Type 0 where
   pub updating : List ℕ
   pub images : List ℕ
 
+-- (02) The bulk store of the Multics manual comes back as a chip of B pages: each place's words, the record whose copy they are (0 for an empty place, else record number + 1), and the place that is filled next, a table of one entry.
+pub record Chip : Type 0 where
+  pub words : List ℕ
+  pub copies : List ℕ
+  pub next : List ℕ
+
 -- Up to 32 requests, each a slot and a page, wait in order of arrival.
 abbrev pub LINE : ℕ
 LINE = 32
@@ -57,6 +63,7 @@ pub record Memory : Type 0 where
   pub core : Core
   pub held : Held
   pub slots : Slots
+  pub chip : Chip
   pub line : List ℕ
   pub used : List ℕ
 

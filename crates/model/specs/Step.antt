@@ -19,7 +19,10 @@ use Rattle.model.specs.declared.event.Waiting.the-variants.{Join, Turn}
 use Rattle.model.specs.declared.event.Event.{Event}
 use Rattle.model.specs.declared.event.Event.the-variants as Event
 use Rattle.model.specs.Sizes.{sizesFit}
-use Rattle.model.specs.State.{Disk, Memory, State, LINE, allPages, mapWords}
+use Rattle.model.specs.State.{Disk, Memory, Chip, State, LINE, files, allPages, mapWords}
+use Rattle.model.specs.Setters.{onCore, setChip}
+use Rattle.model.specs.Parts.{wordAt}
+use Rattle.model.specs.Chip.{arrives, copied, onlyLive}
 use Rattle.model.specs.Rules.{lower, diskRules, allRules}
 use Rattle.model.specs.Questions.{Turning, nobody, serves, goesBack, faults, claims, sendsAway, rank, questions, lookQuestions, turnQuestions, turning}
 use Rattle.model.specs.Designs
@@ -34,11 +37,18 @@ abbrev pub diskLengths : Sizes → Disk → Rule
 diskLengths z d = same (length (d .records)) (z .records * z .words) and same (length (d .numbers)) (z .slots) and same (length (d .accounts)) (z .slots)
     and same (length (d .maps)) (allPages z) and same (length (d .limits)) (z .accounts) and same (length (d .parents)) (z .accounts) and same (length (d .highest)) 1
 
-abbrev pub memoryLengths : Sizes → Memory → Rule
-memoryLengths z m = same (length (m .core .frames)) (z .frames) and same (length (m .core .words)) (z .frames * z .words) and same (length (m .core .free-queue)) (z .frames)
+abbrev pub chipLengths : Sizes → Chip → Rule
+chipLengths z k = same (length (k .words)) (z .chip * z .words) and same (length (k .copies)) (z .chip) and same (length (k .next)) 1
+
+-- .. of the other tables
+abbrev pub tableLengths : Sizes → Memory → Rule
+tableLengths z m = same (length (m .core .frames)) (z .frames) and same (length (m .core .words)) (z .frames * z .words) and same (length (m .core .free-queue)) (z .frames)
     and same (length (m .core .removal-list)) (z .frames) and same (length (m .held .addresses)) (allPages z) and same (length (m .held .states)) (z .records)
     and same (length (m .held .owners)) (z .records) and same (length (m .held .free-map)) (mapWords z) and same (length (m .slots .active)) (z .slots)
     and same (length (m .slots .updating)) (z .slots) and same (length (m .slots .images)) (allPages z) and same (length (m .line)) LINE and same (length (m .used)) (z .accounts)
+
+abbrev pub memoryLengths : Sizes → Memory → Rule
+memoryLengths z m = tableLengths z m and chipLengths z (m .chip)
 
 unfoldable pub allFit : Sizes → State → Rule
 allFit z st = sizesFit z and diskLengths z (st .disk) and memoryLengths z (st .memory)
@@ -51,8 +61,16 @@ asked z st own = ask 1 (allFit z st) (ask 2 (allRules z st) own)
 unfoldable pub answer : Sizes → State → Event → ℕ
 answer z st e = firstNo (asked z st (questions z st e))
 
+abbrev pub turnFaults : Turning → Bool
+turnFaults nobody = false
+turnFaults serves = false
+turnFaults goesBack = false
+turnFaults faults = true
+turnFaults claims = false
+turnFaults (sendsAway n) = false
+
 module _ (z : Sizes) (st : State) where
-  -- the state once the event is carried out
+  -- the state once the event is carried out, but for what the chip does
   unfoldable pub carried : Event → State
   carried (Event.Design (Create s q n)) = Designs.create z st s q n
   carried (Event.Design (Delete s)) = Designs.delete z st s
@@ -72,6 +90,39 @@ module _ (z : Sizes) (st : State) where
   carried (Event.Writeback (MapDone s good)) = Writeback.mapDone z st s good
   carried (Event.Waiting (Join s p)) = Line.join z st s p
   carried (Event.Waiting Turn) = Line.turn z st
+
+  -- the event is a fault, or a turn that faults: it takes the first queued frame
+  unfoldable pub isFault : Event → Bool
+  isFault (Event.Page (Fault s p)) = true
+  isFault (Event.Page (Read s p w)) = false
+  isFault (Event.Page (Write s p w x)) = false
+  isFault (Event.Page (Wire s p)) = false
+  isFault (Event.Page (Unwire s p)) = false
+  isFault (Event.Waiting (Join s p)) = false
+  isFault (Event.Waiting Turn) = turnFaults (turning z st)
+  isFault (Event.Design e) = false
+  isFault (Event.Account e) = false
+  isFault (Event.Writeback e) = false
+
+  -- (02) A fault on a live address found there is in service as after a good read, with no transfer.
+  unfoldable pub supplied : Event → State
+  supplied e = onCore (λ c. if (isFault e) (arrives z (st .memory .chip) (carried e) (Pages.faultFrame st) c) c) (carried e)
+
+  -- (02) Each good write goes to the disk and also into the chip, under its record number; each good read goes in too.
+  unfoldable pub filled : Event → Chip → Chip
+  filled (Event.Writeback (PageDone f good)) k = let r = Writeback.recordIn z st f in if (eqb good 1) (copied z r (wordAt z (carried (Event.Writeback (PageDone f good)) .disk .records) r) k) k
+  filled (Event.Writeback Claim) k = k
+  filled (Event.Writeback (Truncate s p)) k = k
+  filled (Event.Writeback (Update s)) k = k
+  filled (Event.Writeback (MapDone s good)) k = k
+  filled (Event.Design e) k = k
+  filled (Event.Account e) k = k
+  filled (Event.Page e) k = k
+  filled (Event.Waiting e) k = k
+
+  -- and with the chip: a copy is dropped as soon as its record stops being live
+  unfoldable pub whole : Event → State
+  whole e = setChip (onlyLive z (files (carried e) .state) (filled e (st .memory .chip))) (supplied e)
 
   -- its result: 0 unless the papers name one
   unfoldable pub result : Event → ℕ
@@ -102,7 +153,7 @@ outcome zero result old new = record { answer = record { refusal = 0; result = r
 outcome (suc n) result old new = record { answer = record { refusal = suc n; result = 0 }; left = old }
 
 unfoldable pub step : Sizes → State → Event → Outcome State
-step z st e = outcome (answer z st e) (result z st e) st (carried z st e)
+step z st e = outcome (answer z st e) (result z st e) st (whole z st e)
 
 -- what format is lent: the disk part, and the wanted parents
 abbrev pub formatLengths : Sizes → List ℕ → Disk → Rule

@@ -3,10 +3,12 @@ use crate::event::Answer;
 use crate::frame::Frame;
 use crate::frame::Pool;
 
-// Of an event. taken: the record taken out of the pool + 1, or 0 for none. deposited: how many records were given back.
+// Of an event. taken: the record taken out of the pool + 1, or 0 for none. deposited: how many records were given back. nulled: the record of the
+// modified page of zeros that a claim took + 1, or 0 for none.
 pub struct Worked {
     pub taken: u32,
     pub deposited: u32,
+    pub nulled: u32,
     pub answer: Answer,
 }
 

@@ -12,12 +12,13 @@ pub struct Sizes {
     pub slots: usize,
     pub pages: usize,
     pub accounts: usize,
+    pub chip: usize,
 }
 
 // How many requests can wait in the line.
 pub const LINE: usize = 32;
 
-// What comes of making sizes: all six are within their limits, or one is not.
+// What comes of making sizes: all seven are within their limits, or one is not.
 pub enum Sized {
     Within(Sizes),
     Outside,
@@ -43,7 +44,9 @@ impl Sizes {
 
     pub const MOST_ACCOUNTS: usize = 16;
 
-    // Tests all six, with no branch.
+    pub const MOST_CHIP: usize = 256;
+
+    // Tests all seven, with no branch.
     pub fn new(
         words: usize,
         records: usize,
@@ -51,16 +54,18 @@ impl Sizes {
         slots: usize,
         pages: usize,
         accounts: usize,
+        chip: usize,
     ) -> Sized
-        ensures { λ r. ⌜ (r ≡ sized (sizesOf words records frames slots pages accounts))
-            × (sizedNumber r ≡ sizesAnswer (sizesOf words records frames slots pages accounts)) ⌝ }
+        ensures { λ r. ⌜ (r ≡ sized (sizesOf words records frames slots pages accounts chip))
+            × (sizedNumber r ≡ sizesAnswer (sizesOf words records frames slots pages accounts chip)) ⌝ }
     {
         let fit = up_to(words, Self::MOST_WORDS)
             & up_to(records, Self::MOST_RECORDS)
             & up_to(frames, Self::MOST_FRAMES)
             & up_to(slots, Self::MOST_SLOTS)
             & up_to(pages, Self::MOST_PAGES)
-            & up_to(accounts, Self::MOST_ACCOUNTS);
+            & up_to(accounts, Self::MOST_ACCOUNTS)
+            & up_to(chip, Self::MOST_CHIP);
         if fit {
             Sized::Within(Self {
                 words,
@@ -69,6 +74,7 @@ impl Sizes {
                 slots,
                 pages,
                 accounts,
+                chip,
             })
         } else {
             Sized::Outside
@@ -86,6 +92,7 @@ impl Sizes {
             self.slots,
             self.pages,
             self.accounts,
+            self.chip,
         );
         if let Sized::Within(_) = made {
             true

@@ -78,6 +78,7 @@ pub fn fault(
     requires { ⌜ Seats sizes (framesGiven sizes frames) × Queued sizes (now «free_queue») (now «removal_list») × (length (now words) ≡ sizes .frames * sizes .words) × Pooled sizes pool (now states) (now «free_map») ⌝ }
     ensures answer { λ r. ⌜ r .answer ≡ own sizes (enteredFault (framesEntered sizes frames) pool numbers words «free_queue» «removal_list» addresses states owners «free_map» active) (Event.Page (Page.Fault slot page)) .answer ⌝ }
     ensures deposited { λ r. ⌜ r .deposited ≡ 0 ⌝ }
+    ensures nulled { λ r. ⌜ r .nulled ≡ 0 ⌝ }
     ensures frames { λ r. ⌜ framesLeft sizes frames ≡ own sizes (enteredFault (framesEntered sizes frames) pool numbers words «free_queue» «removal_list» addresses states owners «free_map» active) (Event.Page (Page.Fault slot page)) .left .memory .core .frames ⌝ }
     ensures words { λ r. ⌜ now (words .exit) ≡ own sizes (enteredFault (framesEntered sizes frames) pool numbers words «free_queue» «removal_list» addresses states owners «free_map» active) (Event.Page (Page.Fault slot page)) .left .memory .core .words ⌝ }
     ensures free_queue { λ r. ⌜ now («free_queue» .exit) ≡ own sizes (enteredFault (framesEntered sizes frames) pool numbers words «free_queue» «removal_list» addresses states owners «free_map» active) (Event.Page (Page.Fault slot page)) .left .memory .core .free-queue ⌝ }
@@ -106,6 +107,7 @@ pub fn fault(
         return Worked {
             taken: 0,
             deposited: 0,
+            nulled: 0,
             answer: Answer { refusal, result: 0 },
         };
     }
@@ -128,6 +130,7 @@ pub fn fault(
     Worked {
         taken,
         deposited: 0,
+        nulled: 0,
         answer: Answer {
             refusal: 0,
             result: f as u32,

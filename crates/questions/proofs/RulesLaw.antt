@@ -19,8 +19,8 @@ use Rattle.model.specs.declared.sizes.Sizes.{Sizes}
 use Rattle.model.specs.State.{State, LINE, allPages, files, frames, frameAt, noFrame, payer}
 use Rattle.model.specs.Lent.{noLine}
 use Rattle.model.specs.Laws.Fit.{Fit}
-use Rattle.model.specs.Rules.{allRules}
-use Rattle.model.specs.Laws.Ruled.{OfFrames, OfQueues, ruled, rules}
+use Rattle.model.specs.Laws.Apart.{tablesRuled, ruled-apart, apart-ruled}
+use Rattle.model.specs.Laws.Ruled.{OfFrames, OfQueues}
 use Rattle.model.specs.Laws.Woven.{wovenPage}
 use Rattle.leaves.specs.Payers.{Paying}
 use Rattle.rules.specs.Passes.{usedPage, usedTable, framedPage, framedTable}
@@ -73,12 +73,12 @@ module _ (z : Sizes) (st : State) (fit : Fit z st) where
   file-passes = filePasses (z .slots) (z .pages) (z .records) (st .disk .numbers) (st .disk .maps) (st .memory .held .addresses) (st .memory .held .states) (st .memory .held .owners) (st .memory .slots .active)
       (st .memory .slots .updating) (st .memory .slots .images)
 
-  pub no-disk : false ≡ test (diskPasses (z .slots) (z .pages) (z .records) (z .accounts) (st .disk .numbers) (st .disk .accounts) (st .disk .maps) (st .disk .parents)) → false ≡ test (allRules z st)
-  no-disk e = not-so (allRules z st) (λ h. unlearn disk-passes e (disk-on z st disk-long (ruled z st h .disk)))
+  pub no-disk : false ≡ test (diskPasses (z .slots) (z .pages) (z .records) (z .accounts) (st .disk .numbers) (st .disk .accounts) (st .disk .maps) (st .disk .parents)) → false ≡ test (tablesRuled z st)
+  no-disk e = not-so (tablesRuled z st) (λ h. unlearn disk-passes e (disk-on z st disk-long (ruled-apart z st h .disk)))
 
   pub no-files : false ≡ test (filePasses (z .slots) (z .pages) (z .records) (st .disk .numbers) (st .disk .maps) (st .memory .held .addresses) (st .memory .held .states) (st .memory .held .owners) (st .memory .slots .active)
-      (st .memory .slots .updating) (st .memory .slots .images)) → false ≡ test (allRules z st)
-  no-files e = not-so (allRules z st) (λ h. unlearn file-passes e (files-of z st (files-long (st .disk .accounts) (omega (arith, fit .disk .accounts))) (ruled z st h .records)))
+      (st .memory .slots .updating) (st .memory .slots .images)) → false ≡ test (tablesRuled z st)
+  no-files e = not-so (tablesRuled z st) (λ h. unlearn file-passes e (files-of z st (files-long (st .disk .accounts) (omega (arith, fit .disk .accounts))) (ruled-apart z st h .records)))
 
   -- the frames that the code has are the state's
   module _ (frame : ℕ → Frame) (same : (f : ℕ) → f < z .frames → frame f ≡ frames st .frame f) where
@@ -87,9 +87,9 @@ module _ (z : Sizes) (st : State) (fit : Fit z st) where
         (st .memory .held .addresses) (st .memory .held .states) (st .memory .slots .active)
 
     pub no-frames : false ≡ test (framePasses (z .frames) (z .words) (z .pages) (z .slots * z .pages) frame (st .disk .records) (st .memory .core .words) (st .memory .core .free-queue) (st .memory .core .removal-list)
-        (st .memory .held .addresses) (st .memory .held .states) (st .memory .slots .active)) → false ≡ test (allRules z st)
-    no-frames e = not-so (allRules z st) (λ h. unlearn frame-passes e
-        (passes-same (z .frames) (z .words) (z .pages) (z .slots * z .pages) (frames st .frame) frame (λ f l. sym (same f l)) (st .disk .records) (st .memory .core .words) (st .memory .core .free-queue) (st .memory .core .removal-list) (st .memory .held .addresses) (st .memory .held .states) (st .memory .slots .active) (frames-of z st (ruled z st h .frames) (ruled z st h .queues))))
+        (st .memory .held .addresses) (st .memory .held .states) (st .memory .slots .active)) → false ≡ test (tablesRuled z st)
+    no-frames e = not-so (tablesRuled z st) (λ h. unlearn frame-passes e
+        (passes-same (z .frames) (z .words) (z .pages) (z .slots * z .pages) (frames st .frame) frame (λ f l. sym (same f l)) (st .disk .records) (st .memory .core .words) (st .memory .core .free-queue) (st .memory .core .removal-list) (st .memory .held .addresses) (st .memory .held .states) (st .memory .slots .active) (frames-of z st (ruled-apart z st h .frames) (ruled-apart z st h .queues))))
 
     -- all others hold, and that of the line: the counts decide
     pub counts-decide : (payers : List ℕ) → Paying st payers → (sums totals : List ℕ) (b : Bool) → Holds (queueOf LINE (allPages z) (st .memory .line))
@@ -101,10 +101,10 @@ module _ (z : Sizes) (st : State) (fit : Fit z st) where
         → Holds (usedTable (z .slots) (z .pages) payers (st .memory .slots .active) (st .disk .maps) (st .memory .held .addresses) (st .memory .held .states) sums)
         → Holds (framedTable (z .frames) (z .pages) (λ f. wovenPage (frame f)) payers (st .memory .held .addresses) (st .memory .held .states) sums totals)
         → b ≡ test (countPasses (z .records) (z .accounts) (st .memory .held .pool .hand) (st .memory .held .pool .free) (st .memory .held .states) (st .memory .held .free-map) (st .memory .used) totals)
-        → b ≡ test (allRules z st)
-    counts-decide payers p sums totals b waits d f c sum more e = e ∙ alike count-passes (allRules z st)
-        (λ h. rules z st (record { disk = on-disk z st disk-long d; records = of-files z st (files-long (st .disk .accounts) (omega (arith, fit .disk .accounts))) f; queues = fq .1; frames = fq .0; counts = of-counts z st (fq .0) (fit .sizes .pages) payers pays sums totals few sum own h; line = waits }))
-        (λ h. counts-of z st (fq .0) (fit .sizes .pages) payers pays sums totals few sum own (ruled z st h .counts))
+        → b ≡ test (tablesRuled z st)
+    counts-decide payers p sums totals b waits d f c sum more e = e ∙ alike count-passes (tablesRuled z st)
+        (λ h. apart-ruled z st (record { disk = on-disk z st disk-long d; records = of-files z st (files-long (st .disk .accounts) (omega (arith, fit .disk .accounts))) f; queues = fq .1; frames = fq .0; counts = of-counts z st (fq .0) (fit .sizes .pages) payers pays sums totals few sum own h; line = waits }))
+        (λ h. counts-of z st (fq .0) (fit .sizes .pages) payers pays sums totals few sum own (ruled-apart z st h .counts))
       where
         pays : (s : ℕ) → s < z .slots → at payers s ≡ payer (files st) s
         pays s h = p .entries s (omega (arith, h, fit .sizes .slots-most))

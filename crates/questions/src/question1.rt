@@ -7,7 +7,8 @@ ghost use Rattle.model.specs.declared.frame.Frame.{Frame};
 ghost use Rattle.model.specs.declared.frame.Pool.{Pool};
 ghost use Rattle.model.specs.Sizes.{sizesFit};
 ghost use Rattle.model.specs.Lent.{entered};
-ghost use Rattle.model.specs.Step.{diskLengths, memoryLengths, allFit};
+ghost use Rattle.model.specs.Step.{diskLengths, tableLengths};
+ghost use Rattle.model.specs.Laws.Apart.{tablesFit};
 ghost use Rattle.questions.specs.Contracts.{diskEntered, memoryEntered};
 use model::sizes::Sizes;
 
@@ -41,7 +42,7 @@ pub fn disk_lengths_fit(
         & (highest.len() == 1)
 }
 
-// Every slice of the memory part of its exact length; `count` frames are lent.
+// Every slice of the memory part of its exact length, but for those of the chip and the line; `count` frames are lent.
 pub fn memory_lengths_fit(
     z: Sizes,
     count: usize,
@@ -58,7 +59,7 @@ pub fn memory_lengths_fit(
     used: &[u16],
 ) -> bool
     requires { ⌜ Holds (sizesFit z) ⌝ }
-    ensures { λ r. ⌜ ((frames : List Frame) (pool : Pool) → length frames ≡ count → r ≡ test (memoryLengths z (memoryEntered frames pool words «free_queue» «removal_list» addresses states owners «free_map» active updating images used))) ⌝ }
+    ensures { λ r. ⌜ ((frames : List Frame) (pool : Pool) → length frames ≡ count → r ≡ test (tableLengths z (memoryEntered frames pool words «free_queue» «removal_list» addresses states owners «free_map» active updating images used))) ⌝ }
 {
     let pages = z.slots * z.pages;
     (count == z.frames)
@@ -103,7 +104,7 @@ pub fn disk_fit(
     )
 }
 
-// Question 1 of every other call; `count` frames are lent.
+// Question 1 of every other call, but for the chip and the line; `count` frames are lent.
 pub fn all_fit(
     z: Sizes,
     count: usize,
@@ -126,7 +127,7 @@ pub fn all_fit(
     images: &[u16],
     used: &[u16],
 ) -> bool
-    ensures { λ r. ⌜ ((frames : List Frame) (pool : Pool) → length frames ≡ count → r ≡ test (allFit z (entered frames pool records numbers accounts maps limits parents highest words «free_queue» «removal_list» addresses states owners «free_map» active updating images used))) ⌝ }
+    ensures { λ r. ⌜ ((frames : List Frame) (pool : Pool) → length frames ≡ count → r ≡ test (tablesFit z (entered frames pool records numbers accounts maps limits parents highest words «free_queue» «removal_list» addresses states owners «free_map» active updating images used))) ⌝ }
 {
     if sizes_fit(z) {} else {
         return false;

@@ -1,12 +1,13 @@
-// Question 2: the disk rules alone, and both sets of rules.
+// Question 2: the disk rules alone, and both sets of rules, but for those of the chip and the line.
 ghost use mathlib.Core.Path.{_≡_};
 ghost use lib.ListN.{take};
 ghost use Rattle.tables.specs.Rule.{_and_, test, Holds};
 ghost use Rattle.model.specs.Sizes.{sizesFit};
 ghost use Rattle.model.specs.State.{Memory};
 ghost use Rattle.model.specs.Lent.{diskOf, given, entered};
-ghost use Rattle.model.specs.Rules.{diskRules, allRules};
-ghost use Rattle.model.specs.Step.{diskLengths, allFit};
+ghost use Rattle.model.specs.Rules.{diskRules};
+ghost use Rattle.model.specs.Step.{diskLengths};
+ghost use Rattle.model.specs.Laws.Apart.{tablesFit, tablesRuled};
 ghost use Rattle.leaves.specs.Packed.{unpacked};
 ghost use Rattle.questions.specs.Contracts.{diskEntered};
 use crate::groups::RECORD_MARKS;
@@ -32,7 +33,7 @@ pub fn disk_rules(
     crate::groups::disk(z, numbers, accounts, maps, parents, &mut listed)
 }
 
-// Both sets of rules.
+// Both sets of rules, but for those of the chip and the line.
 pub fn all_rules(
     z: Sizes,
     frames: &[u64],
@@ -57,8 +58,8 @@ pub fn all_rules(
     images: &[u16],
     used: &[u16],
 ) -> bool
-    requires { ⌜ Holds (allFit z (given (take count (unpacked (now frames))) pool records numbers accounts maps limits parents highest words «free_queue» «removal_list» addresses states owners «free_map» active updating images used)) ⌝ }
-    ensures { λ r. ⌜ r ≡ test (allRules z (entered (take count (unpacked (now (frames .entry)))) pool records numbers accounts maps limits parents highest words «free_queue» «removal_list» addresses states owners «free_map» active updating images used)) ⌝ }
+    requires { ⌜ Holds (tablesFit z (given (take count (unpacked (now frames))) pool records numbers accounts maps limits parents highest words «free_queue» «removal_list» addresses states owners «free_map» active updating images used)) ⌝ }
+    ensures { λ r. ⌜ r ≡ test (tablesRuled z (entered (take count (unpacked (now (frames .entry)))) pool records numbers accounts maps limits parents highest words «free_queue» «removal_list» addresses states owners «free_map» active updating images used)) ⌝ }
 {
     let mut listed: [u32; RECORD_MARKS] = [0; RECORD_MARKS];
     if crate::groups::disk(z, numbers, accounts, maps, parents, &mut listed) {} else {

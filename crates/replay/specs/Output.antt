@@ -18,7 +18,7 @@ use Rattle.lines.specs.Lines.{Wrote, header, lineOf, badField}
 use Rattle.replay.specs.Input.{isWhole, requestOf, nextOf}
 
 abbrev pub sizes : Sizes
-sizes = record { words = 2; records = 4; frames = 2; slots = 2; pages = 3; accounts = 1 }
+sizes = record { words = 2; records = 4; frames = 2; slots = 2; pages = 3; accounts = 1; chip = 2 }
 
 -- "10 cut and restart": "At its cut no unreported transfer lands", so the restart is all
 unfoldable pub carried : State → Request → Outcome State
@@ -68,7 +68,7 @@ pub record Ran (s before after : List ℕ) (from count : ℕ) (st : State) (to s
 -- the tables before anything is done
 abbrev pub blank : State
 blank = allOf (replicate 2 noFrame) noPool (zeros 8) (zeros 2) (zeros 2) (zeros 6) (zeros 1) (zeros 1) (zeros 1)
-    (zeros 4) (zeros 2) (zeros 2) (zeros 6) (zeros 4) (zeros 4) (zeros 1) (zeros 2) (zeros 2) (zeros 6) (zeros 32) (zeros 1)
+    (zeros 4) (zeros 2) (zeros 2) (zeros 6) (zeros 4) (zeros 4) (zeros 1) (zeros 2) (zeros 2) (zeros 6) (zeros 4) (zeros 2) (zeros 1) (zeros 32) (zeros 1)
 
 unfoldable pub output : List ℕ → List ℕ
 output s = header ++ printedFrom 0 s 0 0 (startedFrom blank .left)

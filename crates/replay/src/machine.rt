@@ -15,7 +15,7 @@ use model::sizes::Sizes;
 
 const CUT: u32 = 16;
 
-// W 2, R 4, F 2, S 2, N 3, Q 1.
+// W 2, R 4, F 2, S 2, N 3, Q 1, B 2.
 fn sizes() -> Sizes
     ensures { λ r. ⌜ r ≡ Output·sizes ⌝ }
 {
@@ -26,6 +26,7 @@ fn sizes() -> Sizes
         slots: 2,
         pages: 3,
         accounts: 1,
+        chip: 2,
     }
 }
 
@@ -64,12 +65,15 @@ pub fn carry(
     active: &mut [u8; 2],
     updating: &mut [u8; 2],
     images: &mut [u16; 6],
+    chip_words: &mut [u32; 4],
+    chip_records: &mut [u16; 2],
+    chip_next: &mut [u16; 1],
     line: &mut [u16; 32],
     used: &mut [u16; 1],
 ) -> Pooled
     ensures { λ r.
-        ⌜ record { answer = r .answer; left = allLeft (framesOf (r .frames) 2) (r .pool) records numbers accounts maps limits parents highest «frame_words» «free_queue» «removal_list» addresses states owners «free_map» active updating images line used }
-        ≡ carried (allEntered (framesOf (held .frames) 2) (held .pool) records numbers accounts maps limits parents highest «frame_words» «free_queue» «removal_list» addresses states owners «free_map» active updating images line used) asked ⌝ }
+        ⌜ record { answer = r .answer; left = allLeft (framesOf (r .frames) 2) (r .pool) records numbers accounts maps limits parents highest «frame_words» «free_queue» «removal_list» addresses states owners «free_map» active updating images «chip_words» «chip_records» «chip_next» line used }
+        ≡ carried (allEntered (framesOf (held .frames) 2) (held .pool) records numbers accounts maps limits parents highest «frame_words» «free_queue» «removal_list» addresses states owners «free_map» active updating images «chip_words» «chip_records» «chip_next» line used) asked ⌝ }
 {
     let frames = held.frames;
     let pool = held.pool;
@@ -96,6 +100,9 @@ pub fn carry(
             active,
             updating,
             images,
+            chip_words,
+            chip_records,
+            chip_next,
             line,
             used,
         );
@@ -123,6 +130,9 @@ pub fn carry(
         active,
         updating,
         images,
+        chip_words,
+        chip_records,
+        chip_next,
         line,
         used,
     );
@@ -156,12 +166,15 @@ pub fn start(
     active: &mut [u8; 2],
     updating: &mut [u8; 2],
     images: &mut [u16; 6],
+    chip_words: &mut [u32; 4],
+    chip_records: &mut [u16; 2],
+    chip_next: &mut [u16; 1],
     line: &mut [u16; 32],
     used: &mut [u16; 1],
 ) -> Pooled
     ensures { λ r.
-        ⌜ record { answer = r .answer; left = allLeft (framesOf (r .frames) 2) (r .pool) records numbers accounts maps limits parents highest «frame_words» «free_queue» «removal_list» addresses states owners «free_map» active updating images line used }
-        ≡ startedFrom (allEntered (framesOf (replicate 64 noFrame) 2) noPool records numbers accounts maps limits parents highest «frame_words» «free_queue» «removal_list» addresses states owners «free_map» active updating images line used) ⌝ }
+        ⌜ record { answer = r .answer; left = allLeft (framesOf (r .frames) 2) (r .pool) records numbers accounts maps limits parents highest «frame_words» «free_queue» «removal_list» addresses states owners «free_map» active updating images «chip_words» «chip_records» «chip_next» line used }
+        ≡ startedFrom (allEntered (framesOf (replicate 64 noFrame) 2) noPool records numbers accounts maps limits parents highest «frame_words» «free_queue» «removal_list» addresses states owners «free_map» active updating images «chip_words» «chip_records» «chip_next» line used) ⌝ }
 {
     let wanted = [0u16; 1];
     calls::format(
@@ -195,6 +208,9 @@ pub fn start(
         active,
         updating,
         images,
+        chip_words,
+        chip_records,
+        chip_next,
         line,
         used,
     )

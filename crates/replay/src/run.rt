@@ -86,6 +86,9 @@ pub fn run() {
     let mut active = [0u8; 2];
     let mut updating = [0u8; 2];
     let mut images = [0u16; 6];
+    let mut chip_words = [0u32; 4];
+    let mut chip_records = [0u16; 2];
+    let mut chip_next = [0u16; 1];
     let mut line = [0u16; 32];
     let mut used = [0u16; 1];
     let mut held = start(
@@ -106,6 +109,9 @@ pub fn run() {
         &mut active,
         &mut updating,
         &mut images,
+        &mut chip_words,
+        &mut chip_records,
+        &mut chip_next,
         &mut line,
         &mut used,
     );
@@ -141,6 +147,9 @@ pub fn run() {
             &mut active,
             &mut updating,
             &mut images,
+            &mut chip_words,
+            &mut chip_records,
+            &mut chip_next,
             &mut line,
             &mut used,
         );

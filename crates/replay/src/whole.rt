@@ -44,6 +44,9 @@ pub fn whole_fields(
     active: &mut [u8; 2],
     updating: &mut [u8; 2],
     images: &mut [u16; 6],
+    chip_words: &mut [u32; 4],
+    chip_records: &mut [u16; 2],
+    chip_next: &mut [u16; 1],
     line: &mut [u16; 32],
     used: &mut [u16; 1],
 ) -> Done
@@ -51,9 +54,9 @@ pub fn whole_fields(
     ensures { λ r. ⌜ isWhole (fieldAt (now (input .entry)) (r .place)) && room (r .size) (r .n) ≡ false ⌝ }
     ensures { λ r.
         ⌜ Ran (now (input .entry)) (now (out .entry)) (now (out .exit)) from count
-        (allEntered (framesOf (before .frames) 2) (before .pool) records numbers accounts maps limits parents highest «frame_words» «free_queue» «removal_list» addresses states owners «free_map» active updating images line used)
+        (allEntered (framesOf (before .frames) 2) (before .pool) records numbers accounts maps limits parents highest «frame_words» «free_queue» «removal_list» addresses states owners «free_map» active updating images «chip_words» «chip_records» «chip_next» line used)
         (r .place) (r .size) (r .n)
-        (allLeft (framesOf (r .held .frames) 2) (r .held .pool) records numbers accounts maps limits parents highest «frame_words» «free_queue» «removal_list» addresses states owners «free_map» active updating images line used) ⌝ }
+        (allLeft (framesOf (r .held .frames) 2) (r .held .pool) records numbers accounts maps limits parents highest «frame_words» «free_queue» «removal_list» addresses states owners «free_map» active updating images «chip_words» «chip_records» «chip_next» line used) ⌝ }
 {
     let mut held = before;
     let mut place = from;
@@ -83,6 +86,9 @@ pub fn whole_fields(
             active,
             updating,
             images,
+            chip_words,
+            chip_records,
+            chip_next,
             line,
             used,
         );

@@ -14,7 +14,8 @@ use Rattle.model.specs.Rules.{diskRules}
 use Rattle.model.specs.Laws.Ruled.{OnDisk, disk-ruled}
 use Rattle.model.specs.Lent.{stateOf, same-state}
 use Rattle.model.specs.Laws.Fit.{Fit, fit}
-use Rattle.model.specs.Setters.{counted}
+use Rattle.model.specs.Chip.{emptyChip}
+use Rattle.model.specs.Setters.{setChip, counted}
 use Rattle.model.specs.Restart.{raised, restarted, isListed, listedAt}
 use Rattle.model.specs.Laws.Own.{refusal}
 use Rattle.model.specs.Step.{Outcome, outcome, allFit, restart}
@@ -31,7 +32,7 @@ pub restarted-whole : (z : Sizes) (d : Disk) → record { disk = d; memory = res
 unfolding restarted counted
 restarted-whole z d = ap (λ (m : Memory). record { disk = d; memory = m }) (restarted-seen z d)
 
--- .. table by table, the highest number raised
+-- .. table by table, the highest number raised; the chip, which is emptied apart from them, stands beside
 module _ (z : Sizes) (d : Disk) where
   abbrev m : Memory
   m = restarted z (seen (d .accounts) (d .maps) (d .limits) (d .parents)) .memory
@@ -40,7 +41,7 @@ module _ (z : Sizes) (d : Disk) where
       → highest ≡ raised z (numbered (d .numbers) (d .highest)) .highest → frames ≡ m .core .frames → pool ≡ m .held .pool → words ≡ m .core .words → free-queue ≡ m .core .free-queue → removal-list ≡ m .core .removal-list
       → addresses ≡ m .held .addresses → states ≡ m .held .states → owners ≡ m .held .owners → free-map ≡ m .held .free-map
       → active ≡ m .slots .active → updating ≡ m .slots .updating → images ≡ m .slots .images → used ≡ m .used
-      → stateOf frames pool (d .records) (d .numbers) (d .accounts) (d .maps) (d .limits) (d .parents) highest words free-queue removal-list addresses states owners free-map active updating images used
+      → setChip (emptyChip z) (stateOf frames pool (d .records) (d .numbers) (d .accounts) (d .maps) (d .limits) (d .parents) highest words free-queue removal-list addresses states owners free-map active updating images used)
       ≡ restarted z (raised z d)
   unfolding restarted counted raised
   restarted-tables h f p w q r a s o e c u i n = same-state f p refl refl refl refl refl refl (h ∙ raised-seen d z) w q r a s o e c u i n ∙ restarted-whole z (raised z d)

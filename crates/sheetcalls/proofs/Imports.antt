@@ -43,7 +43,7 @@ tablesIn st = tablesOf (st .memory .held .pool) (st .disk .records) (st .disk .n
 
 abbrev pub with : State → Tables → State
 with st t = let m = st .memory in let d = st .disk in
-    stateIn (m .line) (m .core .frames) (t .pool) (t .records) (t .numbers) (t .accounts) (t .maps) (d .limits) (d .parents) (t .highest) (m .core .words) (m .core .free-queue) (m .core .removal-list)
+    stateIn (m .chip) (m .line) (m .core .frames) (t .pool) (t .records) (t .numbers) (t .accounts) (t .maps) (d .limits) (d .parents) (t .highest) (m .core .words) (m .core .free-queue) (m .core .removal-list)
     (m .held .addresses) (t .states) (t .owners) (t .free-map) (m .slots .active) (m .slots .updating) (m .slots .images) (t .used)
 
 module _ (z : Sizes) (st : State) (s q n : ℕ) (b : List ℕ) where

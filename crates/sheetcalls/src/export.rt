@@ -37,12 +37,15 @@ pub fn export_core(
     active: &[u8],
     updating: &[u8],
     images: &[u16],
+    chip_words: &[u32],
+    chip_records: &[u16],
+    chip_next: &[u16],
     line: &[u16],
     used: &[u16],
 ) -> Answer
     ensures { λ r. ⌜ handed r (now (sheet .exit)) ≡ export sizes
         (allEntered (framesOf frames lent) pool records numbers accounts maps limits parents highest
-        «frame_words» «free_queue» «removal_list» addresses states owners «free_map» active updating images line used) slot (now (sheet .entry)) ⌝ }
+        «frame_words» «free_queue» «removal_list» addresses states owners «free_map» active updating images «chip_words» «chip_records» «chip_next» line used) slot (now (sheet .entry)) ⌝ }
 {
     let packed = pack_all(frames);
     let refusal = common(
@@ -67,6 +70,9 @@ pub fn export_core(
         active,
         updating,
         images,
+        chip_words,
+        chip_records,
+        chip_next,
         line,
         used,
     );

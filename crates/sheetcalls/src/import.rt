@@ -40,15 +40,18 @@ pub fn import_core(
     active: &[u8],
     updating: &[u8],
     images: &[u16],
+    chip_words: &[u32],
+    chip_records: &[u16],
+    chip_next: &[u16],
     line: &[u16],
     used: &mut [u16],
 ) -> Imported
     ensures { λ r. ⌜ leaves (r .answer)
         (allLeft (framesOf frames lent) (r .pool) records numbers accounts maps limits parents highest
-        «frame_words» «free_queue» «removal_list» addresses states owners «free_map» active updating images line used)
+        «frame_words» «free_queue» «removal_list» addresses states owners «free_map» active updating images «chip_words» «chip_records» «chip_next» line used)
         ≡ import sizes
         (allEntered (framesOf frames lent) pool records numbers accounts maps limits parents highest
-        «frame_words» «free_queue» «removal_list» addresses states owners «free_map» active updating images line used) slot account number (now (sheet .entry)) ⌝ }
+        «frame_words» «free_queue» «removal_list» addresses states owners «free_map» active updating images «chip_words» «chip_records» «chip_next» line used) slot account number (now (sheet .entry)) ⌝ }
 {
     let packed = pack_all(frames);
     let refusal = common(
@@ -73,6 +76,9 @@ pub fn import_core(
         active,
         updating,
         images,
+        chip_words,
+        chip_records,
+        chip_next,
         line,
         used,
     );

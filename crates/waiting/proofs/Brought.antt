@@ -26,8 +26,9 @@ use Rattle.writeback.proofs.ClaimWork.{Said}
 use Rattle.writeback.proofs.ClaimLaws.{claim-ready}
 use Rattle.dispatch.specs.Kept.{Kept}
 use Rattle.dispatch.proofs.FaultLaws.{fault-own}
-use Rattle.dispatch.proofs.WritebackLaws.{claim-own}
-use Rattle.waiting.proofs.Turned.{as-it-was, claimed-own, settled-own}
+use Rattle.dispatch.proofs.WritebackLaws.{claim-own, claim-nulls}
+use Rattle.model.specs.Laws.Nulled.{nulledBy}
+use Rattle.waiting.proofs.Turned.{as-it-was, claimed-own, settled-own, claimed-nulls, settled-nulls}
 
 module _ (z : Sizes) (st : State) (k : Kept z st) (w : Waiting z st) (away : ¬ InFrame z st) (i : ℕ) (its : i ≡ nextPage z st) where
   abbrev disk : Disk
@@ -49,7 +50,7 @@ module _ (z : Sizes) (st : State) (k : Kept z st) (w : Waiting z st) (away : ¬ 
   -- all tables, with those new that a turn changes
   abbrev after : List ℕ → List Frame → Pool → List ℕ → List ℕ → List ℕ → List ℕ → List ℕ → List ℕ → List ℕ → List ℕ → State
   after line fs pool ws fq rl ads ss os fm us =
-      stateIn line fs pool (disk .records) (disk .numbers) (disk .accounts) (disk .maps) (disk .limits) (disk .parents) (disk .highest) ws fq rl ads ss os fm (slots .active) (slots .updating) (slots .images) us
+      stateIn (st .memory .chip) line fs pool (disk .records) (disk .numbers) (disk .accounts) (disk .maps) (disk .limits) (disk .parents) (disk .highest) ws fq rl ads ss os fm (slots .active) (slots .updating) (slots .images) us
 
   module _ {fs : List Frame} (pool : Pool) {ws fq rl ads ss os fm : List ℕ} {a : Answer} (l : FaultLeft z sees (slotOf z i) (i % z .pages) fs pool ws fq rl ads ss os fm)
       (e : a ≡ own z sees (Event.Page (Fault (slotOf z i) (i % z .pages))) .answer) where
@@ -60,6 +61,9 @@ module _ (z : Sizes) (st : State) (k : Kept z st) (w : Waiting z st) (away : ¬ 
     pub brought : ¬ (a .refusal ≡ 20) → {line : List ℕ} → line ≡ if (eqb (a .refusal) 0) (st .memory .line) (pop (st .memory .line))
         → leaves (record { refusal = 0; result = a .refusal }) (after line fs pool ws fq rl ads ss os fm (st .memory .used)) ≡ own z st (Event.Waiting Turn)
     brought h {line} q = settled-own z st w away faulted h refl line q
+
+    pub brought-nulls : ¬ (a .refusal ≡ 20) → 0 ≡ nulledBy z st (Event.Waiting Turn)
+    brought-nulls h = settled-nulls z st w away faulted h
 
     -- no frame is free: all is as it was, and the claim's outcome is the turn's
     module _ (h : a .refusal ≡ 20) where
@@ -78,3 +82,6 @@ module _ (z : Sizes) (st : State) (k : Kept z st) (w : Waiting z st) (away : ¬ 
       pub brought-by-claim : {gs : List Frame} {b : Answer} {fq′ rl′ ss′ us′ : List ℕ} → Said z (seenClaim fs (disk .accounts) (disk .limits) (disk .parents) ws fq rl ads ss (st .memory .used)) gs b fq′ rl′ ss′ us′
           → leaves (record { refusal = b .refusal; result = 0 }) (after (st .memory .line) gs (held .pool) ws fq′ rl′ ads ss′ os fm us′) ≡ own z st (Event.Waiting Turn)
       brought-by-claim d = claimed-own z st w away faulted h _ (claim-own z again kept-again d ∙ ap (λ (x : State). own z x claim) same)
+
+      pub brought-nulls-by-claim : {n : ℕ} → n ≡ nulledBy z (seenClaim fs (disk .accounts) (disk .limits) (disk .parents) ws fq rl ads ss (st .memory .used)) claim → n ≡ nulledBy z st (Event.Waiting Turn)
+      brought-nulls-by-claim e = claimed-nulls z st w away faulted h (claim-nulls z again kept-again e ∙ ap (λ (x : State). nulledBy z x claim) same)

@@ -27,6 +27,7 @@ use Rattle.model.specs.Laws.LineLaws.{faultNumber, Waiting, InFrame}
 use Rattle.model.specs.Step.{Outcome, outcome, carried, result}
 use Rattle.model.specs.Laws.Own.{own, leaves, refusal, completed}
 use Rattle.model.specs.Laws.OwnLaws.{done, own-no, own-yes}
+use Rattle.model.specs.Laws.Nulled.{turnNulls, nulledBy}
 use Rattle.leaves.specs.FrameLaws.{frameIn, isStill}
 use Rattle.pages.specs.Asks.{ofFrame}
 use Rattle.pages.specs.Needs.{Seats}
@@ -50,6 +51,10 @@ module _ (z : Sizes) (st : State) where
   unfolding own carried result turn turnResult
   by-turning t e = ap (λ (u : Turning). outcome (firstNo (turnQuestions z st u)) (treated u) st (turned z st u)) e
 
+  nulls-turning : (t : Turning) → t ≡ turning z st → turnNulls z st t ≡ nulledBy z st turns
+  unfolding nulledBy
+  nulls-turning t e = ap (turnNulls z st) e
+
   -- nobody waits
   is-nobody : size line ≡ 0 → nobody ≡ turning z st
   unfolding turning
@@ -58,6 +63,9 @@ module _ (z : Sizes) (st : State) where
   pub nobody-own : size line ≡ 0 → completed 0 st ≡ own z st turns
   unfolding firstNo
   nobody-own e = by-turning nobody (is-nobody e)
+
+  pub nobody-nulls : size line ≡ 0 → 0 ≡ nulledBy z st turns
+  nobody-nulls e = nulls-turning nobody (is-nobody e)
 
   module _ (w : Waiting z st) where
     -- its page is in a frame
@@ -69,6 +77,13 @@ module _ (z : Sizes) (st : State) where
     unfolding firstNo
     met-own i true e = by-turning serves (ap (λ (b : Bool). if b serves goesBack) e ∙ is-met i)
     met-own i false e = by-turning goesBack (ap (λ (b : Bool). if b serves goesBack) e ∙ is-met i)
+
+    none-met : (b : Bool) → 0 ≡ turnNulls z st (if b serves goesBack)
+    none-met true = refl
+    none-met false = refl
+
+    pub met-nulls : InFrame z st → 0 ≡ nulledBy z st turns
+    met-nulls i = none-met (test (still z st (nextPage z st))) ∙ nulls-turning _ (is-met i)
 
     -- it is in none
     module _ (i : ¬ InFrame z st) where
@@ -113,6 +128,16 @@ module _ (z : Sizes) (st : State) where
         pub claimed-own : a .refusal ≡ 20 → (o : Outcome State) → o ≡ own z st (Event.Writeback Claim) → leaves (record { refusal = o .answer .refusal; result = 0 }) (o .left) ≡ own z st turns
         unfolding own carried
         claimed-own h o q = no-result (firstNo (questions z st (Event.Writeback Claim))) (result z st (Event.Writeback Claim)) st (carried z st (Event.Writeback Claim)) o q ∙ by-turning claims (is-claiming (sym answered ∙ h))
+
+        pub claimed-nulls : a .refusal ≡ 20 → {n : ℕ} → n ≡ nulledBy z st (Event.Writeback Claim) → n ≡ nulledBy z st turns
+        unfolding nulledBy
+        claimed-nulls h q = q ∙ nulls-turning claims (is-claiming (sym answered ∙ h))
+
+        pub settled-nulls : ¬ (a .refusal ≡ 20) → 0 ≡ nulledBy z st turns
+        settled-nulls h = elim (ℕ-discrete n 0) [
+          | yes y ↦ nulls-turning faults (is-faulting y)
+          | no y ↦ nulls-turning (sendsAway n) (is-away y (λ x. h (answered ∙ x)))
+        ]
 
         -- accepted, or sent away: l is the line then
         pub settled-own : ¬ (a .refusal ≡ 20) → t .memory .line ≡ line → (l : List ℕ) → l ≡ if (eqb (a .refusal) 0) line (pop line) → leaves (record { refusal = 0; result = a .refusal }) (setLine l t) ≡ own z st turns

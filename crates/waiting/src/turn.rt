@@ -9,8 +9,9 @@ ghost use Rattle.tables.specs.Rule.{Holds};
 ghost use Rattle.model.specs.declared.event.Event.the-variants as Event;
 ghost use Rattle.model.specs.declared.event.Waiting.the-variants as Waiting;
 ghost use Rattle.model.specs.State.{NONE};
-ghost use Rattle.model.specs.Lent.{allGiven, allEntered, allLeft};
+ghost use Rattle.model.specs.Lent.{linedGiven, linedEntered, linedLeft};
 ghost use Rattle.model.specs.Laws.Own.{own, leaves};
+ghost use Rattle.model.specs.Laws.Nulled.{nulledBy};
 ghost use Rattle.model.specs.Pool.{taken, deposited};
 ghost use Rattle.leaves.specs.FrameLaws.{frameIn};
 ghost use Rattle.leaves.specs.Packed.{unpacked, framesGiven, framesEntered, framesLeft};
@@ -29,6 +30,7 @@ use model::frame::Pool;
 use model::refusals::NO_FRAME;
 use model::sizes::Sizes;
 use pages::fault::fault;
+use writeback::claim::ClaimDone;
 use writeback::claim::claim;
 
 // The first request's page is in this frame. In service: the request is served and leaves, result 1. In transfer: it goes to the back.
@@ -48,7 +50,7 @@ fn meet(frame: Frame, line: &mut [u16]) -> u32
 // Whatever the fault said but 20: accepted, the request stays first; any number sends it away and is the result.
 fn settle(done: Worked, waiting: &mut [u16]) -> Worked
     requires { ⌜ ((m : ℕ) × Holds (queueOf (length (now waiting)) m (now waiting))) ⌝ }
-    ensures done { λ r. ⌜ r ≡ record { taken = done .taken; deposited = done .deposited; answer = record { refusal = 0; result = done .answer .refusal } } ⌝ }
+    ensures done { λ r. ⌜ r ≡ record { taken = done .taken; deposited = done .deposited; nulled = done .nulled; answer = record { refusal = 0; result = done .answer .refusal } } ⌝ }
     ensures waiting { λ r. ⌜ now (waiting .exit) ≡ if (eqb (done .answer .refusal) 0) (now (waiting .entry)) (pop (now (waiting .entry))) ⌝ }
 {
     let answer = done.answer;
@@ -59,6 +61,7 @@ fn settle(done: Worked, waiting: &mut [u16]) -> Worked
     Worked {
         taken: done.taken,
         deposited: done.deposited,
+        nulled: done.nulled,
         answer: Answer {
             refusal: 0,
             result: no,
@@ -67,12 +70,15 @@ fn settle(done: Worked, waiting: &mut [u16]) -> Worked
 }
 
 // A refused claim refuses the turn; the looks of another are not handed on.
-fn claimed(answer: Answer) -> Worked
-    ensures { λ r. ⌜ r ≡ record { taken = 0; deposited = 0; answer = record { refusal = answer .refusal; result = 0 } } ⌝ }
+fn claimed(done: ClaimDone) -> Worked
+    ensures { λ r. ⌜ r ≡ record { taken = 0; deposited = 0; nulled = done .nulled; answer = record { refusal = done .answer .refusal; result = 0 } } ⌝ }
 {
+    let nulled = done.nulled;
+    let answer = done.answer;
     Worked {
         taken: 0,
         deposited: 0,
+        nulled,
         answer: Answer {
             refusal: answer.refusal,
             result: 0,
@@ -82,11 +88,12 @@ fn claimed(answer: Answer) -> Worked
 
 // A turn that leaves the pool as it was.
 fn told(result: u32) -> Worked
-    ensures { λ r. ⌜ r ≡ record { taken = 0; deposited = 0; answer = record { refusal = 0; result = result } } ⌝ }
+    ensures { λ r. ⌜ r ≡ record { taken = 0; deposited = 0; nulled = 0; answer = record { refusal = 0; result = result } } ⌝ }
 {
     Worked {
         taken: 0,
         deposited: 0,
+        nulled: 0,
         answer: Answer { refusal: 0, result },
     }
 }
@@ -118,14 +125,18 @@ fn fetch(
     used: &mut [u16],
 ) -> Worked
     requires { ⌜ Kept sizes
-        (allGiven (framesGiven sizes frames) pool records numbers accounts maps limits parents highest
+        (linedGiven (framesGiven sizes frames) pool records numbers accounts maps limits parents highest
         «frame_words» «free_queue» «removal_list» addresses states owners «free_map» active updating images line used)
         × (0 < size (now line)) × (i ≡ first (now line)) × ¬ (frameIn (sizes .frames) (unpacked (now frames)) i < sizes .frames) ⌝ }
-    ensures { λ r. ⌜ leaves (r .answer)
-        (allLeft (framesLeft sizes frames) (deposited (r .deposited) (taken sizes (r .taken) pool)) records numbers accounts maps limits parents highest
+    ensures left { λ r. ⌜ leaves (r .answer)
+        (linedLeft (framesLeft sizes frames) (deposited (r .deposited) (taken sizes (r .taken) pool)) records numbers accounts maps limits parents highest
         «frame_words» «free_queue» «removal_list» addresses states owners «free_map» active updating images line used)
         ≡ own sizes
-        (allEntered (framesEntered sizes frames) pool records numbers accounts maps limits parents highest
+        (linedEntered (framesEntered sizes frames) pool records numbers accounts maps limits parents highest
+        «frame_words» «free_queue» «removal_list» addresses states owners «free_map» active updating images line used)
+        (Event.Waiting Waiting.Turn) ⌝ }
+    ensures nulled { λ r. ⌜ r .nulled ≡ nulledBy sizes
+        (linedEntered (framesEntered sizes frames) pool records numbers accounts maps limits parents highest
         «frame_words» «free_queue» «removal_list» addresses states owners «free_map» active updating images line used)
         (Event.Waiting Waiting.Turn) ⌝ }
 {
@@ -190,13 +201,17 @@ pub fn turn(
     used: &mut [u16],
 ) -> Worked
     requires { ⌜ Kept sizes
-        (allGiven (framesGiven sizes frames) pool records numbers accounts maps limits parents highest
+        (linedGiven (framesGiven sizes frames) pool records numbers accounts maps limits parents highest
         «frame_words» «free_queue» «removal_list» addresses states owners «free_map» active updating images line used) ⌝ }
-    ensures { λ r. ⌜ leaves (r .answer)
-        (allLeft (framesLeft sizes frames) (deposited (r .deposited) (taken sizes (r .taken) pool)) records numbers accounts maps limits parents highest
+    ensures left { λ r. ⌜ leaves (r .answer)
+        (linedLeft (framesLeft sizes frames) (deposited (r .deposited) (taken sizes (r .taken) pool)) records numbers accounts maps limits parents highest
         «frame_words» «free_queue» «removal_list» addresses states owners «free_map» active updating images line used)
         ≡ own sizes
-        (allEntered (framesEntered sizes frames) pool records numbers accounts maps limits parents highest
+        (linedEntered (framesEntered sizes frames) pool records numbers accounts maps limits parents highest
+        «frame_words» «free_queue» «removal_list» addresses states owners «free_map» active updating images line used)
+        (Event.Waiting Waiting.Turn) ⌝ }
+    ensures nulled { λ r. ⌜ r .nulled ≡ nulledBy sizes
+        (linedEntered (framesEntered sizes frames) pool records numbers accounts maps limits parents highest
         «frame_words» «free_queue» «removal_list» addresses states owners «free_map» active updating images line used)
         (Event.Waiting Waiting.Turn) ⌝ }
 {

@@ -86,7 +86,7 @@ module _ (z : Sizes) (fs : List Frame) (ac ls ps ws fq rl ads ss us : List ℕ) 
     some : 0 < size rl
     some = size-more rl 0 (omega arith) (λ h. d (a ∙ h))
 
-    says : firstNo (questions z st claim) ≡ 0
+    pub says : firstNo (questions z st claim) ≡ 0
     says = yes-all (questions z st claim) (some, tt)
 
     module _ (ready : Queues (z .frames) fq rl × Claimable z (take (z .frames) fs) ac ls ps ws fq rl ads ss us) {kept : List Frame} {looks f : ℕ} {list : List ℕ} {g : Frame}
@@ -95,7 +95,7 @@ module _ (z : Sizes) (fs : List Frame) (ac ls ps ws fq rl ads ss us : List ℕ) 
       unfolding looking
       looked-is = ap (λ (n : ℕ). look (suc n) 0 (take (z .frames) fs) (members rl)) (sym (size-members rl)) ∙ look-take (z .frames) (suc (size rl)) 0 fs (members rl) (members-within rl (ready .0 .list-long) (ready .0 .list-packed))
 
-      taken-is : looking z st .taken ≡ f
+      pub taken-is : looking z st .taken ≡ f
       taken-is = ap (λ (l : Looked). l .taken) looked-is ∙ sym (t .the-taken) ∙ sym here
 
       frames-are : looking z st .frames ≡ take (z .frames) kept
@@ -123,17 +123,17 @@ module _ (z : Sizes) (fs : List Frame) (ac ls ps ws fq rl ads ss us : List ℕ) 
       same-page : frameAt (take (z .frames) fs) f .page ≡ g .page
       same-page = ap (λ (x : Frame). x .page) same-frame ∙ sym (alike .0) ∙ ap (λ (x : Frame). x .page) (sym seen)
 
-      same-modified : frameAt (take (z .frames) fs) f .modified ≡ g .modified
+      pub same-modified : frameAt (take (z .frames) fs) f .modified ≡ g .modified
       same-modified = ap (λ (x : Frame). x .modified) same-frame ∙ sym (alike .1) ∙ ap (λ (x : Frame). x .modified) (sym seen)
 
-      held : Listed z (g .page) (g .modified) ac ls ps fq ads ss us
+      pub held : Listed z (g .page) (g .modified) ac ls ps fq ads ss us
       held = rw (← same-page, ← same-modified) (ready .1 .listed f below in-list)
 
       module _ {r : ℕ} (found : r ≡ pred (at ads (pred (g .page)))) where
         item-is : r ≡ held .item
         item-is = found ∙ ap pred (held .holds)
 
-        record-is : recordIn z st (looking z st .taken) ≡ r
+        pub record-is : recordIn z st (looking z st .taken) ≡ r
         record-is = rw (taken-is, same-page) (sym found)
 
       pub taken : Taken z g ac ls ps ws fq ads ss us f
@@ -146,7 +146,7 @@ module _ (z : Sizes) (fs : List Frame) (ac ls ps ws fq rl ads ss us : List ℕ) 
 
       -- ── a write begins, or not ──
       module _ {b : Bool} (w : b ≡ if (eqb (g .modified) 1) (not (all (z .words) (λ k. eqb (at ws (f * z .words + k)) 0))) false) where
-        begins : beginsWrite z st ≡ b
+        pub begins : beginsWrite z st ≡ b
         unfolding beginsWrite zeros
         begins = rw (taken-is, same-modified) (sym w)
 

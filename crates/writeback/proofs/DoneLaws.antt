@@ -190,7 +190,7 @@ module _ (z : Sizes) (st : State) (fit : Fit z st) (ruled : Ruled z st) (f good 
 
   -- what page done leaves
   abbrev Left : State → Type 0
-  Left x = x ≡ stateIn (st .memory .line) (x .memory .core .frames) (st .memory .held .pool) (x .disk .records) (st .disk .numbers) (st .disk .accounts) (st .disk .maps) (st .disk .limits) (st .disk .parents) (st .disk .highest)
+  Left x = x ≡ stateIn (st .memory .chip) (st .memory .line) (x .memory .core .frames) (st .memory .held .pool) (x .disk .records) (st .disk .numbers) (st .disk .accounts) (st .disk .maps) (st .disk .limits) (st .disk .parents) (st .disk .highest)
       (x .memory .core .words) (x .memory .core .free-queue) (x .memory .core .removal-list) (st .memory .held .addresses) (x .memory .held .states) (st .memory .held .owners) (st .memory .held .free-map)
       (st .memory .slots .active) (st .memory .slots .updating) (st .memory .slots .images) (st .memory .used)
 

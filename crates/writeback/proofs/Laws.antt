@@ -60,7 +60,7 @@ module _ (z : Sizes) (st : State) (fit : Fit z st) (ruled : Ruled z st) where
       | no e ↦ rw (ne-eqb good 1 e) (used-kept z st fit (ruled .counts) _ (λ t. refl) (pages-alike RELEASED (λ q. omega arith) _ (λ i. refl) (λ t. refl) (λ r. refl) (λ i h d. refl)))
     ]
 
-    pub map-done-left : done ≡ stateIn (st .memory .line) (st .memory .core .frames) (done .memory .held .pool) (st .disk .records) (st .disk .numbers) (st .disk .accounts) (done .disk .maps) (st .disk .limits) (st .disk .parents) (st .disk .highest)
+    pub map-done-left : done ≡ stateIn (st .memory .chip) (st .memory .line) (st .memory .core .frames) (done .memory .held .pool) (st .disk .records) (st .disk .numbers) (st .disk .accounts) (done .disk .maps) (st .disk .limits) (st .disk .parents) (st .disk .highest)
         (st .memory .core .words) (st .memory .core .free-queue) (st .memory .core .removal-list) (st .memory .held .addresses) (done .memory .held .states) (done .memory .held .owners) (done .memory .held .free-map)
         (st .memory .slots .active) (done .memory .slots .updating) (done .memory .slots .images) (st .memory .used)
     unfolding carried Writeback.mapDone Writeback.storeImage Writeback.updateOver counted
@@ -117,7 +117,7 @@ module _ (z : Sizes) (st : State) (fit : Fit z st) (ruled : Ruled z st) where
         (λ k. elim k [ inl l ↦ inl (live-was i h l) | inr f ↦ inr f ]))
         (λ n. refl))
 
-    pub update-left : updated ≡ stateIn (st .memory .line) (st .memory .core .frames) (st .memory .held .pool) (st .disk .records) (st .disk .numbers) (st .disk .accounts) (st .disk .maps) (st .disk .limits) (st .disk .parents) (st .disk .highest)
+    pub update-left : updated ≡ stateIn (st .memory .chip) (st .memory .line) (st .memory .core .frames) (st .memory .held .pool) (st .disk .records) (st .disk .numbers) (st .disk .accounts) (st .disk .maps) (st .disk .limits) (st .disk .parents) (st .disk .highest)
         (st .memory .core .words) (st .memory .core .free-queue) (st .memory .core .removal-list) (updated .memory .held .addresses) (updated .memory .held .states) (st .memory .held .owners) (st .memory .held .free-map)
         (st .memory .slots .active) (updated .memory .slots .updating) (updated .memory .slots .images) (st .memory .used)
     unfolding carried Writeback.update counted

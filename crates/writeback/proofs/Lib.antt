@@ -2,6 +2,7 @@
 pub mod ByPage
 pub mod ClaimLaws
 pub mod ClaimWork
+pub mod ClaimNulls
 pub mod Cut
 pub mod CutFrames
 pub mod CutPages

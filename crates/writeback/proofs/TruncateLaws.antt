@@ -282,7 +282,7 @@ module _ (z : Sizes) (st : State) (fit : Fit z st) (ruled : Ruled z st) where
     used-then = ap (λ (u : List ℕ). set u q (at u q - count (z .pages) (cutCharge s k inside))) (used-is z st fit (ruled .counts))
         ∙ set-tab (z .accounts) (usedOf z v c) (usedOf z v' c') q _ (omega (arith, at-tab0 (z .accounts) (usedOf z v c) q 0 payer-below, used-split, taken-count)) (λ a h d. other-used a d)
 
-    pub truncate-left : cut ≡ stateIn (st .memory .line) (cut .memory .core .frames) (st .memory .held .pool) (st .disk .records) (st .disk .numbers) (st .disk .accounts) (st .disk .maps) (st .disk .limits) (st .disk .parents) (st .disk .highest)
+    pub truncate-left : cut ≡ stateIn (st .memory .chip) (st .memory .line) (cut .memory .core .frames) (st .memory .held .pool) (st .disk .records) (st .disk .numbers) (st .disk .accounts) (st .disk .maps) (st .disk .limits) (st .disk .parents) (st .disk .highest)
         (st .memory .core .words) (cut .memory .core .free-queue) (cut .memory .core .removal-list) (cut .memory .held .addresses) (cut .memory .held .states) (st .memory .held .owners) (st .memory .held .free-map)
         (st .memory .slots .active) (st .memory .slots .updating) (st .memory .slots .images) (usedThen z st s k)
     unfolding carried Writeback.truncate counted

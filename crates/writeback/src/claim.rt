@@ -2,7 +2,7 @@
 ghost use mathlib.Core.Path.{_≡_};
 ghost use mathlib.Core.Bool.{false, not};
 ghost use mathlib.Core.Logic.{_⊎_};
-ghost use Prim.Native.Nat.{_+_, _-_, _*_, _<_, _≤_};
+ghost use Prim.Native.Nat.{_+_, _-_, _*_, _<_, _≤_, pred};
 ghost use lib.Dec.{eqb};
 ghost use lib.ListN.{length, set};
 ghost use Rattle.tables.specs.Base.{at, all, if};
@@ -11,12 +11,14 @@ ghost use Rattle.leaves.specs.Payers.{whoPays};
 ghost use Rattle.model.specs.Lines.{NULLED, LIVE};
 ghost use Rattle.model.specs.Writeback.{warm};
 ghost use Rattle.model.specs.Laws.Own.{own};
+ghost use Rattle.model.specs.Laws.Nulled.{nulledBy};
 ghost use Rattle.writeback.specs.Claim.{usedLeft, LooksGiven, LooksLeft};
 ghost use Rattle.writeback.specs.Needs.{Queues, Claimable};
 ghost use Rattle.writeback.specs.Seen.{claim, enteredClaim};
 use crate::charges::uncharge;
 use crate::names::named;
 use crate::names::record_of;
+use crate::names::wide;
 use crate::switches::cool;
 use crate::switches::writing;
 use leaves::cells::at8;
@@ -36,6 +38,22 @@ use model::lines::LIVE;
 use model::lines::NULLED;
 use model::refusals::NOTHING_TO_CLAIM;
 use model::sizes::Sizes;
+
+// What a claim hands back. nulled: the record of the modified page of zeros that it took + 1, or 0 for none.
+pub struct ClaimDone {
+    pub nulled: u32,
+    pub answer: Answer,
+}
+
+// The three numbers, put together.
+fn claim_done(nulled: u32, refusal: u32, result: u32) -> ClaimDone
+    ensures { λ r. ⌜ r ≡ record { nulled = nulled; answer = record { refusal = refusal; result = result } } ⌝ }
+{
+    ClaimDone {
+        nulled,
+        answer: Answer { refusal, result },
+    }
+}
 
 // Whether initial or used is on.
 fn is_warm(frame: Frame) -> bool
@@ -88,6 +106,16 @@ fn make_nulled(states: &mut [u8], r: usize, modified: u8)
     }
 }
 
+// The entry of the page's record where the frame was modified, or 0.
+fn entry_nulled(addresses: &[u16], page: u16, modified: u8) -> u32
+    ensures { λ r. ⌜ r ≡ if (eqb modified 1) (at (now (addresses .entry)) (pred page)) 0 ⌝ }
+{
+    if modified == 1 {
+        return wide(at16(addresses, named(page)));
+    }
+    0
+}
+
 // One charge less for who pays for the slot where the frame was modified.
 fn uncharge_modified(
     used: &mut [u16],
@@ -117,10 +145,11 @@ pub fn claim(
     addresses: &[u16],
     states: &mut [u8],
     used: &mut [u16],
-) -> Answer
+) -> ClaimDone
     requires { ⌜ Queues (sizes .frames) (now «free_queue») (now «removal_list»)
         × Claimable sizes (framesGiven sizes frames) (now accounts) (now limits) (now parents) (now words) (now «free_queue») (now «removal_list») (now addresses) (now states) (now used) ⌝ }
-    ensures answer { λ r. ⌜ r ≡ own sizes (enteredClaim (framesEntered sizes frames) accounts limits parents words «free_queue» «removal_list» addresses states used) claim .answer ⌝ }
+    ensures nulled { λ r. ⌜ r .nulled ≡ nulledBy sizes (enteredClaim (framesEntered sizes frames) accounts limits parents words «free_queue» «removal_list» addresses states used) claim ⌝ }
+    ensures answer { λ r. ⌜ r .answer ≡ own sizes (enteredClaim (framesEntered sizes frames) accounts limits parents words «free_queue» «removal_list» addresses states used) claim .answer ⌝ }
     ensures frames { λ r. ⌜ framesLeft sizes frames ≡ own sizes (enteredClaim (framesEntered sizes frames) accounts limits parents words «free_queue» «removal_list» addresses states used) claim .left .memory .core .frames ⌝ }
     ensures free_queue { λ r. ⌜ now («free_queue» .exit) ≡ own sizes (enteredClaim (framesEntered sizes frames) accounts limits parents words «free_queue» «removal_list» addresses states used) claim .left .memory .core .free-queue ⌝ }
     ensures removal_list { λ r. ⌜ now («removal_list» .exit) ≡ own sizes (enteredClaim (framesEntered sizes frames) accounts limits parents words «free_queue» «removal_list» addresses states used) claim .left .memory .core .removal-list ⌝ }
@@ -128,10 +157,7 @@ pub fn claim(
     ensures used { λ r. ⌜ now (used .exit) ≡ usedLeft sizes (enteredClaim (framesEntered sizes frames) accounts limits parents words «free_queue» «removal_list» addresses states used) ⌝ }
 {
     if at16(removal_list, 0) == 0 {
-        return Answer {
-            refusal: NOTHING_TO_CLAIM,
-            result: 0,
-        };
+        return claim_done(0, NOTHING_TO_CLAIM, 0);
     }
     let looks = turn(frames, removal_list);
     let f = first(removal_list);
@@ -139,12 +165,10 @@ pub fn claim(
     let old = frame_at(frames, f);
     if begins(sizes.words, old.modified, words, f) {
         put_frame(frames, f, writing(old));
-        return Answer {
-            refusal: 0,
-            result: looks,
-        };
+        return claim_done(0, 0, looks);
     }
     let r = record_of(addresses, old.page);
+    let nulled = entry_nulled(addresses, old.page, old.modified);
     make_nulled(states, r, old.modified);
     uncharge_modified(
         used,
@@ -156,8 +180,5 @@ pub fn claim(
     );
     push_back(free_queue, f);
     put_frame(frames, f, no_frame());
-    Answer {
-        refusal: 0,
-        result: looks,
-    }
+    claim_done(nulled, 0, looks)
 }

@@ -14,6 +14,13 @@ pub fn named(entry: u16) -> usize
     entry as usize - 1
 }
 
+// An entry as a number of 32 bits.
+pub fn wide(entry: u16) -> u32
+    ensures { λ r. ⌜ r ≡ entry ⌝ }
+{
+    entry as u32
+}
+
 // The record of the page that an entry names.
 pub fn record_of(addresses: &[u16], page: u16) -> usize
     ensures { λ r. ⌜ r ≡ pred (at (now (addresses .entry)) (pred page)) ⌝ }

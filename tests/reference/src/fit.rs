@@ -26,6 +26,9 @@ pub fn memory_fits(sizes: &Sizes, memory: &Memory) -> bool {
         && memory.active.len() == sizes.slots
         && memory.updating.len() == sizes.slots
         && memory.images.len() == sizes.all_pages()
+        && memory.chip_words.len() == sizes.chip * sizes.words
+        && memory.chip_records.len() == sizes.chip
+        && memory.chip_next.len() == 1
         && memory.line.len() == LINE
         && memory.used.len() == sizes.accounts
 }

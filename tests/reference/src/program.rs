@@ -5,7 +5,7 @@ use crate::keeper::Keeper;
 use crate::tables::{Memory, Sizes};
 use std::fmt::Write;
 
-pub const SIZES: Sizes = Sizes { words: 2, records: 4, frames: 2, slots: 2, pages: 3, accounts: 1 };
+pub const SIZES: Sizes = Sizes { words: 2, records: 4, frames: 2, slots: 2, pages: 3, accounts: 1, chip: 2 };
 
 pub const CUT: u32 = 0x10;
 
@@ -51,6 +51,9 @@ fn cut(keeper: &mut Keeper) -> Answer {
     keeper.memory.frame_words.fill(0xDEAD_BEEF);
     keeper.memory.addresses.fill(0xFFFF);
     keeper.memory.states.fill(0xFF);
+    keeper.memory.chip_words.fill(0xDEAD_BEEF);
+    keeper.memory.chip_records.fill(0xFFFF);
+    keeper.memory.chip_next.fill(0xFFFF);
     keeper.memory.line.fill(0xFFFF);
     keeper.restart()
 }

@@ -9,11 +9,12 @@ pub struct Sizes {
     pub slots: usize,
     pub pages: usize,
     pub accounts: usize,
+    pub chip: usize,
 }
 
 impl Sizes {
     pub const MOST: Sizes =
-        Sizes { words: 1024, records: 4096, frames: 64, slots: 64, pages: 256, accounts: 16 };
+        Sizes { words: 1024, records: 4096, frames: 64, slots: 64, pages: 256, accounts: 16, chip: 256 };
 
     pub fn within(&self) -> bool {
         let limit = |n, most| 1 <= n && n <= most;
@@ -23,6 +24,7 @@ impl Sizes {
             && limit(self.slots, Sizes::MOST.slots)
             && limit(self.pages, Sizes::MOST.pages)
             && limit(self.accounts, Sizes::MOST.accounts)
+            && limit(self.chip, Sizes::MOST.chip)
     }
 
     /// Pages of all slots; page p of slot s has the flat number `s * pages + p`.
@@ -83,7 +85,8 @@ pub struct Disk {
     pub highest: Vec<u32>,
 }
 
-/// Queues hold frame + 1, packed at the front; addresses and images hold record + 1, or 0; the line holds flat page numbers + 1.
+/// Queues hold frame + 1, packed at the front; addresses, images and the chip's places hold record + 1, or 0; the line holds flat page
+/// numbers + 1.
 #[derive(Clone, Debug, Default, PartialEq, Eq)]
 pub struct Memory {
     pub frames: Vec<Frame>,
@@ -97,6 +100,10 @@ pub struct Memory {
     pub active: Vec<u8>,
     pub updating: Vec<u8>,
     pub images: Vec<u16>,
+    pub chip_words: Vec<u32>,
+    pub chip_records: Vec<u16>,
+    /// One number: the place that is filled next.
+    pub chip_next: Vec<u16>,
     pub line: Vec<u16>,
     pub used: Vec<u16>,
     pub pool: Pool,
@@ -132,6 +139,9 @@ impl Memory {
             active: vec![0; sizes.slots],
             updating: vec![0; sizes.slots],
             images: vec![0; sizes.all_pages()],
+            chip_words: vec![0; sizes.chip * sizes.words],
+            chip_records: vec![0; sizes.chip],
+            chip_next: vec![0],
             line: vec![0; LINE],
             used: vec![0; sizes.accounts],
             pool: Pool::default(),

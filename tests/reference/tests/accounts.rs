@@ -7,7 +7,7 @@ use reference::linked::c_port::{Lent, C_PORT};
 use reference::mend::{self, Change};
 use reference::tables::Sizes;
 
-const SIZES: Sizes = Sizes { words: 1, records: 6, frames: 4, slots: 3, pages: 3, accounts: 4 };
+const SIZES: Sizes = Sizes { words: 1, records: 6, frames: 4, slots: 3, pages: 3, accounts: 4, chip: 2 };
 /// Each account under the one before it; and a mill, account 1, with two studios.
 const CHAIN: [u16; 4] = [0, 0, 1, 2];
 const STUDIOS: [u16; 4] = [0, 0, 1, 1];

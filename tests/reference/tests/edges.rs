@@ -2,7 +2,7 @@
 
 mod common;
 
-use common::{ask, does, fresh, refuses, with_design_of};
+use common::{ask, copies_go, does, fresh, refuses, with_design_of};
 use reference::event::Answer;
 use reference::keeper::Keeper;
 use reference::program::SIZES;
@@ -31,6 +31,7 @@ fn zeros_claimed(limit: u32) -> Keeper {
     let mut keeper = with_design(limit);
     store(&mut keeper, 0, 0, 9);
     update(&mut keeper, 0);
+    copies_go(&mut keeper, 0);
     does(&mut keeper, 0x05, &[0, 0]);
     does(&mut keeper, 0x0D, &[1, 1]);
     does(&mut keeper, 0x07, &[0, 0, 0, 0]);
@@ -235,6 +236,8 @@ fn read_while_written() {
 fn none_while_read() {
     let mut keeper = with_design(2);
     store(&mut keeper, 0, 0, 9);
+    update(&mut keeper, 0);
+    copies_go(&mut keeper, 0);
     does(&mut keeper, 0x05, &[0, 0]);
     for kind in [0x05, 0x06, 0x07, 0x09, 0x0A, 0x0B] {
         refuses(&mut keeper, kind, &[0, 0, 0, 0], 14);

@@ -19,7 +19,7 @@ use reference::sheet::Sheet;
 use reference::tables::Sizes;
 use std::collections::BTreeMap;
 
-const BOARD: Sizes = Sizes { words: 2, records: 8, frames: 2, slots: 3, pages: 3, accounts: 2 };
+const BOARD: Sizes = Sizes { words: 2, records: 8, frames: 2, slots: 3, pages: 3, accounts: 2, chip: 2 };
 const BOARDS: u64 = 2_000;
 
 /// Slot 0 has a design with such a number, of two pages; account 0 has a limit.

@@ -10,7 +10,7 @@ use reference::questions::HIGH;
 use reference::sheet::Sheet;
 use reference::tables::{Sizes, FILED, FREE};
 
-const BOARD: Sizes = Sizes { words: 2, records: 8, frames: 2, slots: 3, pages: 4, accounts: 3 };
+const BOARD: Sizes = Sizes { words: 2, records: 8, frames: 2, slots: 3, pages: 4, accounts: 3, chip: 2 };
 
 /// A board with limits 6, 0 and 2; account 2's parent is 1, and 1's is 0.
 fn start() -> Keeper {

@@ -2,11 +2,11 @@
 
 mod common;
 
-use common::{ask, does, refuses, with_design_of};
+use common::{ask, copies_go, does, refuses, with_design_of};
 use reference::event::Answer;
 use reference::keeper::Keeper;
 use reference::program::SIZES;
-use reference::tables::{Sizes, LINE, READING, WRITING};
+use reference::tables::{Sizes, LINE, NO_TRANSFER, READING, WRITING};
 
 const NARROW: Sizes = Sizes { frames: 1, ..SIZES };
 
@@ -84,6 +84,9 @@ fn to_the_back_in_transfer() {
     join(&mut keeper, 0, 1);
     assert_eq!((turn(&mut keeper), waiting(&keeper)), (0, vec![1, 0]));
     does(&mut keeper, 13, &[0, 1]);
+    does(&mut keeper, 12, &[0]);
+    does(&mut keeper, 14, &[0, 1]);
+    copies_go(&mut keeper, 0);
     join(&mut keeper, 0, 2);
     let frame = does(&mut keeper, 5, &[0, 0]) as usize;
     assert_eq!(keeper.memory.frames[frame].transfer, READING);
@@ -91,7 +94,8 @@ fn to_the_back_in_transfer() {
     assert_eq!((turn(&mut keeper), waiting(&keeper)), (0, vec![2, 0]));
 }
 
-/// An accepted fault, and a claim that looks and frees, or begins a write: the request stays first, the result is 0.
+/// An accepted fault, also one that finds a copy, and a claim that looks and frees, or begins a write: the request stays first, the
+/// result is 0.
 #[test]
 fn stays_first() {
     let mut keeper = opened(NARROW);
@@ -104,7 +108,8 @@ fn stays_first() {
     assert_eq!((turn(&mut keeper), keeper.memory.frames[0].page), (0, 2));
     assert_eq!((turn(&mut keeper), waiting(&keeper)), (1, vec![0]));
     assert_eq!((turn(&mut keeper), keeper.memory.frames[0].page), (0, 0));
-    assert_eq!((turn(&mut keeper), keeper.memory.frames[0].transfer), (0, READING));
+    assert_eq!((turn(&mut keeper), keeper.memory.frames[0].page, keeper.memory.frames[0].transfer), (0, 1, NO_TRANSFER));
+    assert_eq!((turn(&mut keeper), waiting(&keeper)), (1, vec![]));
 }
 
 #[test]

@@ -85,7 +85,7 @@ fn mended_alike() {
 /// others stored.
 #[test]
 fn high_numbers_stay() {
-    let sizes = Sizes { words: 1, records: 4, frames: 1, slots: 4, pages: 2, accounts: 1 };
+    let sizes = Sizes { words: 1, records: 4, frames: 1, slots: 4, pages: 2, accounts: 1, chip: 1 };
     let mut disk = Disk { numbers: vec![HIGH, 7, u32::MAX, HIGH - 1], ..Disk::zeros(&sizes) };
     disk.maps.copy_from_slice(&[1, 0, 0, 2, 4, 3, 0, 0]);
     let room = places(&sizes);

@@ -17,7 +17,7 @@ use reference::sheet::Sheet;
 use reference::stores;
 use reference::tables::{Memory, Sizes};
 
-const BOARD: Sizes = Sizes { words: 2, records: 8, frames: 2, slots: 4, pages: 3, accounts: 2 };
+const BOARD: Sizes = Sizes { words: 2, records: 8, frames: 2, slots: 4, pages: 3, accounts: 2, chip: 2 };
 const BOARDS: u64 = 4_000;
 
 /// These numbers in the slots, and this highest; memory is not restarted.

@@ -37,5 +37,6 @@ fn lists_keep_the_promises() {
     assert!(!counts.bound.rare(), "runs to the bound on waiting: {:?}", counts.bound);
     assert_eq!(counts.high.rarer_than(20, &ON_HIGH), Vec::<&str>::new(), "numbers above the bound: {:?}", counts.high);
     assert!(!counts.numbers.rarer_than(20), "numbers given once: {:?}", counts.numbers);
+    assert!(!counts.chips.rarer_than(20), "the chip: {:?}", counts.chips);
     assert_eq!(counts.seldom_alone(), [], "rules that seldom stood alone");
 }

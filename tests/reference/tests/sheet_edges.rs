@@ -10,7 +10,7 @@ use reference::keeper::Keeper;
 use reference::sheet::Sheet;
 use reference::tables::Sizes;
 
-const BOARD: Sizes = Sizes { words: 2, records: 8, frames: 2, slots: 3, pages: 3, accounts: 3 };
+const BOARD: Sizes = Sizes { words: 2, records: 8, frames: 2, slots: 3, pages: 3, accounts: 3, chip: 2 };
 
 /// W 2 and N 3; number 7; page 0 with 9 and 0; page 2 with 0 and a word whose bytes are 1 to 4; the end.
 const HEAD: [u8; 7] = [3, 0, 4, 0, 2, 0, 3];

@@ -16,7 +16,7 @@ fn inputs() -> Vec<PathBuf> {
 #[test]
 fn every_vector() {
     let inputs = inputs();
-    assert!(inputs.len() >= 146, "only {} vectors", inputs.len());
+    assert!(inputs.len() >= 166, "only {} vectors", inputs.len());
     for path in &inputs {
         let found = reference::program::run(&fs::read(path).unwrap());
         let expected = fs::read_to_string(path.with_extension("out")).unwrap();

@@ -10,14 +10,14 @@ use Rattle.tables.specs.Turn.{learn}
 use Rattle.model.specs.declared.frame.Frame.{Frame}
 use Rattle.model.specs.State.{State}
 use Rattle.model.specs.Rules.{diskRules}
-use Rattle.model.specs.Lent.{stateOf, allOf}
+use Rattle.model.specs.Lent.{stateOf, allOf, chipOf}
 use Rattle.model.specs.Step.{allFit}
-use Rattle.model.specs.Laws.Fit.{sizes-fit, fit-disk}
+use Rattle.model.specs.Laws.Fit.{sizes-fit, fit-disk, chip-fits}
 use Rattle.model.specs.Calls.{framesOf, length-frames}
 use Rattle.restarts.specs.Restarts.{seen, ready}
 use Rattle.restarts.specs.Answers.{fit-told, disk-told, restarted-tables, restart-unfit, restart-unruled}
 use Rattle.calls.specs.Frames.{all-lent}
-use Rattle.calls.specs.Lined.{no-line-zeros}
+use Rattle.calls.specs.Lined.{no-line-zeros, no-copy-zeros}
 use Rattle.calls.specs.Restarting.{restarted-lent, restart-left}
 use Rattle.calls.proofs.restart_core.Statement.{statement}
 use Rattle.calls.proofs.restart_core.Tie as tie
@@ -27,14 +27,17 @@ abbrev at : tie.Start → List Frame → State
 at s l =
     let a = s .args in
     allOf l (a .pool) (a .records .now) (a .numbers .now) (a .accounts .now) (a .maps .now) (a .limits .now) (a .parents .now) (a .highest .now) (a .frame-words .now) (a .free-queue .now) (a .removal-list .now)
-    (a .addresses .now) (a .states .now) (a .owners .now) (a .free-map .now) (a .active .now) (a .updating .now) (a .images .now) (a .line .now) (a .used .now)
+    (a .addresses .now) (a .states .now) (a .owners .now) (a .free-map .now) (a .active .now) (a .updating .now) (a .images .now) (a .chip-words .now) (a .chip-records .now) (a .chip-next .now) (a .line .now) (a .used .now)
 
--- from the work back to question 2, to the line and to the highest number, and from question 1 to the start
-abbrev emptied : tie.After-restart-tables → tie.After-zero16
+-- from the work back to question 2, to the chip and the line and to the highest number, and from question 1 to the start
+abbrev emptied : tie.After-restart-tables → tie.After-empty-beside
 emptied t = search
 
+abbrev lifted : tie.After-empty-beside → tie.After-raise-highest
+lifted e = search
+
 abbrev raised : tie.After-restart-tables → tie.After-raise-highest
-raised t = search
+raised t = lifted (emptied t)
 
 abbrev ruled : tie.After-raise-highest → tie.Then2
 ruled r = search
@@ -42,8 +45,14 @@ ruled r = search
 abbrev fit : tie.Then2 → tie.Then1
 fit r = search
 
+abbrev half : tie.After-lent-fit → tie.After-slice-known10
+half q = search
+
+abbrev first : tie.After-slice-known10 → tie.Start
+first k = search
+
 abbrev start : tie.After-lent-fit → tie.Start
-start q = search
+start q = first (half q)
 
 abbrev lent : tie.Start → State
 lent s = at s (framesOf (s .args .frames) (s .args .lent))
@@ -108,17 +117,22 @@ returns-3 c =
     let s = start (k .before) in
     let a = s .args in
     let (answered, (frames, (words, (queue, (list, (addresses, (states, (owners, (map, (pool, (active, (updating, (images, used))))))))))))) = t .ensures in
-    restart-left (a .sizes) (lent s) (after w) _ (t .result .answer) answered
+    let (copied, (copies, (next, waiting))) = emptied w .empty-beside .ensures in
+    restart-left (a .sizes) (lent s) (after w) _ _ (t .result .answer) answered
     (restarted-tables (a .sizes) (lent s .disk) (raised w .raise-highest .ensures)
     (restarted-lent (a .sizes) (seen (a .accounts .now) (a .maps .now) (a .limits .now) (a .parents .now)) (t .result .frames) (a .lent) (all-lent (a .sizes) (at s) (λ l. refl) (a .frames) (a .lent) (learn (allFit (a .sizes) (lent s)) (fitted k))) frames)
     pool words queue list addresses states owners map active updating images used)
-    (emptied w .zero16 .ensures ∙ no-line-zeros (a .line .now) (fit-told (a .sizes) (lent s) (fitted k) .memory .line)) (fitted k) (listed h)
+    (waiting ∙ no-line-zeros (a .line .now) (fit-told (a .sizes) (lent s) (fitted k) .memory .line))
+    ((λ x. chipOf (copied x) (copies x) (next x)) ∙ no-copy-zeros (a .sizes) (lent s .memory .chip) (chip-fits (a .sizes) (lent s) (learn (allFit (a .sizes) (lent s)) (fitted k)))) (fitted k) (listed h)
 
 pub restart-core-spec : {M : Type 1} → statement M
 restart-core-spec =
     tie.close
     (tie.spec
     (λ c κs. search needs)
+    (λ c. refl)
+    (λ c. refl)
+    (λ c. refl)
     (λ c. refl)
     (λ c. refl)
     (λ c. refl)
@@ -147,6 +161,9 @@ restart-core-spec =
     (λ c. refl)
     (λ c. refl)
     (λ c. refl)
+    (λ c. refl)
+    (λ c. refl)
+    (λ c. refl)
     returns-2
     (λ c κs. search needs)
     (λ c κs. search needs)
@@ -162,6 +179,9 @@ restart-core-spec =
     (λ c. let w : tie.After-restart-tables = search in omega (arith, w .restart-tables .kept))
     (λ c. let w : tie.After-restart-tables = search in omega (arith, w .restart-tables .kept))
     (λ c. let w : tie.After-restart-tables = search in omega (arith, w .restart-tables .kept))
-    (λ c. let w : tie.After-restart-tables = search in emptied w .zero16 .kept .0)
+    (λ c. let w : tie.After-restart-tables = search in omega (arith, emptied w .empty-beside .kept))
+    (λ c. let w : tie.After-restart-tables = search in omega (arith, emptied w .empty-beside .kept))
+    (λ c. let w : tie.After-restart-tables = search in omega (arith, emptied w .empty-beside .kept))
+    (λ c. let w : tie.After-restart-tables = search in omega (arith, emptied w .empty-beside .kept))
     (λ c. let w : tie.After-restart-tables = search in omega (arith, w .restart-tables .kept))
     returns-3)

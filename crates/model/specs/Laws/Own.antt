@@ -9,10 +9,15 @@ use Rattle.model.specs.declared.event.Event.{Event}
 use Rattle.model.specs.State.{State}
 use Rattle.model.specs.Rules.{allRules}
 use Rattle.model.specs.Questions.{questions}
-use Rattle.model.specs.Step.{Outcome, outcome, allFit, answer, carried, result, step}
+use Rattle.model.specs.Step.{Outcome, outcome, allFit, answer, carried, whole, result, step}
 
+-- but for what the chip does: what the families of events in code do
 unfoldable pub own : Sizes → State → Event → Outcome State
 own z st e = outcome (firstNo (questions z st e)) (result z st e) st (carried z st e)
+
+-- all of it
+unfoldable pub ownWhole : Sizes → State → Event → Outcome State
+ownWhole z st e = outcome (firstNo (questions z st e)) (result z st e) st (whole z st e)
 
 -- the answer, and the state left
 abbrev pub leaves : Answer → State → Outcome State
@@ -37,10 +42,10 @@ first-no n r q h = rw (untold r h)
 
 module _ (z : Sizes) (st : State) (e : Event) where
   abbrev by : ℕ → Outcome State
-  by n = outcome n (result z st e) st (carried z st e)
+  by n = outcome n (result z st e) st (whole z st e)
 
-  pub step-own : Holds (allFit z st) → Holds (allRules z st) → step z st e ≡ own z st e
-  unfolding step own answer
+  pub step-own : Holds (allFit z st) → Holds (allRules z st) → step z st e ≡ ownWhole z st e
+  unfolding step ownWhole answer
   step-own f r = ap by (first-yes 1 (allFit z st) (ask 2 (allRules z st) (questions z st e)) f ∙ first-yes 2 (allRules z st) (questions z st e) r)
 
   pub step-unfit : ¬ Holds (allFit z st) → step z st e ≡ refusal 1 st

@@ -6,8 +6,8 @@ use Rattle.model.specs.declared.sizes.Sizes.{Sizes}
 use Rattle.model.specs.declared.event.Event.{Event}
 use Rattle.model.specs.State.{State}
 use Rattle.model.specs.Questions.{questions}
-use Rattle.model.specs.Step.{Outcome, outcome, carried, result}
-use Rattle.model.specs.Laws.Own.{own, refusal, completed}
+use Rattle.model.specs.Step.{Outcome, outcome, carried, whole, result}
+use Rattle.model.specs.Laws.Own.{own, ownWhole, refusal, completed}
 
 pub outcome-no : {A : Type 0} (n result : ℕ) (old new : A) → ¬ (n ≡ 0) → outcome n result old new ≡ record { answer = record { refusal = n; result = 0 }; left = old }
 outcome-no zero result old new h = absurd (h refl)
@@ -26,3 +26,12 @@ module _ (z : Sizes) (st : State) (e : Event) where
   pub own-yes : (n : ℕ) → n ≡ firstNo (questions z st e) → n ≡ 0 → done ≡ own z st e
   unfolding own
   own-yes n q h = ap (λ (m : ℕ). outcome m (result z st e) st (carried z st e)) (sym h ∙ q)
+
+  -- with what the chip does
+  pub whole-no : (n : ℕ) → n ≡ firstNo (questions z st e) → ¬ (n ≡ 0) → refusal n st ≡ ownWhole z st e
+  unfolding ownWhole
+  whole-no n q h = sym (outcome-no n (result z st e) st (whole z st e) h) ∙ ap (λ (m : ℕ). outcome m (result z st e) st (whole z st e)) q
+
+  pub whole-yes : (n : ℕ) → n ≡ firstNo (questions z st e) → n ≡ 0 → completed (result z st e) (whole z st e) ≡ ownWhole z st e
+  unfolding ownWhole
+  whole-yes n q h = ap (λ (m : ℕ). outcome m (result z st e) st (whole z st e)) (sym h ∙ q)

@@ -7,7 +7,7 @@ use Rattle.tables.specs.TimesLaws.{Once}
 use Rattle.tables.specs.Rule.{Holds}
 use mathlib.Core.Path.{_≡_}
 use Rattle.model.specs.declared.sizes.Sizes.{Sizes}
-use Rattle.model.specs.State.{State, Files, Frames, files, frames, LINE, allPages, mapWords, usedOf, freeCount, freeWord}
+use Rattle.model.specs.State.{State, Files, Frames, Chip, files, frames, LINE, allPages, mapWords, usedOf, freeCount, freeWord}
 use Rattle.model.specs.Rules
 
 -- the disk rules
@@ -64,6 +64,17 @@ pub record OfCounts (z : Sizes) (st : State) : Type 0 where
   pub free-map : (k : ℕ) → k < mapWords z → at (st .memory .held .free-map) k ≡ freeWord z (files st .state) k
   pub used : (q : ℕ) → q < z .accounts → at (st .memory .used) q ≡ usedOf z (files st) (frames st) q
 
+-- the rules of the chip, apart from the others: no rule but these looks at it. state: the records' states; word: their words
+pub record OfChip (z : Sizes) (state word : ℕ → ℕ) (k : Chip) : Type 0 where
+  pub next : Holds (Rules.nextFit z state word k)
+  pub once : Holds (Rules.copyOnce z state word k)
+  pub empty : Holds (Rules.copyEmpty z state word k)
+  pub live : Holds (Rules.copyLive z state word k)
+
+abbrev pub ChipIn : Sizes → State → Type 0
+ChipIn z st = OfChip z (files st .state) (at (st .disk .records)) (st .memory .chip)
+
+-- all rules but those of the chip
 pub record Ruled (z : Sizes) (st : State) : Type 0 where
   pub disk : OnDisk z (files st)
   pub records : OfRecords z (files st)
@@ -140,32 +151,42 @@ rules-frames : (z : Sizes) (st : State) → OfFrames z (files st) (frames st) (a
 unfolding Rules.frameRules
 rules-frames z st h = (h .fit, (h .in-one-place, (h .active, (h .once, (h .held, (h .writing, (h .free, (h .busy, h .clean))))))))
 
-pub ruled : (z : Sizes) (st : State) → Holds (Rules.allRules z st) → Ruled z st
-unfolding Rules.allRules Rules.memoryRules Rules.queueRules Rules.countRules Rules.lineRules
-ruled z st h = record {
-  disk = disk-ruled z st (h .0);
-  records = records-ruled z st (h .1 .0) (h .1 .1 .0);
-  queues = record { free-queue = h .1 .1 .1 .0 .0; removal-list = h .1 .1 .1 .0 .1 };
-  frames = frames-ruled z st (h .1 .1 .1 .1 .0);
-  counts = (let k = h .1 .1 .1 .1 .1 .0 in record { hand = k .0; free = k .1 .0; free-map = k .1 .1 .0; used = k .1 .1 .1 });
-  line = h .1 .1 .1 .1 .1 .1;
+-- all rules but those of the chip
+pub tables-ruled : (z : Sizes) (st : State) → OnDisk z (files st) → Holds (Rules.tableRules z st) → Ruled z st
+unfolding Rules.tableRules Rules.queueRules Rules.countRules Rules.lineRules
+tables-ruled z st d h = record {
+  disk = d;
+  records = records-ruled z st (h .0) (h .1 .0);
+  queues = record { free-queue = h .1 .1 .0 .0; removal-list = h .1 .1 .0 .1 };
+  frames = frames-ruled z st (h .1 .1 .1 .0);
+  counts = (let k = h .1 .1 .1 .1 .0 in record { hand = k .0; free = k .1 .0; free-map = k .1 .1 .0; used = k .1 .1 .1 });
+  line = h .1 .1 .1 .1 .1;
 }
 
-pub rules : (z : Sizes) (st : State) → Ruled z st → Holds (Rules.allRules z st)
-unfolding Rules.allRules Rules.memoryRules Rules.queueRules Rules.countRules Rules.lineRules
-rules z st r = (
-  rules-disk z st (r .disk),
+pub rules-tables : (z : Sizes) (st : State) → Ruled z st → Holds (Rules.tableRules z st)
+unfolding Rules.tableRules Rules.queueRules Rules.countRules Rules.lineRules
+rules-tables z st r = (
+  rules-ranges z st (r .records),
   (
-    rules-ranges z st (r .records),
+    rules-records z st (r .records),
     (
-      rules-records z st (r .records),
+      (r .queues .free-queue, r .queues .removal-list),
       (
-        (r .queues .free-queue, r .queues .removal-list),
-        (
-          rules-frames z st (r .frames),
-          ((r .counts .hand, (r .counts .free, (r .counts .free-map, r .counts .used))), r .line),
-        ),
+        rules-frames z st (r .frames),
+        ((r .counts .hand, (r .counts .free, (r .counts .free-map, r .counts .used))), r .line),
       ),
     ),
   ),
 )
+
+pub ruled : (z : Sizes) (st : State) → Holds (Rules.allRules z st) → Ruled z st
+unfolding Rules.allRules Rules.memoryRules
+ruled z st h = tables-ruled z st (disk-ruled z st (h .0)) (h .1 .0)
+
+pub chip-ruled : (z : Sizes) (st : State) → Holds (Rules.allRules z st) → ChipIn z st
+unfolding Rules.allRules Rules.memoryRules Rules.chipRules
+chip-ruled z st h = let k = h .1 .1 in record { next = k .0; once = k .1 .0; empty = k .1 .1 .0; live = k .1 .1 .1 }
+
+pub rules : (z : Sizes) (st : State) → Ruled z st → ChipIn z st → Holds (Rules.allRules z st)
+unfolding Rules.allRules Rules.memoryRules Rules.chipRules
+rules z st r k = (rules-disk z st (r .disk), (rules-tables z st r, (k .next, (k .once, (k .empty, k .live)))))

@@ -18,8 +18,8 @@ use crate::tables::Sizes;
 
 /// The sizes that are measured, by name.
 pub const SIZES: [(&str, Sizes); 3] = [
-    ("smallest", program::SIZES),
-    ("middle", Sizes { words: 64, records: 512, frames: 16, slots: 16, pages: 64, accounts: 4 }),
+    ("smallest", Sizes { chip: 1, ..program::SIZES }),
+    ("middle", Sizes { words: 64, records: 512, frames: 16, slots: 16, pages: 64, accounts: 4, chip: 32 }),
     ("largest", Sizes::MOST),
 ];
 

@@ -23,8 +23,8 @@ pub fn time(list: &List, seconds: u64) {
         round(list, &mut least, 3);
         rounds += 1;
     }
-    let Sizes { words, records, frames, slots, pages, accounts } = list.start.sizes;
-    println!("sizes\tW {words} R {records} F {frames} S {slots} N {pages} Q {accounts}\nrounds\t{rounds}");
+    let Sizes { words, records, frames, slots, pages, accounts, chip } = list.start.sizes;
+    println!("sizes\tW {words} R {records} F {frames} S {slots} N {pages} Q {accounts} B {chip}\nrounds\t{rounds}");
     for (kind, name) in kinds() {
         let own = || (0..list.steps.len()).filter(|&at| list.steps[at].kind == kind);
         let calls = own().count();

@@ -4,6 +4,7 @@
 use super::disk::busy;
 use crate::drive::counts::tag;
 use crate::drive::random::Random;
+use crate::events::chip;
 use crate::keeper::Keeper;
 use crate::queue;
 use crate::tables::{Frame, LINE, LIVE, NO_TRANSFER};
@@ -54,9 +55,13 @@ fn length(keeper: &Keeper, slot: usize) -> usize {
     held.map_or(0, |last| last + 1)
 }
 
-/// As often a page that is on the disk as any other.
+/// As often a page that a read must bring from the disk as any other.
 fn page_to_fault(keeper: &Keeper, slot: usize, random: &mut Random) -> usize {
-    let stored = |page| keeper.holds(keeper.flat(slot, page), LIVE);
+    let stored = |page| {
+        let page = keeper.flat(slot, page);
+        let copied = keeper.record_of(page).is_some_and(|record| chip::place_of(keeper, record).is_some());
+        keeper.holds(page, LIVE) && !copied && keeper.frame_of(page).is_none()
+    };
     let found = random.find(keeper.sizes.pages, stored).filter(|_| random.percent(50));
     found.unwrap_or_else(|| random.below(keeper.sizes.pages.min(length(keeper, slot) + 2)))
 }

@@ -1,16 +1,17 @@
 //! Damage aimed at one rule of question 2, which it breaks alone: for the rules that damage at random seldom breaks without another.
 
 use super::random::Random;
+use crate::events::chip;
 use crate::keeper::Keeper;
 use crate::rules::View;
-use crate::tables::{FILED, FREE, NO_TRANSFER, NULLED, READING, RELEASED, WRITING};
+use crate::tables::{FILED, FREE, LIVE, NO_TRANSFER, NULLED, READING, RELEASED, WRITING};
 use crate::{accounts, queue};
 
 /// A rule, and a damage of sound tables that breaks it; none if the tables have not what it takes.
 type Aim = (&'static str, fn(&mut Keeper, &mut Random) -> Option<()>);
 
 /// Those that the tables seldom have what it takes for stand first, and are drawn more often.
-const AIMS: [Aim; 15] = [
+const AIMS: [Aim; 19] = [
     ("a frame being written is modified", written_unmodified),
     ("no record stands in two entries", entry_twice),
     ("no record stands twice in one image", imaged_twice),
@@ -21,11 +22,15 @@ const AIMS: [Aim; 15] = [
     ("an unmodified frame in service equals its record, or zeros", other_word),
     ("an inactive slot has no address, frame or update", updating_at_rest),
     ("no two pages hold one record", held_twice),
+    ("no record is in the chip twice", copied_twice),
     ("no number stands in two slots", number_twice),
     ("a page in a frame has an address, a reading one a live one", unaddressed),
     ("the hand is below R", hand_past),
+    ("an empty place of the chip holds zeros", empty_place_filled),
+    ("the chip's next place is below B", next_place_past),
     ("an empty slot has account 0 and a zero map", empty_listed),
     ("an account is below Q", account_past),
+    ("a copy's record is live, and its words equal the record's", copy_stale),
 ];
 
 /// One of these damages, if it can be made; the rule that it breaks.
@@ -117,6 +122,7 @@ fn unaddressed(keeper: &mut Keeper, random: &mut Random) -> Option<()> {
         set_state(keeper, record, RELEASED);
         keeper.memory.addresses[page] = 0;
     }
+    chip::drop_stale(keeper);
     count_anew(keeper);
     Some(())
 }
@@ -205,6 +211,52 @@ fn entry_past(keeper: &mut Keeper, random: &mut Random) -> Option<()> {
 fn parent_past(keeper: &mut Keeper, random: &mut Random) -> Option<()> {
     let account = random.find(keeper.sizes.accounts, |account| account > 0)?;
     keeper.disk.parents[account] = (account + random.below(3)) as u16;
+    Some(())
+}
+
+/// A copy stands in another place too.
+fn copied_twice(keeper: &mut Keeper, random: &mut Random) -> Option<()> {
+    let entries = &keeper.memory.chip_records;
+    let one = random.find(entries.len(), |place| entries[place] != 0)?;
+    let other = random.find(entries.len(), |place| place != one)?;
+    let (from, to) = (chip::words_of(keeper, one), chip::words_of(keeper, other).start);
+    keeper.memory.chip_records[other] = keeper.memory.chip_records[one];
+    keeper.memory.chip_words.copy_within(from, to);
+    Some(())
+}
+
+/// A copy has another word; or an empty place has that of a record that is not live, or of none that exists.
+fn copy_stale(keeper: &mut Keeper, random: &mut Random) -> Option<()> {
+    let (entries, states) = (&keeper.memory.chip_records, &keeper.memory.states);
+    let taken = random.find(entries.len(), |place| entries[place] != 0);
+    if let Some(place) = taken.filter(|_| random.percent(50)) {
+        let word = chip::words_of(keeper, place).start + random.below(keeper.sizes.words);
+        keeper.memory.chip_words[word] ^= 1 << random.below(32);
+        return Some(());
+    }
+    let place = random.find(entries.len(), |place| entries[place] == 0)?;
+    let stale = random.find(states.len(), |record| states[record] != LIVE);
+    match stale.filter(|_| random.percent(70)) {
+        Some(record) => {
+            let (from, to) = (keeper.words_of_record(record), chip::words_of(keeper, place));
+            keeper.memory.chip_words[to].copy_from_slice(&keeper.disk.records[from]);
+            keeper.memory.chip_records[place] = record as u16 + 1;
+        }
+        None => keeper.memory.chip_records[place] = random.pick(&[keeper.sizes.records as u16 + 1, u16::MAX]),
+    }
+    Some(())
+}
+
+fn empty_place_filled(keeper: &mut Keeper, random: &mut Random) -> Option<()> {
+    let place = random.find(keeper.sizes.chip, |place| keeper.memory.chip_records[place] == 0)?;
+    let word = chip::words_of(keeper, place).start + random.below(keeper.sizes.words);
+    keeper.memory.chip_words[word] ^= 1 << random.below(32);
+    Some(())
+}
+
+fn next_place_past(keeper: &mut Keeper, random: &mut Random) -> Option<()> {
+    let past = (keeper.sizes.chip + random.below(3)) as u16;
+    keeper.memory.chip_next[0] = random.pick(&[past, u16::MAX]);
     Some(())
 }
 

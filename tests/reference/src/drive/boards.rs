@@ -19,6 +19,7 @@ pub fn sizes(random: &mut Random, words: usize, pages: usize) -> Sizes {
         slots: 1 + random.up_to(5),
         pages,
         accounts: random.up_to(4),
+        chip: random.up_to(4),
     }
 }
 

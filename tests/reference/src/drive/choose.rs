@@ -119,7 +119,7 @@ impl Chooser {
     /// Any kind, values in and out of range.
     fn any_values(&mut self, keeper: &Keeper) -> Call {
         let sizes = keeper.sizes;
-        let near = [sizes.words, sizes.frames, sizes.slots, sizes.pages, sizes.accounts];
+        let near = [sizes.words, sizes.frames, sizes.slots, sizes.pages, sizes.accounts, sizes.chip];
         let values = [(); 4].map(|_| match self.random.below(6) {
             0..=2 => self.random.below(3),
             3 => self.random.pick(&near),

@@ -1,6 +1,7 @@
 //! What must hold of one call: the two subjects agree, and each keeps the paper's promises.
 
 use super::act::{buffer, Call, Outcome};
+use super::chips;
 use crate::event::Request;
 use crate::keeper::Keeper;
 use crate::questions::HIGH;
@@ -47,6 +48,9 @@ fn first_difference(one: &Keeper, other: &Keeper) -> &'static str {
         ("active", one.active == other.active),
         ("updating", one.updating == other.updating),
         ("images", one.images == other.images),
+        ("chip words", one.chip_words == other.chip_words),
+        ("chip records", one.chip_records == other.chip_records),
+        ("chip next", one.chip_next == other.chip_next),
         ("line", one.line == other.line),
         ("used", one.used == other.used),
         ("pool", one.pool == other.pool),
@@ -83,7 +87,8 @@ pub fn promises(call: &Call, before: &Keeper, side: &Side) -> Result<(), String>
         }
         (Call::Restart, _) => {
             check(restarted(before, side.after), "restart changed the disk part, but for the highest number")?;
-            check(rules::kept(side.after), "restart broke a rule")
+            check(rules::kept(side.after), "restart broke a rule")?;
+            check(chips::empty(side.after), "restart left something in the chip")
         }
         _ => {
             check(rules::kept(side.after), "an event broke a rule")?;
@@ -91,6 +96,7 @@ pub fn promises(call: &Call, before: &Keeper, side: &Side) -> Result<(), String>
             check(limits_kept(call, before, side.after), "an event changed the sum of the limits, or a parent")?;
             check(transfers_untouched(call, before, side.after), "an event changed the words of a frame in transfer")?;
             check(along_the_lines(before, side.after), "a record moved along no line")?;
+            check(chips::moved(call, before, side.after), "the chip is not as it should be")?;
             check(line_moves(call, before, side), "the waiting line is not as it should be")
         }
     }

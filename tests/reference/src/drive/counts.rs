@@ -3,6 +3,7 @@
 use super::act::{Call, Outcome};
 use super::batch::Batches;
 use super::bound::Bound;
+use super::chips::Chips;
 use super::choose::LARGE;
 use super::given::Numbers;
 use super::high::High;
@@ -74,6 +75,7 @@ pub struct Counts {
     pub bound: Bound,
     pub high: High,
     pub numbers: Numbers,
+    pub chips: Chips,
 }
 
 /// Records taken by faults, and among them: where a lower page of the design had a record, where a higher one had (the pages come out
@@ -198,6 +200,7 @@ impl Counts {
         }
         if outcome.refusal() == 0 {
             self.written.note(call, before);
+            self.chips.note(call, before, after);
         }
         self.moves.note(call, outcome.refusal(), before, after);
         self.high.note(call, name(call), outcome.refusal(), before);
@@ -241,6 +244,7 @@ impl fmt::Display for Counts {
         writeln!(out, "{:?}", self.bound)?;
         writeln!(out, "{:?}", self.high)?;
         writeln!(out, "{:?}", self.numbers)?;
+        writeln!(out, "{:?}", self.chips)?;
         writeln!(out, "carried out: {:?}", self.carried_out)?;
         writeln!(out, "refused: {:?}", self.refused)?;
         writeln!(out, "rules that alone refused a damaged table, each at least {} times:", self.floor())?;

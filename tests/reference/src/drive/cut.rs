@@ -78,7 +78,7 @@ fn scramble(memory: &mut Memory, random: &mut Random) {
         let [page, used, modified, wired, initial, transfer] = [(); 6].map(|_| random.next() as u8);
         *frame = Frame { page: page.into(), used, modified, wired, initial, transfer };
     }
-    let (wide, words) = ([&mut memory.frame_words, &mut memory.free_map], random.next() as u32);
+    let (wide, words) = ([&mut memory.frame_words, &mut memory.free_map, &mut memory.chip_words], random.next() as u32);
     for table in wide {
         table.iter_mut().for_each(|word| *word = words ^ random.next() as u32);
     }
@@ -87,6 +87,8 @@ fn scramble(memory: &mut Memory, random: &mut Random) {
         &mut memory.removal_list,
         &mut memory.addresses,
         &mut memory.images,
+        &mut memory.chip_records,
+        &mut memory.chip_next,
         &mut memory.line,
         &mut memory.used,
     ] {

@@ -6,18 +6,18 @@ use crate::keeper::Keeper;
 use crate::queue;
 use crate::tables::{Frame, RELEASED};
 
-pub const TABLES: usize = 21;
+pub const TABLES: usize = 24;
 
 /// One damage aimed at one rule, which is returned; or one or two at random.
 pub fn damage(keeper: &mut Keeper, seed: u64) -> Option<&'static str> {
     let mut random = Random::new(seed);
-    if random.percent(50) {
+    if random.percent(60) {
         if let Some(rule) = aimed(keeper, &mut random) {
             return Some(rule);
         }
     }
     for _ in 0..random.up_to(2) {
-        match random.below(11) {
+        match random.below(12) {
             0 => change_state(keeper, &mut random),
             1 => move_frame(keeper, &mut random),
             2 => change_frame(keeper, &mut random),
@@ -27,6 +27,7 @@ pub fn damage(keeper: &mut Keeper, seed: u64) -> Option<&'static str> {
             6 => copy_frame(keeper, &mut random),
             7 => forge_image(keeper, &mut random),
             8 => forge_line(keeper, &mut random),
+            9 => forge_copy(keeper, &mut random),
             _ => change_cell(keeper, &mut random),
         }
     }
@@ -107,6 +108,21 @@ fn forge_line(keeper: &mut Keeper, random: &mut Random) {
     line[at] = random.pick(&[0, any, pages as u16 + 1, u16::MAX]);
 }
 
+/// A place of the chip becomes empty, or some record's, mostly with its words.
+fn forge_copy(keeper: &mut Keeper, random: &mut Random) {
+    let place = random.below(keeper.sizes.chip);
+    let entry = random.below(keeper.sizes.records + 2);
+    keeper.memory.chip_records[place] = entry as u16;
+    if random.percent(80) {
+        let (size, records) = (keeper.sizes.words, &keeper.disk.records);
+        let words = match entry.checked_sub(1).and_then(|record| records.get(record * size..(record + 1) * size)) {
+            Some(words) => words.to_vec(),
+            None => vec![0; size],
+        };
+        keeper.memory.chip_words[place * size..(place + 1) * size].copy_from_slice(&words);
+    }
+}
+
 /// A frame's page, switches or transfer change, mostly of a frame with a page.
 fn change_frame(keeper: &mut Keeper, random: &mut Random) {
     let pages = keeper.sizes.all_pages();
@@ -153,7 +169,8 @@ fn swap_cells(keeper: &mut Keeper, random: &mut Random) {
     fn swap<T>(table: &mut [T], one: usize, other: usize) {
         table.swap(one % table.len(), other % table.len());
     }
-    match random.below(9) {
+    match random.below(10) {
+        9 => swap(&mut keeper.memory.chip_records, one, other),
         8 => swap(&mut keeper.disk.parents, one, other),
         0 => swap(&mut keeper.disk.numbers, one, other),
         1 => swap(&mut keeper.disk.accounts, one, other),
@@ -227,6 +244,9 @@ fn change_cell(keeper: &mut Keeper, random: &mut Random) {
         17 => memory.pool.hand = change(memory.pool.hand),
         18 => put(&mut disk.parents, at, &change),
         19 => put(&mut disk.highest, at, &change),
+        20 => put(&mut memory.chip_words, at, &change),
+        21 => put(&mut memory.chip_records, at, &change),
+        22 => put(&mut memory.chip_next, at, &change),
         _ => memory.pool.free = change(memory.pool.free),
     }
 }

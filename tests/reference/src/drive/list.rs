@@ -38,16 +38,16 @@ pub fn run_as_set(subjects: [Subject; 2]) -> Counts {
 fn mixed(random: &mut Random) -> Sizes {
     let most = match random.below(200) {
         0 => return Sizes::MOST,
-        1 => [1024, 4096, 64, 64, 256, 16],
-        2 => [1, 4096, 64, 64, 256, 16],
-        3..=9 => [64, 300, 64, 16, 32, 16],
-        10..=39 => [8, 60, 12, 6, 12, 8],
+        1 => [1024, 4096, 64, 64, 256, 16, 256],
+        2 => [1, 4096, 64, 64, 256, 16, 256],
+        3..=9 => [64, 300, 64, 16, 32, 16, 100],
+        10..=39 => [8, 60, 12, 6, 12, 8, 12],
         40..=49 => return crate::program::SIZES,
         50..=64 => return roomy(random),
-        _ => [3, 12, 5, 4, 5, 5],
+        _ => [3, 12, 5, 4, 5, 5, 4],
     };
-    let [words, records, frames, slots, pages, accounts] = most.map(|most| random.up_to(most));
-    Sizes { words, records, frames, slots, pages, accounts }
+    let [words, records, frames, slots, pages, accounts, chip] = most.map(|most| random.up_to(most));
+    Sizes { words, records, frames, slots, pages, accounts, chip }
 }
 
 /// More records than a few words of the free map tell, and more pages than records.
@@ -59,6 +59,7 @@ fn roomy(random: &mut Random) -> Sizes {
         slots: 8,
         pages: 70,
         accounts: 2,
+        chip: random.up_to(70),
     }
 }
 

@@ -20,7 +20,7 @@ fn bend_table(keeper: &mut Keeper, random: &mut Random) {
     }
     let longer = random.percent(50);
     let (disk, memory) = (&mut keeper.disk, &mut keeper.memory);
-    match random.below(20) {
+    match random.below(23) {
         0 => bend(&mut disk.records, longer),
         1 => bend(&mut disk.numbers, longer),
         2 => bend(&mut disk.accounts, longer),
@@ -40,11 +40,14 @@ fn bend_table(keeper: &mut Keeper, random: &mut Random) {
         16 => bend(&mut memory.line, longer),
         17 => bend(&mut disk.parents, longer),
         18 => bend(&mut disk.highest, longer),
+        19 => bend(&mut memory.chip_words, longer),
+        20 => bend(&mut memory.chip_records, longer),
+        21 => bend(&mut memory.chip_next, longer),
         _ => bend(&mut memory.used, longer),
     }
 }
 
-/// One of the six sizes.
+/// One of the seven sizes.
 fn size_of(sizes: &mut Sizes, which: usize) -> &mut usize {
     match which {
         0 => &mut sizes.words,
@@ -52,21 +55,22 @@ fn size_of(sizes: &mut Sizes, which: usize) -> &mut usize {
         2 => &mut sizes.frames,
         3 => &mut sizes.slots,
         4 => &mut sizes.pages,
-        _ => &mut sizes.accounts,
+        5 => &mut sizes.accounts,
+        _ => &mut sizes.chip,
     }
 }
 
 /// The tables stay, a size is another one.
 fn resize(keeper: &mut Keeper, random: &mut Random) {
-    let size = size_of(&mut keeper.sizes, random.below(6));
+    let size = size_of(&mut keeper.sizes, random.below(7));
     *size = random.pick(&[0, *size + 1, *size - 1, 4097, 65_536, usize::MAX]);
 }
 
 /// Other tables, all of the lengths that their sizes say: one size is 0, its limit, or one more than that.
 fn relend(keeper: &mut Keeper, random: &mut Random) {
-    let [words, records, frames, slots, pages, accounts] = [(); 6].map(|_| random.up_to(3));
-    let mut sizes = Sizes { words, records, frames, slots, pages, accounts };
-    let which = random.below(6);
+    let [words, records, frames, slots, pages, accounts, chip] = [(); 7].map(|_| random.up_to(3));
+    let mut sizes = Sizes { words, records, frames, slots, pages, accounts, chip };
+    let which = random.below(7);
     let most = *size_of(&mut Sizes::MOST.clone(), which);
     *size_of(&mut sizes, which) = random.pick(&[0, most, most + 1]);
     *keeper = Keeper::lent(sizes);

@@ -7,6 +7,7 @@ pub mod batch; // a stretch of a list in one call
 pub mod boards; // random boards
 pub mod bound; // the bound on waiting
 pub mod carried; // the next import or export of a list
+pub mod chips; // what an event may do to the chip
 pub mod choose; // the next act of a list, by what the tables hold
 pub mod compare; // the two subjects agree, and each keeps the paper's promises
 pub mod counts; // how often each kind and refusal was seen

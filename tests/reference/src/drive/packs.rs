@@ -19,6 +19,7 @@ fn sizes(random: &mut Random) -> Sizes {
         slots: size(most.slots, 6),
         pages: size(most.pages, 5),
         accounts: size(most.accounts, 3),
+        chip: 1,
     }
 }
 

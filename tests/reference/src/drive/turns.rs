@@ -3,7 +3,7 @@
 use crate::event::Answer;
 use crate::keeper::Keeper;
 use crate::queue;
-use crate::tables::{READING, WRITING};
+use crate::tables::{LIVE, READING, WRITING};
 use std::collections::BTreeMap;
 
 #[derive(Debug, Default)]
@@ -14,6 +14,7 @@ pub struct Turns {
     pub back_reading: u64,
     pub back_writing: u64,
     pub faulted_read: u64,
+    pub faulted_copy: u64,
     pub faulted_zeros: u64,
     pub claimed_free: u64,
     pub claimed_write: u64,
@@ -40,6 +41,7 @@ impl Turns {
             (0, _, Some(was), _) if was.transfer == READING => self.back_reading += 1,
             (0, _, Some(_), _) => self.back_writing += 1,
             (0, _, None, Some(is)) if is.transfer == READING => self.faulted_read += 1,
+            (0, _, None, Some(_)) if before.holds(page, LIVE) => self.faulted_copy += 1,
             (0, _, None, Some(_)) => self.faulted_zeros += 1,
             (0, ..) if writes(after) > writes(before) => self.claimed_write += 1,
             (0, ..) => self.claimed_free += 1,
@@ -56,6 +58,7 @@ impl Turns {
             self.back_reading,
             self.back_writing,
             self.faulted_read,
+            self.faulted_copy,
             self.faulted_zeros,
             self.claimed_free,
             self.claimed_write,

@@ -1,5 +1,6 @@
 //! What each event does, once every question has said yes. Each function gives the event's result.
 
+pub mod chip;
 mod claim;
 mod designs;
 mod limits;
@@ -12,7 +13,14 @@ use crate::keeper::Keeper;
 use crate::queue;
 use crate::tables::{Frame, FREE};
 
+/// The event's own work, then the copies go whose records it left not live.
 pub fn carry_out(keeper: &mut Keeper, event: Event) -> u32 {
+    let result = own_work(keeper, event);
+    chip::drop_stale(keeper);
+    result
+}
+
+fn own_work(keeper: &mut Keeper, event: Event) -> u32 {
     match event {
         Event::Create { slot, account, number } => designs::create(keeper, slot, account, number),
         Event::Delete { slot } => designs::delete(keeper, slot),
@@ -34,6 +42,15 @@ pub fn carry_out(keeper: &mut Keeper, event: Event) -> u32 {
         Event::Turn => line::turn(keeper),
         Event::Look { .. } | Event::Export { .. } | Event::Import { .. } => 0,
     }
+}
+
+/// The page in a frame comes into service with these words: initial on, the other switches off, at the front of the removal list.
+fn in_service(keeper: &mut Keeper, frame: usize, words: &[u32]) {
+    let to = keeper.words_of_frame(frame);
+    keeper.memory.frame_words[to].copy_from_slice(words);
+    let page = keeper.memory.frames[frame].page;
+    keeper.memory.frames[frame] = Frame { page, initial: 1, ..Frame::default() };
+    queue::push_front(&mut keeper.memory.removal_list, frame);
 }
 
 /// A frame loses its page and switches and joins the free queue's end; its words stay.

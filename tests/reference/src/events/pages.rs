@@ -1,29 +1,32 @@
 //! Events about pages in frames: fault, read, write, wire, unwire, truncate.
 
-use super::{free_frame, set_state};
+use super::{chip, free_frame, in_service, set_state};
 use crate::keeper::Keeper;
 use crate::queue;
 use crate::tables::{Frame, LIVE, NULLED, READING, RELEASED};
 
-/// Takes the first queued frame; begins a read, or brings the page in as zeros.
+/// Takes the first queued frame; begins a read, which is done at once if the chip has a copy, or brings the page in as zeros.
 pub fn fault(keeper: &mut Keeper, slot: usize, page: usize) -> u32 {
     let page = keeper.flat(slot, page);
     let frame = queue::first(&keeper.memory.free_queue).expect("question 20");
     queue::remove(&mut keeper.memory.free_queue, frame);
-    let mut entry = Frame { page: page as u16 + 1, ..Frame::default() };
-    if keeper.holds(page, LIVE) {
-        entry.transfer = READING;
-    } else {
-        let words = keeper.words_of_frame(frame);
-        keeper.memory.frame_words[words].fill(0);
-        if keeper.record_of(page).is_none() {
-            let record = take_record(keeper, slot, neighbour(keeper, page), NULLED);
-            keeper.memory.addresses[page] = record as u16 + 1;
+    keeper.memory.frames[frame] = Frame { page: page as u16 + 1, ..Frame::default() };
+    match keeper.record_of(page) {
+        Some(record) if keeper.memory.states[record] == LIVE => match chip::place_of(keeper, record) {
+            Some(place) => {
+                let copy = keeper.memory.chip_words[chip::words_of(keeper, place)].to_vec();
+                in_service(keeper, frame, &copy);
+            }
+            None => keeper.memory.frames[frame].transfer = READING,
+        },
+        held => {
+            if held.is_none() {
+                let record = take_record(keeper, slot, neighbour(keeper, page), NULLED);
+                keeper.memory.addresses[page] = record as u16 + 1;
+            }
+            in_service(keeper, frame, &vec![0; keeper.sizes.words]);
         }
-        entry.initial = 1;
-        queue::push_front(&mut keeper.memory.removal_list, frame);
     }
-    keeper.memory.frames[frame] = entry;
     frame as u32
 }
 

@@ -1,9 +1,9 @@
 //! Events that begin and end transfers to the disk: update, page done, map done.
 
-use super::{free_frame, free_record, records_in, set_state};
+use super::{chip, free_frame, free_record, in_service, records_in, set_state};
 use crate::keeper::Keeper;
 use crate::queue;
-use crate::tables::{Frame, LEAVING, LIVE, NO_TRANSFER, NULLED, READING, RELEASED};
+use crate::tables::{LEAVING, LIVE, NO_TRANSFER, NULLED, READING, RELEASED};
 
 /// The image lists live addresses. Nulled records of pages in no frame, and released ones, become leaving.
 pub fn update(keeper: &mut Keeper, slot: usize) -> u32 {
@@ -41,13 +41,18 @@ pub fn map_done(keeper: &mut Keeper, slot: usize, good: bool) -> u32 {
     0
 }
 
+/// A good one puts the record's words into the chip, as they are after it.
 pub fn page_done(keeper: &mut Keeper, frame: usize, good: bool) -> u32 {
     let reading = keeper.memory.frames[frame].transfer == READING;
+    let record = record_in(keeper, frame);
     match (reading, good) {
         (true, true) => good_read(keeper, frame),
         (false, true) => good_write(keeper, frame),
         (true, false) => free_frame(keeper, frame),
         (false, false) => failed_write(keeper, frame),
+    }
+    if good {
+        chip::put(keeper, record);
     }
     0
 }
@@ -60,11 +65,8 @@ fn record_in(keeper: &Keeper, frame: usize) -> usize {
 
 fn good_read(keeper: &mut Keeper, frame: usize) {
     let from = keeper.words_of_record(record_in(keeper, frame));
-    let to = keeper.words_of_frame(frame);
-    keeper.memory.frame_words[to].copy_from_slice(&keeper.disk.records[from]);
-    let page = keeper.memory.frames[frame].page;
-    keeper.memory.frames[frame] = Frame { page, initial: 1, ..Frame::default() };
-    queue::push_front(&mut keeper.memory.removal_list, frame);
+    let words = keeper.disk.records[from].to_vec();
+    in_service(keeper, frame, &words);
 }
 
 fn good_write(keeper: &mut Keeper, frame: usize) {

@@ -1,5 +1,6 @@
 //! Question 2: both sets of rules are kept.
 
+pub mod chip; // the rules of the chip
 pub mod disk; // the rules of the disk part
 pub mod frames; // the rules of frames and queues
 pub mod line; // the rules of the waiting line
@@ -22,7 +23,7 @@ pub struct View<'a> {
 pub type Rule = (&'static str, fn(&View) -> bool);
 
 /// Asked once the disk rules and the values are in order.
-pub const MEMORY: [Rule; 19] = [
+pub const MEMORY: [Rule; 23] = [
     ("a queue is packed, no frame in it twice", frames::queues_packed),
     ("each frame is in exactly one place", frames::one_place),
     ("a free frame has no page and no switch on, any other has a page", frames::free_frames_bare),
@@ -42,6 +43,10 @@ pub const MEMORY: [Rule; 19] = [
     ("used counts equal their definition", records::used_counts),
     ("the waiting line is packed", line::packed),
     ("a page that waits exists", line::pages_exist),
+    ("the chip's next place is below B", chip::next_exists),
+    ("no record is in the chip twice", chip::no_record_twice),
+    ("an empty place of the chip holds zeros", chip::empty_bare),
+    ("a copy's record is live, and its words equal the record's", chip::copies_live),
 ];
 
 /// All rules by name.

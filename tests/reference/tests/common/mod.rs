@@ -38,6 +38,12 @@ pub fn does(keeper: &mut Keeper, kind: u32, values: &[u32]) -> u32 {
     answer.result
 }
 
+/// A design at rest loses its copies in the chip, so that a fault on a page of it begins a read.
+pub fn copies_go(keeper: &mut Keeper, slot: u32) {
+    does(keeper, 0x04, &[slot]);
+    does(keeper, 0x03, &[slot]);
+}
+
 /// An event that is refused, and changes nothing.
 pub fn refuses(keeper: &mut Keeper, kind: u32, values: &[u32], number: u32) {
     let before = keeper.clone();

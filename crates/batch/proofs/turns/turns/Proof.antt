@@ -13,25 +13,31 @@ use Rattle.batch.proofs.turns.turns.Tie as tie
 
 -- the tables, in the order in which they are lent: the frames w, then a to u, with the highest number v, and the parents p, which stay
 abbrev Inv-loop : tie.InvT-loop
-Inv-loop z n requests answers₀ w₀ a₀ b₀ c₀ d₀ e₀ p v₀ f₀ g₀ h₀ i₀ j₀ k₀ l₀ m₀ o₀ q₀ r₀ u₀ last₀ t₀
-    answers w a b c d e v f g h i j k l m o q r u last t =
+Inv-loop z n requests answers₀ w₀ a₀ b₀ c₀ d₀ e₀ p v₀ f₀ g₀ h₀ i₀ j₀ k₀ l₀ m₀ o₀ q₀ x₀ y₀ s₀ r₀ u₀ last₀ t₀
+    answers w a b c d e v f g h i j k l m o q x y s r u last t =
     (t ≤ n) × Turned z requests answers₀
-    (allOf (take (z .frames) (unpacked w₀)) (last₀ .pool) a₀ b₀ c₀ d₀ e₀ p v₀ f₀ g₀ h₀ i₀ j₀ k₀ l₀ m₀ o₀ q₀ r₀ u₀) t (last .answer) answers
-    (allOf (take (z .frames) (unpacked w)) (last .pool) a b c d e p v f g h i j k l m o q r u)
+    (allOf (take (z .frames) (unpacked w₀)) (last₀ .pool) a₀ b₀ c₀ d₀ e₀ p v₀ f₀ g₀ h₀ i₀ j₀ k₀ l₀ m₀ o₀ q₀ x₀ y₀ s₀ r₀ u₀) t (last .answer) answers
+    (allOf (take (z .frames) (unpacked w)) (last .pool) a b c d e p v f g h i j k l m o q x y s r u)
     × (length w ≡ length w₀) × (t ≡ 0 → last .pool ≡ last₀ .pool) × (t ≡ 1 → last .pool ≡ deposited (last .deposited) (taken z (last .taken) (last₀ .pool)))
 
 abbrev μ-loop : tie.MeasureT-loop
-μ-loop z n requests answers₀ w₀ a₀ b₀ c₀ d₀ e₀ p v₀ f₀ g₀ h₀ i₀ j₀ k₀ l₀ m₀ o₀ q₀ r₀ u₀ last₀ t₀
-    answers w a b c d e v f g h i j k l m o q r u last t = n - t
+μ-loop z n requests answers₀ w₀ a₀ b₀ c₀ d₀ e₀ p v₀ f₀ g₀ h₀ i₀ j₀ k₀ l₀ m₀ o₀ q₀ x₀ y₀ s₀ r₀ u₀ last₀ t₀
+    answers w a b c d e v f g h i j k l m o q x y s r u last t = n - t
 
 -- from the loop back to the start; from the call, from what follows it and from the end back to the loop
 abbrev start : tie.At-loop Inv-loop μ-loop → tie.Start Inv-loop μ-loop
 start l = search
 
-abbrev turning : tie.After-turn Inv-loop μ-loop → tie.In-loop Inv-loop μ-loop
-turning c = search
+abbrev half : tie.After-turn Inv-loop μ-loop → tie.After-turn-arg16 Inv-loop μ-loop
+half c = search
 
-abbrev turned : tie.After-slice-known40 Inv-loop μ-loop → tie.After-turn Inv-loop μ-loop
+abbrev first : tie.After-turn-arg16 Inv-loop μ-loop → tie.In-loop Inv-loop μ-loop
+first h = search
+
+abbrev turning : tie.After-turn Inv-loop μ-loop → tie.In-loop Inv-loop μ-loop
+turning c = first (half c)
+
+abbrev turned : tie.After-slice-known46 Inv-loop μ-loop → tie.After-turn Inv-loop μ-loop
 turned c = search
 
 abbrev looped : tie.After-loop Inv-loop μ-loop → tie.At-loop Inv-loop μ-loop
@@ -102,6 +108,9 @@ turns-spec =
     (λ c. let k = start (looped c) .pre .2 in turned-kept k (looped c .loop .inv .1) .fits .memory .active ∙ sym (k .fits .memory .active))
     (λ c. let k = start (looped c) .pre .2 in turned-kept k (looped c .loop .inv .1) .fits .memory .updating ∙ sym (k .fits .memory .updating))
     (λ c. let k = start (looped c) .pre .2 in turned-kept k (looped c .loop .inv .1) .fits .memory .images ∙ sym (k .fits .memory .images))
+    (λ c. let k = start (looped c) .pre .2 in turned-kept k (looped c .loop .inv .1) .chip .words ∙ sym (k .chip .words))
+    (λ c. let k = start (looped c) .pre .2 in turned-kept k (looped c .loop .inv .1) .chip .copies ∙ sym (k .chip .copies))
+    (λ c. let k = start (looped c) .pre .2 in turned-kept k (looped c .loop .inv .1) .chip .next ∙ sym (k .chip .next))
     (λ c. let k = start (looped c) .pre .2 in turned-kept k (looped c .loop .inv .1) .fits .memory .line ∙ sym (k .fits .memory .line))
     (λ c. let k = start (looped c) .pre .2 in turned-kept k (looped c .loop .inv .1) .fits .memory .used ∙ sym (k .fits .memory .used))
     returns)

@@ -23,7 +23,7 @@ returns c =
     let a = start k .args in
     part-looked (a .sizes)
     (allGiven (framesOf (a .frames) (a .lent)) (a .pool) (a .records) (a .numbers) (a .accounts) (a .maps) (a .limits) (a .parents) (a .highest) (a .frame-words) (a .free-queue) (a .removal-list)
-    (a .addresses) (a .states) (a .owners) (a .free-map) (a .active) (a .updating) (a .images) (a .line) (a .used))
+    (a .addresses) (a .states) (a .owners) (a .free-map) (a .active) (a .updating) (a .images) (a .chip-words) (a .chip-records) (a .chip-next) (a .line) (a .used))
     (a .slot) (a .page) (k .place-core .result) (a .frame-words .ptr) (k .place-core .ensures .0)
 
 pub look-core-spec : {M : Type 1} → statement M

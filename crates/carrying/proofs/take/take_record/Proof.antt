@@ -45,13 +45,26 @@ move-record-requires c κs =
     let a = s .args in
     rw (told k) (chosen-may (a .sizes) (a .hand) (a .last) (a .states .now) (a .map .now) (s .pre .1))
 
+-- from what is done last back to the start
+abbrev moved : tie.After-put8 → tie.After-move-record
+moved o = search
+
+abbrev cleared : tie.After-move-record → tie.After-clear-mark
+cleared p = search
+
+abbrev chosen : tie.After-clear-mark → tie.After-choose
+chosen m = search
+
+abbrev start : tie.After-choose → tie.Start
+start k = search
+
 returns : tie.Need-returns
 returns c =
-    let s : tie.Start = search in
-    let k : tie.After-choose = search in
-    let m : tie.After-clear-mark = search in
-    let p : tie.After-move-record = search in
     let o : tie.After-put8 = search in
+    let p = moved o in
+    let m = cleared p in
+    let k = chosen m in
+    let s = start k in
     let a = s .args in
     let e = told k in
     let filed = p .move-record .ensures ∙ ap (λ (n : ℕ). set (a .states .now) n FILED) e in (

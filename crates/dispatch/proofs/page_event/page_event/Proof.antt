@@ -45,35 +45,35 @@ returns : tie.Need-returns
 unfolding taken deposited
 returns c =
     let k : tie.After-fault = search in let m : tie.After-event = search in
-    let d = k .fault .ensures in rw (m .event .given .1, d .1 .0) (fault-own _ _ (start m .pre) _ _ _ (fault-left (d .1 .1)) (d .0))
+    let d = k .fault .ensures in rw (m .event .given .1, d .1 .0) (fault-own _ _ (start m .pre) _ _ _ (fault-left (d .1 .1 .1)) (d .0), d .1 .1 .0)
 
 returns-2 : tie.Need-returns-2
 unfolding taken deposited
 returns-2 c =
     let m : tie.After-event2 = search in
     let k : tie.After-read = search in
-    let d = k .read .ensures in rw (m .event2 .given .1, c .told .ensures) (read-own _ _ _ _ _ (d .0) (d .1))
+    let d = k .read .ensures in rw (m .event2 .given .1, c .told .ensures) (read-own _ _ _ _ _ (d .0) (d .1), refl)
 
 returns-3 : tie.Need-returns-3
 unfolding taken deposited
 returns-3 c =
     let m : tie.After-event3 = search in
     let k : tie.After-write = search in
-    let d = k .write .ensures in rw (m .event3 .given .1, c .told2 .ensures) (write-own _ _ (start3 m .pre) _ _ _ _ (d .0) (d .1 .0) (d .1 .1 .0) (d .1 .1 .1))
+    let d = k .write .ensures in rw (m .event3 .given .1, c .told2 .ensures) (write-own _ _ (start3 m .pre) _ _ _ _ (d .0) (d .1 .0) (d .1 .1 .0) (d .1 .1 .1), refl)
 
 returns-4 : tie.Need-returns-4
 unfolding taken deposited
 returns-4 c =
     let m : tie.After-event4 = search in
     let k : tie.After-wire = search in
-    let d = k .wire .ensures in rw (m .event4 .given .1, c .told3 .ensures) (wire-own _ _ _ _ (d .0) (d .1 .0) (d .1 .1))
+    let d = k .wire .ensures in rw (m .event4 .given .1, c .told3 .ensures) (wire-own _ _ _ _ (d .0) (d .1 .0) (d .1 .1), refl)
 
 returns-5 : tie.Need-returns-5
 unfolding taken deposited
 returns-5 c =
     let m : tie.After-event5 = search in
     let k : tie.After-unwire = search in
-    let d = k .unwire .ensures in rw (m .event5 .given .1, c .told4 .ensures) (unwire-own _ _ _ _ (d .0) (d .1 .0) (d .1 .1))
+    let d = k .unwire .ensures in rw (m .event5 .given .1, c .told4 .ensures) (unwire-own _ _ _ _ (d .0) (d .1 .0) (d .1 .1), refl)
 
 pub page-event-spec : {M : Type 1} → statement M
 page-event-spec =

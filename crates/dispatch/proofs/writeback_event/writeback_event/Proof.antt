@@ -4,7 +4,8 @@ use mathlib.Core.Path.{refl}
 use Rattle.writeback.proofs.ClaimLaws.{claim-ready}
 use Rattle.writeback.proofs.Ready.{done-ready, map-ready, update-ready}
 use Rattle.writeback.proofs.TruncateLaws.{truncate-ready}
-use Rattle.dispatch.proofs.WritebackLaws.{claim-own, update-own, page-done-own, map-done-own, truncate-own}
+use Rattle.model.specs.Laws.Nulled.{nulledBy}
+use Rattle.dispatch.proofs.WritebackLaws.{claim-own, claim-nulls, update-own, page-done-own, map-done-own, truncate-own}
 use Rattle.model.specs.Pool.{taken, deposited}
 use Rattle.dispatch.proofs.writeback_event.writeback_event.Statement.{statement}
 use Rattle.dispatch.proofs.writeback_event.writeback_event.Tie as tie
@@ -44,31 +45,31 @@ returns : tie.Need-returns
 unfolding taken deposited
 returns c =
     let k : tie.After-claim = search in let m : tie.After-enum-told = search in
-    let d = k .claim .ensures in rw (m .enum-told .given .1, c .told .ensures) (claim-own _ _ (start-told m .pre) d)
+    let d = k .claim .ensures in rw (m .enum-told .given .1, c .claimed .ensures) (claim-own _ _ (start-told m .pre) (d .1), claim-nulls _ _ (start-told m .pre) (d .0))
 
 returns-2 : tie.Need-returns-2
-unfolding taken deposited
+unfolding taken deposited nulledBy
 returns-2 c =
     let k : tie.After-truncate = search in let m : tie.After-event = search in
-    let d = k .truncate .ensures in rw (m .event .given .1, c .told2 .ensures) (truncate-own _ _ (start m .pre) _ _ d)
+    let d = k .truncate .ensures in rw (m .event .given .1, c .told .ensures) (truncate-own _ _ (start m .pre) _ _ d, refl)
 
 returns-3 : tie.Need-returns-3
-unfolding taken deposited
+unfolding taken deposited nulledBy
 returns-3 c =
     let k : tie.After-update = search in let m : tie.After-event2 = search in
-    let d = k .update .ensures in rw (m .event2 .given .1, c .told3 .ensures) (update-own _ _ (start2 m .pre) _ d)
+    let d = k .update .ensures in rw (m .event2 .given .1, c .told2 .ensures) (update-own _ _ (start2 m .pre) _ d, refl)
 
 returns-4 : tie.Need-returns-4
-unfolding taken deposited
+unfolding taken deposited nulledBy
 returns-4 c =
     let k : tie.After-page-done = search in let m : tie.After-event3 = search in
-    let d = k .page-done .ensures in rw (m .event3 .given .1, c .told4 .ensures) (page-done-own _ _ (start3 m .pre) _ _ d)
+    let d = k .page-done .ensures in rw (m .event3 .given .1, c .told3 .ensures) (page-done-own _ _ (start3 m .pre) _ _ d, refl)
 
 returns-5 : tie.Need-returns-5
-unfolding taken
+unfolding taken nulledBy
 returns-5 c =
     let k : tie.After-map-done = search in let m : tie.After-event4 = search in
-    let d = k .map-done .ensures in rw (m .event4 .given .1, c .freed .ensures) (map-done-own _ _ (start4 m .pre) _ _ (k .map-done .result .deposited) d)
+    let d = k .map-done .ensures in rw (m .event4 .given .1, c .freed .ensures) (map-done-own _ _ (start4 m .pre) _ _ (k .map-done .result .deposited) d, refl)
 
 pub writeback-event-spec : {M : Type 1} → statement M
 writeback-event-spec =

@@ -50,7 +50,7 @@ use Rattle.model.proofs.applied.Pooled as TO
 use Rattle.model.proofs.applied.Pooled.Laws as TO′
 use Rattle.keeper.specs.Copies.{loaded, saved}
 use Rattle.keeper.proofs.Row.{F}
-use Rattle.keeper.proofs.Shapes.{EachTable, tables-vals, tables-row, table-val, tokens, anew, mut, shr, goes-value, goes-gave, goes-seen}
+use Rattle.keeper.proofs.Shapes.{EachTable, each-vals, tables-vals, tables-row, table-val, tokens, anew, mut, shr, goes-value, goes-gave, goes-seen}
 use Rattle.keeper.proofs.Row64.{F64, typed64}
 use Rattle.keeper.proofs.ByValue.{Z, sizes-val, sizes-vals, sizes-tells, typed-sizes}
 use Rattle.keeper.proofs.Shared.{SharedAgain, shares-again, comes-home}
@@ -73,16 +73,16 @@ use Rattle.keeper.proofs.apply_all.keeper_apply_all.Statement as stated
 use Rattle.keeper.proofs.apply_all.keeper_apply_all.Code as code
 use Rattle.keeper.proofs.ListEnds.{stayed, Core, Lasts, Fin, Left, Post, exits, to-core, goes-core, core-of}
 
-abbrev Types : Lfts 23 → List RattleType
+abbrev Types : Lfts 26 → List RattleType
 Types κs = typesAt (fn.signature .params) κs
 
 module _ {M : Type 1} (𝓤 : URA M) (H : Heap 𝓤) (A : Atoms 𝓤) (W : Given 𝓤 H A) (at-mem : Memory → SProp 𝓤) (run : Routine → Fun 𝓤)
     (C : Calls 𝓤 H) (Λ : Loops 𝓤 H) (fm : FmC 𝓤 H (W .laws) C)
     (known-load : Triple 𝓤 (C #load) (Load 𝓤 H A at-mem run)) (known-core : Triple 𝓤 (C #core) (Core 𝓤 H A at-mem run)) (known-save : Triple 𝓤 (C #save) (Save 𝓤 H A at-mem run)) (known-renew : Triple 𝓤 (C #renew) (Renew 𝓤 H A at-mem run))
-    (κ0 : Lft) (q0 : Share) (κ1 : Lft) (q1 : Share) (κ2 : Lft) (q2 : Share) (κ3 : Lft) (q3 : Share) (κs : Lfts 19) (qs : Shares 19)
+    (κ0 : Lft) (q0 : Share) (κ1 : Lft) (q1 : Share) (κ2 : Lft) (q2 : Share) (κ3 : Lft) (q3 : Share) (κs : Lfts 22) (qs : Shares 22)
     (z : Sizes) (x0 x1 : RefT (List ℕ)) (xf : RefT (List Frame)) (xp : RefT Pool) (xs : EachTable (RefT (List ℕ))) where
   -- the lifetimes, the parameters, and their machine values
-  abbrev κa : Lfts 23
+  abbrev κa : Lfts 26
   κa = (κ0, (κ1, (κ2, (κ3, κs))))
 
   abbrev xa : Sizes × (RefT (List ℕ) × (RefT (List ℕ) × (RefT (List Frame) × (RefT Pool × EachTable (RefT (List ℕ))))))
@@ -95,7 +95,7 @@ module _ {M : Type 1} (𝓤 : URA M) (H : Heap 𝓤) (A : Atoms 𝓤) (W : Given
     walk : ent 𝓤 (onEntry 𝓤 H A fn.signature κa (q0, (q1, (q2, (q3, qs)))) xa va)
         (WpFn 𝓤 H C Λ code.function (sizes-val z ∷ table-val x0 ∷ table-val x1 ∷ frames-val xf ∷ pool-ptr xp ∷ tables-row xs) (Post 𝓤 H A W at-mem run κ0 q0 κ1 q1 κ2 q2 κ3 q3 κs qs z x0 x1 xf xp xs))
     walk =
-        qed W ((‵ (flft κ0 q0) ⊛ (‵ (flft κ1 q1) ⊛ (‵ (flft κ2 q2) ⊛ (‵ (flft κ3 q3) ⊛ tokens 𝓤 19 κs qs)))) ∷ ‵ (owns (Types κa) xa va) ∷ []) ∵
+        qed W ((‵ (flft κ0 q0) ⊛ (‵ (flft κ1 q1) ⊛ (‵ (flft κ2 q2) ⊛ (‵ (flft κ3 q3) ⊛ tokens 𝓤 22 κs qs)))) ∷ ‵ (owns (Types κa) xa va) ∷ []) ∵
         -- the tokens of requests and answers to those of the tables
         split ! $ move ! (1 ∷ []) $ split ! $ move ! (1 ∷ []) $ split ! $ move ! (1 ∷ []) $ split ! $ move ! (3 ∷ 1 ∷ []) $ join ! $ move ! (3 ∷ 0 ∷ []) $ join ! $
         -- and what they own
@@ -109,129 +109,140 @@ module _ {M : Type 1} (𝓤 : URA M) (H : Heap 𝓤) (A : Atoms 𝓤) (W : Given
         alloc1 ! (λ l34. alloc1 ! (λ l35. alloc1 ! (λ l36. alloc1 ! (λ l37. alloc1 ! (λ l38. alloc1 ! (λ l39. alloc1 ! (λ l40. alloc1 ! (λ l41. alloc1 ! (λ l42. alloc1 ! (λ l43. alloc1 ! (λ l44.
         alloc1 ! (λ l45. alloc1 ! (λ l46. alloc1 ! (λ l47. alloc1 ! (λ l48. alloc1 ! (λ l49. alloc1 ! (λ l50. alloc1 ! (λ l51. alloc1 ! (λ l52. alloc1 ! (λ l53. alloc1 ! (λ l54. alloc1 ! (λ l55.
         alloc1 ! (λ l56. alloc1 ! (λ l57. alloc1 ! (λ l58. alloc1 ! (λ l59. alloc1 ! (λ l60. alloc1 ! (λ l61. alloc1 ! (λ l62. alloc1 ! (λ l63. alloc1 ! (λ l64. alloc1 ! (λ l65. alloc1 ! (λ l66.
-        alloc1 ! (λ l67. alloc1 ! (λ l68. alloc1 ! (λ l69. alloc1 ! (λ l70. alloc1 ! (λ l71. alloc1 ! (λ l72. alloc0 ! $ params1 ! $
-        pass1 ! (init ! 142 refl (typed-sizes 𝓤 H A W z (are .0))) $ pass1 ! (init ! 140 refl (tt, (tt, (record { fits = are .1 .0 .0 .1 .0 }, tt)))) $ pass1 ! (init ! 138 refl
-        (tt, (tt, (record { fits = are .1 .1 .0 .0 .1 .0 }, tt)))) $ pass1 ! (init ! 136 refl (tt, (tt, (record { fits = are .1 .1 .1 .0 .0 .1 .0 }, tt)))) $ pass1 ! (init ! 134 refl (tt, tt)) $ pass1
-        ! (init ! 132 refl (tt, (tt, (record { fits = are .1 .1 .1 .1 .1 .0 .0 .1 .0 }, tt)))) $ pass1 ! (init ! 130 refl (tt, (tt, (record { fits = are .1 .1 .1 .1 .1 .1 .0 .0 .1 .0 }, tt)))) $ pass1
-        ! (init ! 128 refl (tt, (tt, (record { fits = are .1 .1 .1 .1 .1 .1 .1 .0 .0 .1 .0 }, tt)))) $ pass1 ! (init ! 126 refl
-        (tt, (tt, (record { fits = are .1 .1 .1 .1 .1 .1 .1 .1 .0 .0 .1 .0 }, tt)))) $ pass1 ! (init ! 124 refl (tt, (tt, (record { fits = are .1 .1 .1 .1 .1 .1 .1 .1 .1 .0 .0 .1 .0 }, tt)))) $ pass1
-        ! (init ! 122 refl (tt, (tt, (record { fits = are .1 .1 .1 .1 .1 .1 .1 .1 .1 .1 .0 .0 .1 .0 }, tt)))) $ pass1 ! (init ! 120 refl
-        (tt, (tt, (record { fits = are .1 .1 .1 .1 .1 .1 .1 .1 .1 .1 .1 .0 .0 .1 .0 }, tt)))) $ pass1 ! (init ! 118 refl
-        (tt, (tt, (record { fits = are .1 .1 .1 .1 .1 .1 .1 .1 .1 .1 .1 .1 .0 .0 .1 .0 }, tt)))) $ pass1 ! (init ! 116 refl
-        (tt, (tt, (record { fits = are .1 .1 .1 .1 .1 .1 .1 .1 .1 .1 .1 .1 .1 .0 .0 .1 .0 }, tt)))) $ pass1 ! (init ! 114 refl
-        (tt, (tt, (record { fits = are .1 .1 .1 .1 .1 .1 .1 .1 .1 .1 .1 .1 .1 .1 .0 .0 .1 .0 }, tt)))) $ pass1 ! (init ! 112 refl
-        (tt, (tt, (record { fits = are .1 .1 .1 .1 .1 .1 .1 .1 .1 .1 .1 .1 .1 .1 .1 .0 .0 .1 .0 }, tt)))) $ pass1 ! (init ! 110 refl
-        (tt, (tt, (record { fits = are .1 .1 .1 .1 .1 .1 .1 .1 .1 .1 .1 .1 .1 .1 .1 .1 .0 .0 .1 .0 }, tt)))) $ pass1 ! (init ! 108 refl
-        (tt, (tt, (record { fits = are .1 .1 .1 .1 .1 .1 .1 .1 .1 .1 .1 .1 .1 .1 .1 .1 .1 .0 .0 .1 .0 }, tt)))) $ pass1 ! (init ! 106 refl
-        (tt, (tt, (record { fits = are .1 .1 .1 .1 .1 .1 .1 .1 .1 .1 .1 .1 .1 .1 .1 .1 .1 .1 .0 .0 .1 .0 }, tt)))) $ pass1 ! (init ! 104 refl
-        (tt, (tt, (record { fits = are .1 .1 .1 .1 .1 .1 .1 .1 .1 .1 .1 .1 .1 .1 .1 .1 .1 .1 .1 .0 .0 .1 .0 }, tt)))) $ pass1 ! (init ! 102 refl
-        (tt, (tt, (record { fits = are .1 .1 .1 .1 .1 .1 .1 .1 .1 .1 .1 .1 .1 .1 .1 .1 .1 .1 .1 .1 .0 .0 .1 .0 }, tt)))) $ pass1 ! (init ! 100 refl
-        (tt, (tt, (record { fits = are .1 .1 .1 .1 .1 .1 .1 .1 .1 .1 .1 .1 .1 .1 .1 .1 .1 .1 .1 .1 .1 .0 .0 .1 .0 }, tt)))) $ pass1 ! (init ! 98 refl
-        (tt, (tt, (record { fits = are .1 .1 .1 .1 .1 .1 .1 .1 .1 .1 .1 .1 .1 .1 .1 .1 .1 .1 .1 .1 .1 .1 .0 .0 .1 .0 }, tt)))) $ pass1 ! (init ! 96 refl
-        (tt, (tt, (record { fits = are .1 .1 .1 .1 .1 .1 .1 .1 .1 .1 .1 .1 .1 .1 .1 .1 .1 .1 .1 .1 .1 .1 .1 .0 .0 .1 .0 }, tt)))) $ pass0 ! $
-        -- [_72 at 0; …; _i at 2 · (72 − i); …; what frames owns; …]
-        assigns ! (of-opd ! (load ! (from ! (fld ! refl (stop !))) (look-in ! 136 (sub ! 1 refl (whole !))))) (from ! (stop !)) (init ! 94 refl (tt, record { fits = are .1 .1 .1 .0 .0 .1 .0 })) $
-        reborrows ! 136 86 84 refl (sub ! 0 refl (whole !)) refl (tt, tt) refl refl (sub ! 1 refl (whole !)) refl (tt, (tt, (record { fits = are .1 .1 .1 .0 .0 .1 .0 }, tt))) $
+        alloc1 ! (λ l67. alloc1 ! (λ l68. alloc1 ! (λ l69. alloc1 ! (λ l70. alloc1 ! (λ l71. alloc1 ! (λ l72. alloc1 ! (λ l73. alloc1 ! (λ l74. alloc1 ! (λ l75. alloc1 ! (λ l76. alloc1 ! (λ l77.
+        alloc1 ! (λ l78. alloc1 ! (λ l79. alloc1 ! (λ l80. alloc1 ! (λ l81. alloc0 ! $ params1 ! $
+        pass1 ! (init ! 160 refl (typed-sizes 𝓤 H A W z (are .0))) $ pass1 ! (init ! 158 refl (tt, (tt, (record { fits = are .1 .0 .0 .1 .0 }, tt)))) $ pass1 ! (init ! 156 refl
+        (tt, (tt, (record { fits = are .1 .1 .0 .0 .1 .0 }, tt)))) $ pass1 ! (init ! 154 refl (tt, (tt, (record { fits = are .1 .1 .1 .0 .0 .1 .0 }, tt)))) $ pass1 ! (init ! 152 refl (tt, tt)) $ pass1
+        ! (init ! 150 refl (tt, (tt, (record { fits = are .1 .1 .1 .1 .1 .0 .0 .1 .0 }, tt)))) $ pass1 ! (init ! 148 refl (tt, (tt, (record { fits = are .1 .1 .1 .1 .1 .1 .0 .0 .1 .0 }, tt)))) $ pass1
+        ! (init ! 146 refl (tt, (tt, (record { fits = are .1 .1 .1 .1 .1 .1 .1 .0 .0 .1 .0 }, tt)))) $ pass1 ! (init ! 144 refl
+        (tt, (tt, (record { fits = are .1 .1 .1 .1 .1 .1 .1 .1 .0 .0 .1 .0 }, tt)))) $ pass1 ! (init ! 142 refl (tt, (tt, (record { fits = are .1 .1 .1 .1 .1 .1 .1 .1 .1 .0 .0 .1 .0 }, tt)))) $ pass1
+        ! (init ! 140 refl (tt, (tt, (record { fits = are .1 .1 .1 .1 .1 .1 .1 .1 .1 .1 .0 .0 .1 .0 }, tt)))) $ pass1 ! (init ! 138 refl
+        (tt, (tt, (record { fits = are .1 .1 .1 .1 .1 .1 .1 .1 .1 .1 .1 .0 .0 .1 .0 }, tt)))) $ pass1 ! (init ! 136 refl
+        (tt, (tt, (record { fits = are .1 .1 .1 .1 .1 .1 .1 .1 .1 .1 .1 .1 .0 .0 .1 .0 }, tt)))) $ pass1 ! (init ! 134 refl
+        (tt, (tt, (record { fits = are .1 .1 .1 .1 .1 .1 .1 .1 .1 .1 .1 .1 .1 .0 .0 .1 .0 }, tt)))) $ pass1 ! (init ! 132 refl
+        (tt, (tt, (record { fits = are .1 .1 .1 .1 .1 .1 .1 .1 .1 .1 .1 .1 .1 .1 .0 .0 .1 .0 }, tt)))) $ pass1 ! (init ! 130 refl
+        (tt, (tt, (record { fits = are .1 .1 .1 .1 .1 .1 .1 .1 .1 .1 .1 .1 .1 .1 .1 .0 .0 .1 .0 }, tt)))) $ pass1 ! (init ! 128 refl
+        (tt, (tt, (record { fits = are .1 .1 .1 .1 .1 .1 .1 .1 .1 .1 .1 .1 .1 .1 .1 .1 .0 .0 .1 .0 }, tt)))) $ pass1 ! (init ! 126 refl
+        (tt, (tt, (record { fits = are .1 .1 .1 .1 .1 .1 .1 .1 .1 .1 .1 .1 .1 .1 .1 .1 .1 .0 .0 .1 .0 }, tt)))) $ pass1 ! (init ! 124 refl
+        (tt, (tt, (record { fits = are .1 .1 .1 .1 .1 .1 .1 .1 .1 .1 .1 .1 .1 .1 .1 .1 .1 .1 .0 .0 .1 .0 }, tt)))) $ pass1 ! (init ! 122 refl
+        (tt, (tt, (record { fits = are .1 .1 .1 .1 .1 .1 .1 .1 .1 .1 .1 .1 .1 .1 .1 .1 .1 .1 .1 .0 .0 .1 .0 }, tt)))) $ pass1 ! (init ! 120 refl
+        (tt, (tt, (record { fits = are .1 .1 .1 .1 .1 .1 .1 .1 .1 .1 .1 .1 .1 .1 .1 .1 .1 .1 .1 .1 .0 .0 .1 .0 }, tt)))) $ pass1 ! (init ! 118 refl
+        (tt, (tt, (record { fits = are .1 .1 .1 .1 .1 .1 .1 .1 .1 .1 .1 .1 .1 .1 .1 .1 .1 .1 .1 .1 .1 .0 .0 .1 .0 }, tt)))) $ pass1 ! (init ! 116 refl
+        (tt, (tt, (record { fits = are .1 .1 .1 .1 .1 .1 .1 .1 .1 .1 .1 .1 .1 .1 .1 .1 .1 .1 .1 .1 .1 .1 .0 .0 .1 .0 }, tt)))) $ pass1 ! (init ! 114 refl
+        (tt, (tt, (record { fits = are .1 .1 .1 .1 .1 .1 .1 .1 .1 .1 .1 .1 .1 .1 .1 .1 .1 .1 .1 .1 .1 .1 .1 .0 .0 .1 .0 }, tt)))) $ pass1 ! (init ! 112 refl
+        (tt, (tt, (record { fits = are .1 .1 .1 .1 .1 .1 .1 .1 .1 .1 .1 .1 .1 .1 .1 .1 .1 .1 .1 .1 .1 .1 .1 .1 .0 .0 .1 .0 }, tt)))) $ pass1 ! (init ! 110 refl
+        (tt, (tt, (record { fits = are .1 .1 .1 .1 .1 .1 .1 .1 .1 .1 .1 .1 .1 .1 .1 .1 .1 .1 .1 .1 .1 .1 .1 .1 .1 .0 .0 .1 .0 }, tt)))) $ pass1 ! (init ! 108 refl
+        (tt, (tt, (record { fits = are .1 .1 .1 .1 .1 .1 .1 .1 .1 .1 .1 .1 .1 .1 .1 .1 .1 .1 .1 .1 .1 .1 .1 .1 .1 .1 .0 .0 .1 .0 }, tt)))) $ pass0 ! $
+        -- [_81 at 0; …; _i at 2 · (81 − i); …; what frames owns; …]
+        assigns ! (of-opd ! (load ! (from ! (fld ! refl (stop !))) (look-in ! 154 (sub ! 1 refl (whole !))))) (from ! (stop !)) (init ! 106 refl (tt, record { fits = are .1 .1 .1 .0 .0 .1 .0 })) $
+        reborrows ! 154 98 96 refl (sub ! 0 refl (whole !)) refl (tt, tt) refl refl (sub ! 1 refl (whole !)) refl (tt, (tt, (record { fits = are .1 .1 .1 .0 .0 .1 .0 }, tt))) $
         -- `load`: frames is lent as a `&` for a lifetime ν of the call
-        lft-new ! tt (λ ν. move ! (147 ∷ 148 ∷ []) $
+        lft-new ! tt (λ ν. move ! (165 ∷ 166 ∷ []) $
         use2 W (later (some (λ (δ : GName). ‵ (ShrSlice (named 0) (ν ∷ []) F .own (anew xf δ (now xf)) (frames-val xf ∷ [])) ⊛ ‵ (SharedAgain F κ2 (ν ∷ []) q2 (name xf) (ptr xf .0) (ptr xf .1) (now xf))))) (shares-again F κ2 (ν ∷ []) q2 (name xf) (ptr xf .0) (ptr xf .1) 𝓤 H A W (named 0) (named 0) (now xf)) $ await ! tt $ pick ! (λ δ. split ! $
         move ! (2 ∷ 0 ∷ []) $ use2 W (raw (Load 𝓤 H A at-mem run .pre (to-load 𝓤 H A at-mem run (ν ∷ []) fullShare (anew xf δ (now xf))))) (goes-load 𝓤 H A at-mem run W (ν ∷ []) fullShare (anew xf δ (now xf))) $
-        calls-at ! fm (Load 𝓤 H A at-mem run) known-load (to-load 𝓤 H A at-mem run (ν ∷ []) fullShare (anew xf δ (now xf))) (and-then ! (load ! (from ! (stop !)) (look ! 86 refl)) (no-more !)) (λ v.
+        calls-at ! fm (Load 𝓤 H A at-mem run) known-load (to-load 𝓤 H A at-mem run (ν ∷ []) fullShare (anew xf δ (now xf))) (and-then ! (load ! (from ! (stop !)) (look ! 98 refl)) (no-more !)) (λ v.
         use1 W (later (some (λ (r : List Frame). ((‵ (flft (ν ∷ []) fullShare) ⊛ ‵ ftrue) ⊛ ‵ (F64 .own r (v ∷ []))) ⊛ raw (ensured 𝓤 H A load′.ended (load′.clauses 𝓤 H A at-mem run) (ν ∷ [], tt) (anew xf δ (now xf), tt) tt r)))) (id⊢ 𝓤 _) $ await ! tt $ pick ! (λ r.
         split ! $ move ! (1 ∷ []) $ use1 W (raw (fact 𝓤 (r ≡ loaded (now xf)))) (load-of 𝓤 H A at-mem run (ν ∷ []) (anew xf δ (now xf)) r) $ heard ! (r ≡ loaded (now xf)) (λ eq. split ! $ rewrite ! 1 (λ (l : List Frame). ‵ (F64 .own l (v ∷ []))) eq refl $
         move ! (1 ∷ []) $ peeks ! F64 (Is F64) (shows 𝓤 H A F64) (loaded (now xf)) (v ∷ []) (λ is-a. drop ! $
-        land ! (from ! (stop !)) (init ! 94 refl (typed64 𝓤 H A W (loaded (now xf)) v is-a)) $
+        land ! (from ! (stop !)) (init ! 106 refl (typed64 𝓤 H A W (loaded (now xf)) v is-a)) $
         split ! $ lft-end ! tt $ move ! (0 ∷ 2 ∷ []) $ use2 W (later (‵ (MutSlice (named 0) κ2 F .own xf (frames-val xf ∷ [])) ⊛ ‵ (flft κ2 q2))) (comes-home F κ2 (ν ∷ []) q2 (name xf) (ptr xf .0) (ptr xf .1) 𝓤 H A W (named 0) (named 0) (now xf) (are .1 .1 .1 .0 .0 .1)) $ await ! tt $ split ! $
         -- the pool is copied: its borrow is opened, and closed at the same struct
-        move ! (149 ∷ 150 ∷ []) $ fsplit3 ! $ drop ! $ opens ! tt P {h = now xp} (ptr xp .0) (ptr xp .1) (λ vs. spelt ! P (Is P) (shows 𝓤 H A P) (LL.vals TP.the-type TP′.the-laws) (LL.tells TP.the-type TP′.the-laws) fullShare (now xp) vs (ptr xp .0) (ptr xp .1) $
+        move ! (167 ∷ 168 ∷ []) $ fsplit3 ! $ drop ! $ opens ! tt P {h = now xp} (ptr xp .0) (ptr xp .1) (λ vs. spelt ! P (Is P) (shows 𝓤 H A P) (LL.vals TP.the-type TP′.the-laws) (LL.tells TP.the-type TP′.the-laws) fullShare (now xp) vs (ptr xp .0) (ptr xp .1) $
         move ! (1 ∷ []) $ peeks ! P (Is P) (shows 𝓤 H A P) (now xp) (pool-val (now xp) ∷ []) (λ was. move ! (1 ∷ 0 ∷ []) $
-        assigns ! (of-opd ! (load ! (from ! (hop ! (look ! 142 refl) (stop !))) (look-raw ! 0 refl))) (from ! (stop !)) (init ! 98 refl (typed-pool 𝓤 H A W (now xp) (pool-val (now xp)) was)) $
+        assigns ! (of-opd ! (load ! (from ! (hop ! (look ! 160 refl) (stop !))) (look-raw ! 0 refl))) (from ! (stop !)) (init ! 110 refl (typed-pool 𝓤 H A W (now xp) (pool-val (now xp)) was)) $
         closes ! tt P (now xp) (pool-val (now xp) ∷ []) (ptr xp .0) (ptr xp .1) $ feqI ! (List Val) (pool-ptr xp ∷ []) (pool-ptr xp ∷ []) refl $ fjoin3 ! $ nothing ! $ move ! (1 ∷ 2 ∷ 0 ∷ []) $
-        -- [pool; its token; true; frames; its token; true; _72; …]
+        -- [pool; its token; true; frames; its token; true; _81; …]
         -- the slices are reborrowed
-        reborrows ! 144 88 86 refl (sub ! 0 refl (whole !)) refl (tt, tt) refl refl (sub ! 1 refl (whole !)) refl (tt, (tt, (record { fits = are .1 .1 .0 .0 .1 .0 }, tt))) $
-        reborrows ! 138 84 82 refl (sub ! 0 refl (whole !)) refl (tt, tt) refl refl (sub ! 1 refl (whole !)) refl (tt, (tt, (record { fits = are .1 .1 .1 .1 .1 .0 .0 .1 .0 }, tt))) $
-        reborrows ! 136 80 78 refl (sub ! 0 refl (whole !)) refl (tt, tt) refl refl (sub ! 1 refl (whole !)) refl (tt, (tt, (record { fits = are .1 .1 .1 .1 .1 .1 .0 .0 .1 .0 }, tt))) $
-        reborrows ! 134 76 74 refl (sub ! 0 refl (whole !)) refl (tt, tt) refl refl (sub ! 1 refl (whole !)) refl (tt, (tt, (record { fits = are .1 .1 .1 .1 .1 .1 .1 .0 .0 .1 .0 }, tt))) $
-        reborrows ! 132 72 70 refl (sub ! 0 refl (whole !)) refl (tt, tt) refl refl (sub ! 1 refl (whole !)) refl (tt, (tt, (record { fits = are .1 .1 .1 .1 .1 .1 .1 .1 .0 .0 .1 .0 }, tt))) $
-        reborrows ! 130 68 66 refl (sub ! 0 refl (whole !)) refl (tt, tt) refl refl (sub ! 1 refl (whole !)) refl (tt, (tt, (record { fits = are .1 .1 .1 .1 .1 .1 .1 .1 .1 .0 .0 .1 .0 }, tt))) $
-        reborrows ! 126 64 62 refl (sub ! 0 refl (whole !)) refl (tt, tt) refl refl (sub ! 1 refl (whole !)) refl (tt, (tt, (record { fits = are .1 .1 .1 .1 .1 .1 .1 .1 .1 .1 .1 .0 .0 .1 .0 }, tt))) $
-        reborrows ! 124 60 58 refl (sub ! 0 refl (whole !)) refl (tt, tt) refl refl (sub ! 1 refl (whole !)) refl (tt, (tt, (record { fits = are .1 .1 .1 .1 .1 .1 .1 .1 .1 .1 .1 .1 .0 .0 .1 .0 }, tt))) $
-        reborrows ! 122 56 54 refl (sub ! 0 refl (whole !)) refl (tt, tt) refl refl (sub ! 1 refl (whole !)) refl (tt, (tt, (record { fits = are .1 .1 .1 .1 .1 .1 .1 .1 .1 .1 .1 .1 .1 .0 .0 .1 .0 }, tt))) $
-        reborrows ! 120 52 50 refl (sub ! 0 refl (whole !)) refl (tt, tt) refl refl (sub ! 1 refl (whole !)) refl (tt, (tt, (record { fits = are .1 .1 .1 .1 .1 .1 .1 .1 .1 .1 .1 .1 .1 .1 .0 .0 .1 .0 }, tt))) $
-        reborrows ! 118 48 46 refl (sub ! 0 refl (whole !)) refl (tt, tt) refl refl (sub ! 1 refl (whole !)) refl (tt, (tt, (record { fits = are .1 .1 .1 .1 .1 .1 .1 .1 .1 .1 .1 .1 .1 .1 .1 .0 .0 .1 .0 }, tt))) $
-        reborrows ! 116 44 42 refl (sub ! 0 refl (whole !)) refl (tt, tt) refl refl (sub ! 1 refl (whole !)) refl (tt, (tt, (record { fits = are .1 .1 .1 .1 .1 .1 .1 .1 .1 .1 .1 .1 .1 .1 .1 .1 .0 .0 .1 .0 }, tt))) $
-        reborrows ! 114 40 38 refl (sub ! 0 refl (whole !)) refl (tt, tt) refl refl (sub ! 1 refl (whole !)) refl (tt, (tt, (record { fits = are .1 .1 .1 .1 .1 .1 .1 .1 .1 .1 .1 .1 .1 .1 .1 .1 .1 .0 .0 .1 .0 }, tt))) $
-        reborrows ! 112 36 34 refl (sub ! 0 refl (whole !)) refl (tt, tt) refl refl (sub ! 1 refl (whole !)) refl (tt, (tt, (record { fits = are .1 .1 .1 .1 .1 .1 .1 .1 .1 .1 .1 .1 .1 .1 .1 .1 .1 .1 .0 .0 .1 .0 }, tt))) $
-        reborrows ! 110 32 30 refl (sub ! 0 refl (whole !)) refl (tt, tt) refl refl (sub ! 1 refl (whole !)) refl (tt, (tt, (record { fits = are .1 .1 .1 .1 .1 .1 .1 .1 .1 .1 .1 .1 .1 .1 .1 .1 .1 .1 .1 .0 .0 .1 .0 }, tt))) $
-        reborrows ! 108 28 26 refl (sub ! 0 refl (whole !)) refl (tt, tt) refl refl (sub ! 1 refl (whole !)) refl (tt, (tt, (record { fits = are .1 .1 .1 .1 .1 .1 .1 .1 .1 .1 .1 .1 .1 .1 .1 .1 .1 .1 .1 .1 .0 .0 .1 .0 }, tt))) $
-        reborrows ! 106 24 22 refl (sub ! 0 refl (whole !)) refl (tt, tt) refl refl (sub ! 1 refl (whole !)) refl (tt, (tt, (record { fits = are .1 .1 .1 .1 .1 .1 .1 .1 .1 .1 .1 .1 .1 .1 .1 .1 .1 .1 .1 .1 .1 .0 .0 .1 .0 }, tt))) $
-        reborrows ! 104 20 18 refl (sub ! 0 refl (whole !)) refl (tt, tt) refl refl (sub ! 1 refl (whole !)) refl (tt, (tt, (record { fits = are .1 .1 .1 .1 .1 .1 .1 .1 .1 .1 .1 .1 .1 .1 .1 .1 .1 .1 .1 .1 .1 .1 .0 .0 .1 .0 }, tt))) $
-        reborrows ! 102 16 14 refl (sub ! 0 refl (whole !)) refl (tt, tt) refl refl (sub ! 1 refl (whole !)) refl (tt, (tt, (record { fits = are .1 .1 .1 .1 .1 .1 .1 .1 .1 .1 .1 .1 .1 .1 .1 .1 .1 .1 .1 .1 .1 .1 .1 .0 .0 .1 .0 }, tt))) $
+        reborrows ! 162 100 98 refl (sub ! 0 refl (whole !)) refl (tt, tt) refl refl (sub ! 1 refl (whole !)) refl (tt, (tt, (record { fits = are .1 .1 .0 .0 .1 .0 }, tt))) $
+        reborrows ! 156 96 94 refl (sub ! 0 refl (whole !)) refl (tt, tt) refl refl (sub ! 1 refl (whole !)) refl (tt, (tt, (record { fits = are .1 .1 .1 .1 .1 .0 .0 .1 .0 }, tt))) $
+        reborrows ! 154 92 90 refl (sub ! 0 refl (whole !)) refl (tt, tt) refl refl (sub ! 1 refl (whole !)) refl (tt, (tt, (record { fits = are .1 .1 .1 .1 .1 .1 .0 .0 .1 .0 }, tt))) $
+        reborrows ! 152 88 86 refl (sub ! 0 refl (whole !)) refl (tt, tt) refl refl (sub ! 1 refl (whole !)) refl (tt, (tt, (record { fits = are .1 .1 .1 .1 .1 .1 .1 .0 .0 .1 .0 }, tt))) $
+        reborrows ! 150 84 82 refl (sub ! 0 refl (whole !)) refl (tt, tt) refl refl (sub ! 1 refl (whole !)) refl (tt, (tt, (record { fits = are .1 .1 .1 .1 .1 .1 .1 .1 .0 .0 .1 .0 }, tt))) $
+        reborrows ! 148 80 78 refl (sub ! 0 refl (whole !)) refl (tt, tt) refl refl (sub ! 1 refl (whole !)) refl (tt, (tt, (record { fits = are .1 .1 .1 .1 .1 .1 .1 .1 .1 .0 .0 .1 .0 }, tt))) $
+        reborrows ! 144 76 74 refl (sub ! 0 refl (whole !)) refl (tt, tt) refl refl (sub ! 1 refl (whole !)) refl (tt, (tt, (record { fits = are .1 .1 .1 .1 .1 .1 .1 .1 .1 .1 .1 .0 .0 .1 .0 }, tt))) $
+        reborrows ! 142 72 70 refl (sub ! 0 refl (whole !)) refl (tt, tt) refl refl (sub ! 1 refl (whole !)) refl (tt, (tt, (record { fits = are .1 .1 .1 .1 .1 .1 .1 .1 .1 .1 .1 .1 .0 .0 .1 .0 }, tt))) $
+        reborrows ! 140 68 66 refl (sub ! 0 refl (whole !)) refl (tt, tt) refl refl (sub ! 1 refl (whole !)) refl (tt, (tt, (record { fits = are .1 .1 .1 .1 .1 .1 .1 .1 .1 .1 .1 .1 .1 .0 .0 .1 .0 }, tt))) $
+        reborrows ! 138 64 62 refl (sub ! 0 refl (whole !)) refl (tt, tt) refl refl (sub ! 1 refl (whole !)) refl (tt, (tt, (record { fits = are .1 .1 .1 .1 .1 .1 .1 .1 .1 .1 .1 .1 .1 .1 .0 .0 .1 .0 }, tt))) $
+        reborrows ! 136 60 58 refl (sub ! 0 refl (whole !)) refl (tt, tt) refl refl (sub ! 1 refl (whole !)) refl (tt, (tt, (record { fits = are .1 .1 .1 .1 .1 .1 .1 .1 .1 .1 .1 .1 .1 .1 .1 .0 .0 .1 .0 }, tt))) $
+        reborrows ! 134 56 54 refl (sub ! 0 refl (whole !)) refl (tt, tt) refl refl (sub ! 1 refl (whole !)) refl (tt, (tt, (record { fits = are .1 .1 .1 .1 .1 .1 .1 .1 .1 .1 .1 .1 .1 .1 .1 .1 .0 .0 .1 .0 }, tt))) $
+        reborrows ! 132 52 50 refl (sub ! 0 refl (whole !)) refl (tt, tt) refl refl (sub ! 1 refl (whole !)) refl (tt, (tt, (record { fits = are .1 .1 .1 .1 .1 .1 .1 .1 .1 .1 .1 .1 .1 .1 .1 .1 .1 .0 .0 .1 .0 }, tt))) $
+        reborrows ! 130 48 46 refl (sub ! 0 refl (whole !)) refl (tt, tt) refl refl (sub ! 1 refl (whole !)) refl (tt, (tt, (record { fits = are .1 .1 .1 .1 .1 .1 .1 .1 .1 .1 .1 .1 .1 .1 .1 .1 .1 .1 .0 .0 .1 .0 }, tt))) $
+        reborrows ! 128 44 42 refl (sub ! 0 refl (whole !)) refl (tt, tt) refl refl (sub ! 1 refl (whole !)) refl (tt, (tt, (record { fits = are .1 .1 .1 .1 .1 .1 .1 .1 .1 .1 .1 .1 .1 .1 .1 .1 .1 .1 .1 .0 .0 .1 .0 }, tt))) $
+        reborrows ! 126 40 38 refl (sub ! 0 refl (whole !)) refl (tt, tt) refl refl (sub ! 1 refl (whole !)) refl (tt, (tt, (record { fits = are .1 .1 .1 .1 .1 .1 .1 .1 .1 .1 .1 .1 .1 .1 .1 .1 .1 .1 .1 .1 .0 .0 .1 .0 }, tt))) $
+        reborrows ! 124 36 34 refl (sub ! 0 refl (whole !)) refl (tt, tt) refl refl (sub ! 1 refl (whole !)) refl (tt, (tt, (record { fits = are .1 .1 .1 .1 .1 .1 .1 .1 .1 .1 .1 .1 .1 .1 .1 .1 .1 .1 .1 .1 .1 .0 .0 .1 .0 }, tt))) $
+        reborrows ! 122 32 30 refl (sub ! 0 refl (whole !)) refl (tt, tt) refl refl (sub ! 1 refl (whole !)) refl (tt, (tt, (record { fits = are .1 .1 .1 .1 .1 .1 .1 .1 .1 .1 .1 .1 .1 .1 .1 .1 .1 .1 .1 .1 .1 .1 .0 .0 .1 .0 }, tt))) $
+        reborrows ! 120 28 26 refl (sub ! 0 refl (whole !)) refl (tt, tt) refl refl (sub ! 1 refl (whole !)) refl (tt, (tt, (record { fits = are .1 .1 .1 .1 .1 .1 .1 .1 .1 .1 .1 .1 .1 .1 .1 .1 .1 .1 .1 .1 .1 .1 .1 .0 .0 .1 .0 }, tt))) $
+        reborrows ! 118 24 22 refl (sub ! 0 refl (whole !)) refl (tt, tt) refl refl (sub ! 1 refl (whole !)) refl (tt, (tt, (record { fits = are .1 .1 .1 .1 .1 .1 .1 .1 .1 .1 .1 .1 .1 .1 .1 .1 .1 .1 .1 .1 .1 .1 .1 .1 .0 .0 .1 .0 }, tt))) $
+        reborrows ! 116 20 18 refl (sub ! 0 refl (whole !)) refl (tt, tt) refl refl (sub ! 1 refl (whole !)) refl (tt, (tt, (record { fits = are .1 .1 .1 .1 .1 .1 .1 .1 .1 .1 .1 .1 .1 .1 .1 .1 .1 .1 .1 .1 .1 .1 .1 .1 .1 .0 .0 .1 .0 }, tt))) $
+        reborrows ! 114 16 14 refl (sub ! 0 refl (whole !)) refl (tt, tt) refl refl (sub ! 1 refl (whole !)) refl (tt, (tt, (record { fits = are .1 .1 .1 .1 .1 .1 .1 .1 .1 .1 .1 .1 .1 .1 .1 .1 .1 .1 .1 .1 .1 .1 .1 .1 .1 .1 .0 .0 .1 .0 }, tt))) $
         -- the work
-        move ! (153 ∷ 152 ∷ []) $ use2 W (raw (Core 𝓤 H A at-mem run .pre (to-core 𝓤 H A W at-mem run κ0 q0 κ1 q1 κ2 q2 κ3 q3 κs qs z x0 x1 xf xp xs v (pool-val (now xp))))) (goes-core 𝓤 H A W at-mem run κ0 q0 κ1 q1 κ2 q2 κ3 q3 κs qs z x0 x1 xf xp xs v (pool-val (now xp)) (are .0) (are .1 .1 .1 .0 .0 .1) is-a was) $
+        move ! (171 ∷ 170 ∷ []) $ use2 W (raw (Core 𝓤 H A at-mem run .pre (to-core 𝓤 H A W at-mem run κ0 q0 κ1 q1 κ2 q2 κ3 q3 κs qs z x0 x1 xf xp xs v (pool-val (now xp))))) (goes-core 𝓤 H A W at-mem run κ0 q0 κ1 q1 κ2 q2 κ3 q3 κs qs z x0 x1 xf xp xs v (pool-val (now xp)) (are .0) (are .1 .1 .1 .0 .0 .1) is-a was) $
         calls-at ! fm (Core 𝓤 H A at-mem run) known-core (to-core 𝓤 H A W at-mem run κ0 q0 κ1 q1 κ2 q2 κ3 q3 κs qs z x0 x1 xf xp xs v (pool-val (now xp))) (and-then ! (load ! (from ! (stop !)) (look !
-        149 refl)) (and-then ! (load ! (from ! (stop !)) (look ! 101 refl)) (and-then ! (load ! (from ! (stop !)) (look ! 99 refl)) (and-then ! (load ! (from ! (stop !)) (look ! 97 refl)) (and-then !
-        (load ! (from ! (stop !)) (look ! 147 refl)) (and-then ! (load ! (from ! (stop !)) (look ! 87 refl)) (and-then ! (load ! (from ! (stop !)) (look ! 83 refl)) (and-then ! (load ! (from ! (stop
-        !)) (look ! 79 refl)) (and-then ! (load ! (from ! (stop !)) (look ! 75 refl)) (and-then ! (load ! (from ! (stop !)) (look ! 71 refl)) (and-then ! (load ! (from ! (stop !)) (look ! 67 refl))
-        (and-then ! (load ! (from ! (stop !)) (look ! 129 refl)) (and-then ! (load ! (from ! (stop !)) (look ! 63 refl)) (and-then ! (load ! (from ! (stop !)) (look ! 59 refl)) (and-then ! (load !
-        (from ! (stop !)) (look ! 55 refl)) (and-then ! (load ! (from ! (stop !)) (look ! 51 refl)) (and-then ! (load ! (from ! (stop !)) (look ! 47 refl)) (and-then ! (load ! (from ! (stop !)) (look
-        ! 43 refl)) (and-then ! (load ! (from ! (stop !)) (look ! 39 refl)) (and-then ! (load ! (from ! (stop !)) (look ! 35 refl)) (and-then ! (load ! (from ! (stop !)) (look ! 31 refl)) (and-then !
-        (load ! (from ! (stop !)) (look ! 27 refl)) (and-then ! (load ! (from ! (stop !)) (look ! 23 refl)) (and-then ! (load ! (from ! (stop !)) (look ! 19 refl)) (and-then ! (load ! (from ! (stop
-        !)) (look ! 15 refl)) (no-more !)))))))))))))))))))))))))) (λ w.
-        use1 W (later (some (λ (out : Pooled). ((‵ (flft κ0 q0) ⊛ (‵ (flft κ1 q1) ⊛ tokens 𝓤 19 κs qs)) ⊛ ‵ (O .own out (w ∷ []))) ⊛ raw (ensured 𝓤 H A core.ended (core.clauses 𝓤 H A at-mem run) (κ0, (κ1, κs)) (z, (length (now xf), (loaded (now xf), (now xp, (x0, (x1, xs)))))) tt out)))) (id⊢ 𝓤 _) $ await ! tt $ pick ! (λ out.
+        167 refl)) (and-then ! (load ! (from ! (stop !)) (look ! 113 refl)) (and-then ! (load ! (from ! (stop !)) (look ! 111 refl)) (and-then ! (load ! (from ! (stop !)) (look ! 109 refl)) (and-then
+        ! (load ! (from ! (stop !)) (look ! 165 refl)) (and-then ! (load ! (from ! (stop !)) (look ! 99 refl)) (and-then ! (load ! (from ! (stop !)) (look ! 95 refl)) (and-then ! (load ! (from ! (stop
+        !)) (look ! 91 refl)) (and-then ! (load ! (from ! (stop !)) (look ! 87 refl)) (and-then ! (load ! (from ! (stop !)) (look ! 83 refl)) (and-then ! (load ! (from ! (stop !)) (look ! 79 refl))
+        (and-then ! (load ! (from ! (stop !)) (look ! 147 refl)) (and-then ! (load ! (from ! (stop !)) (look ! 75 refl)) (and-then ! (load ! (from ! (stop !)) (look ! 71 refl)) (and-then ! (load !
+        (from ! (stop !)) (look ! 67 refl)) (and-then ! (load ! (from ! (stop !)) (look ! 63 refl)) (and-then ! (load ! (from ! (stop !)) (look ! 59 refl)) (and-then ! (load ! (from ! (stop !)) (look
+        ! 55 refl)) (and-then ! (load ! (from ! (stop !)) (look ! 51 refl)) (and-then ! (load ! (from ! (stop !)) (look ! 47 refl)) (and-then ! (load ! (from ! (stop !)) (look ! 43 refl)) (and-then !
+        (load ! (from ! (stop !)) (look ! 39 refl)) (and-then ! (load ! (from ! (stop !)) (look ! 35 refl)) (and-then ! (load ! (from ! (stop !)) (look ! 31 refl)) (and-then ! (load ! (from ! (stop
+        !)) (look ! 27 refl)) (and-then ! (load ! (from ! (stop !)) (look ! 23 refl)) (and-then ! (load ! (from ! (stop !)) (look ! 19 refl)) (and-then ! (load ! (from ! (stop !)) (look ! 15 refl))
+        (no-more !))))))))))))))))))))))))))))) (λ w.
+        use1 W (later (some (λ (out : Pooled). ((‵ (flft κ0 q0) ⊛ (‵ (flft κ1 q1) ⊛ tokens 𝓤 22 κs qs)) ⊛ ‵ (O .own out (w ∷ []))) ⊛ raw (ensured 𝓤 H A core.ended (core.clauses 𝓤 H A at-mem run) (κ0, (κ1, κs)) (z, (length (now xf), (loaded (now xf), (now xp, (x0, (x1, xs)))))) tt out)))) (id⊢ 𝓤 _) $ await ! tt $ pick ! (λ out.
         split ! $ move ! (1 ∷ []) $ use1 W (some (λ (ms : Lasts). given (Left z x0 x1 xf xp xs out ms) (‵ (Fin z x0 x1 xf xp xs ms)))) (core-of 𝓤 H A W at-mem run κ0 q0 κ1 q1 κ2 q2 κ3 q3 κs qs z x0 x1 xf xp xs out) $ pick ! (λ ms. learn ! (λ e₁.
         move ! (1 ∷ []) $ split ! $ move ! (1 ∷ []) $ peeks ! O (Is O) (shows 𝓤 H A O) out (w ∷ []) (λ is-o. drop ! $
         -- [the slices' tokens; their last lists; pool; its token; …]
-        land ! (from ! (stop !)) (init ! 96 refl (typed-out 𝓤 H A W out w is-o)) $ rewrite ! 96 (λ (u : Val). ‵ (fat fullShare TO′.mir l28 0 u)) (ap only (LL.tells TO.the-type TO′.the-laws out (w ∷ []) is-o)) refl $
-        reborrows ! 144 12 10 refl (sub ! 0 refl (whole !)) refl (tt, tt) refl refl (sub ! 1 refl (whole !)) refl (tt, (tt, (record { fits = are .1 .1 .1 .0 .0 .1 .0 }, tt))) $
+        land ! (from ! (stop !)) (init ! 108 refl (typed-out 𝓤 H A W out w is-o)) $ rewrite ! 108 (λ (u : Val). ‵ (fat fullShare TO′.mir l31 0 u)) (ap only (LL.tells TO.the-type TO′.the-laws out (w ∷ []) is-o)) refl $
+        reborrows ! 162 12 10 refl (sub ! 0 refl (whole !)) refl (tt, tt) refl refl (sub ! 1 refl (whole !)) refl (tt, (tt, (record { fits = are .1 .1 .1 .0 .0 .1 .0 }, tt))) $
         -- `save`: frames is given up for good
         move ! (6 ∷ 5 ∷ []) $ use2 W (raw (Save 𝓤 H A at-mem run .pre (to-save 𝓤 H A at-mem run κ2 q2 xf (out .frames) (fs-val out)))) (goes-save 𝓤 H A at-mem run W κ2 q2 xf (out .frames) (fs-val out) (fields out w is-o .0)) $
-        calls-at ! fm (Save 𝓤 H A at-mem run) known-save (to-save 𝓤 H A at-mem run κ2 q2 xf (out .frames) (fs-val out)) (and-then ! (load ! (from ! (stop !)) (look ! 9 refl)) (and-then ! (load ! (from ! (fld ! {d = 0} refl (stop !))) (look-in ! 95 (sub ! 0 {d = 0} refl (whole !)))) (no-more !))) (λ u.
+        calls-at ! fm (Save 𝓤 H A at-mem run) known-save (to-save 𝓤 H A at-mem run κ2 q2 xf (out .frames) (fs-val out)) (and-then ! (load ! (from ! (stop !)) (look ! 9 refl)) (and-then ! (load ! (from ! (fld ! {d = 0} refl (stop !))) (look-in ! 107 (sub ! 0 {d = 0} refl (whole !)))) (no-more !))) (λ u.
         use1 W (later (some (λ (r₂ : Unit {0}). ((‵ (flft κ2 q2) ⊛ ‵ ftrue) ⊛ ‵ (Nothing .own r₂ (u ∷ []))) ⊛ raw (ensured 𝓤 H A save.ended (save.clauses 𝓤 H A at-mem run) (κ2, tt) (xf, (out .frames, tt)) tt r₂)))) (id⊢ 𝓤 _) $ await ! tt $ pick ! (λ r₂.
         split ! $ move ! (1 ∷ []) $ use1 W (some (λ (zs : List Frame). given ((zs ≡ saved (now xf) (out .frames)) × (length zs ≡ length (now xf))) (‵ (finally F (name xf) zs)))) (save-of 𝓤 H A at-mem run W κ2 xf (out .frames) r₂) $ pick ! (λ zs. learn ! (λ e₂.
         move ! (1 ∷ []) $ split ! $ move ! (1 ∷ []) $ peeks ! Nothing (Is Nothing) (shows 𝓤 H A Nothing) r₂ (u ∷ []) (λ is-u. drop ! $
         land ! (from ! (stop !)) (init ! 14 refl (nothing-lawful 𝓤 H A W .typed r₂ (u ∷ []) is-u .0)) $
         -- `renew`: pool is given up for good
-        assigns ! (addr ! (from ! (hop ! (look ! 142 refl) (stop !)))) (from ! (stop !)) (init ! 8 refl (tt, tt)) $
+        assigns ! (addr ! (from ! (hop ! (look ! 160 refl) (stop !)))) (from ! (stop !)) (init ! 8 refl (tt, tt)) $
         move ! (5 ∷ 4 ∷ []) $ use2 W (raw (Renew 𝓤 H A at-mem run .pre (to-renew 𝓤 H A at-mem run κ3 q3 xp (out .pool) (new-val out)))) (goes-renew 𝓤 H A at-mem run W κ3 q3 xp (out .pool) (new-val out) (fields out w is-o .1 .0)) $
-        calls-at ! fm (Renew 𝓤 H A at-mem run) known-renew (to-renew 𝓤 H A at-mem run κ3 q3 xp (out .pool) (new-val out)) (and-then ! (load ! (from ! (stop !)) (look ! 7 refl)) (and-then ! (load ! (from ! (fld ! {d = 512} refl (stop !))) (look-in ! 95 (sub ! 1 {d = 512} refl (whole !)))) (no-more !))) (λ u₁.
+        calls-at ! fm (Renew 𝓤 H A at-mem run) known-renew (to-renew 𝓤 H A at-mem run κ3 q3 xp (out .pool) (new-val out)) (and-then ! (load ! (from ! (stop !)) (look ! 7 refl)) (and-then ! (load ! (from ! (fld ! {d = 512} refl (stop !))) (look-in ! 107 (sub ! 1 {d = 512} refl (whole !)))) (no-more !))) (λ u₁.
         use1 W (later (some (λ (r₃ : Unit {0}). ((‵ (flft κ3 q3) ⊛ ‵ ftrue) ⊛ ‵ (Nothing .own r₃ (u₁ ∷ []))) ⊛ raw (ensured 𝓤 H A renew.ended (renew.clauses 𝓤 H A at-mem run) (κ3, tt) (xp, (out .pool, tt)) tt r₃)))) (id⊢ 𝓤 _) $ await ! tt $ pick ! (λ r₃.
         split ! $ move ! (1 ∷ []) $ use1 W (‵ (fres (name xp) (P .coded .code (out .pool)))) (renew-of 𝓤 H A at-mem run W κ3 xp (out .pool) r₃) $ move ! (1 ∷ []) $ split ! $ move ! (1 ∷ []) $ peeks ! Nothing (Is Nothing) (shows 𝓤 H A Nothing) r₃ (u₁ ∷ []) (λ is-u₁. drop ! $
         land ! (from ! (stop !)) (store ! 14 refl (nothing-lawful 𝓤 H A W .typed r₃ (u₁ ∷ []) is-u₁ .0)) $
-        assigns ! (of-opd ! (load ! (from ! (fld ! {d = 520} refl (stop !))) (look-in ! 96 (sub ! 2 {d = 520} refl (whole !))))) (from ! (stop !)) (init ! 152 refl (typed-answer 𝓤 H A W out (fields out w is-o .1 .1))) $
-        returns ! (look ! 152 refl) $
-        forget ! 152 refl $ forget ! 150 refl $ forget ! 148 refl $ forget ! 146 refl $ forget ! 144 refl $ forget ! 142 refl $ forget ! 140 refl $ forget ! 138 refl $ forget ! 136 refl $ forget ! 134
-        refl $ forget ! 132 refl $ forget ! 130 refl $ forget ! 128 refl $ forget ! 126 refl $ forget ! 124 refl $ forget ! 122 refl $ forget ! 120 refl $ forget ! 118 refl $ forget ! 116 refl $
-        forget ! 114 refl $ forget ! 112 refl $ forget ! 110 refl $ forget ! 108 refl $ forget ! 106 refl $ forget ! 104 refl $ forget ! 102 refl $ forget ! 100 refl $ forget ! 98 refl $ forget ! 96
-        refl $ forget ! 94 refl $ forget ! 92 refl $ forget ! 90 refl $ forget ! 88 refl $ forget ! 86 refl $ forget ! 84 refl $ forget ! 82 refl $ forget ! 80 refl $ forget ! 78 refl $ forget ! 76
-        refl $ forget ! 74 refl $ forget ! 72 refl $ forget ! 70 refl $ forget ! 68 refl $ forget ! 66 refl $ forget ! 64 refl $ forget ! 62 refl $ forget ! 60 refl $ forget ! 58 refl $ forget ! 56
-        refl $ forget ! 54 refl $ forget ! 52 refl $ forget ! 50 refl $ forget ! 48 refl $ forget ! 46 refl $ forget ! 44 refl $ forget ! 42 refl $ forget ! 40 refl $ forget ! 38 refl $ forget ! 36
-        refl $ forget ! 34 refl $ forget ! 32 refl $ forget ! 30 refl $ forget ! 28 refl $ forget ! 26 refl $ forget ! 24 refl $ forget ! 22 refl $ forget ! 20 refl $ forget ! 18 refl $ forget ! 16
-        refl $ forget ! 14 refl $ forget ! 12 refl $ forget ! 10 refl $ forget ! 8 refl $
-        move ! (152 ∷ 153 ∷ []) $ free1 ! $ move ! (150 ∷ 151 ∷ []) $ free1 ! $ move ! (148 ∷ 149 ∷ []) $ free1 ! $ move ! (146 ∷ 147 ∷ []) $ free1 ! $ move ! (144 ∷ 145 ∷ []) $ free1 ! $ move ! (142
-        ∷ 143 ∷ []) $ free1 ! $ move ! (140 ∷ 141 ∷ []) $ free1 ! $ move ! (138 ∷ 139 ∷ []) $ free1 ! $ move ! (136 ∷ 137 ∷ []) $ free1 ! $ move ! (134 ∷ 135 ∷ []) $ free1 ! $ move ! (132 ∷ 133 ∷ [])
-        $ free1 ! $ move ! (130 ∷ 131 ∷ []) $ free1 ! $ move ! (128 ∷ 129 ∷ []) $ free1 ! $ move ! (126 ∷ 127 ∷ []) $ free1 ! $ move ! (124 ∷ 125 ∷ []) $ free1 ! $ move ! (122 ∷ 123 ∷ []) $ free1 ! $
-        move ! (120 ∷ 121 ∷ []) $ free1 ! $ move ! (118 ∷ 119 ∷ []) $ free1 ! $ move ! (116 ∷ 117 ∷ []) $ free1 ! $ move ! (114 ∷ 115 ∷ []) $ free1 ! $ move ! (112 ∷ 113 ∷ []) $ free1 ! $ move ! (110
-        ∷ 111 ∷ []) $ free1 ! $ move ! (108 ∷ 109 ∷ []) $ free1 ! $ move ! (106 ∷ 107 ∷ []) $ free1 ! $ move ! (104 ∷ 105 ∷ []) $ free1 ! $ move ! (102 ∷ 103 ∷ []) $ free1 ! $ move ! (100 ∷ 101 ∷ [])
-        $ free1 ! $ move ! (98 ∷ 99 ∷ []) $ free1 ! $ move ! (96 ∷ 97 ∷ []) $ free1 ! $ move ! (94 ∷ 95 ∷ []) $ free1 ! $ move ! (92 ∷ 93 ∷ []) $ free1 ! $ move ! (90 ∷ 91 ∷ []) $ free1 ! $ move ! (88
-        ∷ 89 ∷ []) $ free1 ! $ move ! (86 ∷ 87 ∷ []) $ free1 ! $ move ! (84 ∷ 85 ∷ []) $ free1 ! $ move ! (82 ∷ 83 ∷ []) $ free1 ! $ move ! (80 ∷ 81 ∷ []) $ free1 ! $ move ! (78 ∷ 79 ∷ []) $ free1 ! $
-        move ! (76 ∷ 77 ∷ []) $ free1 ! $ move ! (74 ∷ 75 ∷ []) $ free1 ! $ move ! (72 ∷ 73 ∷ []) $ free1 ! $ move ! (70 ∷ 71 ∷ []) $ free1 ! $ move ! (68 ∷ 69 ∷ []) $ free1 ! $ move ! (66 ∷ 67 ∷ [])
-        $ free1 ! $ move ! (64 ∷ 65 ∷ []) $ free1 ! $ move ! (62 ∷ 63 ∷ []) $ free1 ! $ move ! (60 ∷ 61 ∷ []) $ free1 ! $ move ! (58 ∷ 59 ∷ []) $ free1 ! $ move ! (56 ∷ 57 ∷ []) $ free1 ! $ move ! (54
-        ∷ 55 ∷ []) $ free1 ! $ move ! (52 ∷ 53 ∷ []) $ free1 ! $ move ! (50 ∷ 51 ∷ []) $ free1 ! $ move ! (48 ∷ 49 ∷ []) $ free1 ! $ move ! (46 ∷ 47 ∷ []) $ free1 ! $ move ! (44 ∷ 45 ∷ []) $ free1 ! $
-        move ! (42 ∷ 43 ∷ []) $ free1 ! $ move ! (40 ∷ 41 ∷ []) $ free1 ! $ move ! (38 ∷ 39 ∷ []) $ free1 ! $ move ! (36 ∷ 37 ∷ []) $ free1 ! $ move ! (34 ∷ 35 ∷ []) $ free1 ! $ move ! (32 ∷ 33 ∷ [])
-        $ free1 ! $ move ! (30 ∷ 31 ∷ []) $ free1 ! $ move ! (28 ∷ 29 ∷ []) $ free1 ! $ move ! (26 ∷ 27 ∷ []) $ free1 ! $ move ! (24 ∷ 25 ∷ []) $ free1 ! $ move ! (22 ∷ 23 ∷ []) $ free1 ! $ move ! (20
-        ∷ 21 ∷ []) $ free1 ! $ move ! (18 ∷ 19 ∷ []) $ free1 ! $ move ! (16 ∷ 17 ∷ []) $ free1 ! $ move ! (14 ∷ 15 ∷ []) $ free1 ! $ move ! (12 ∷ 13 ∷ []) $ free1 ! $ move ! (10 ∷ 11 ∷ []) $ free1 ! $
-        move ! (8 ∷ 9 ∷ []) $ free1 ! $ free0 ! $
-        move ! (2 ∷ []) $ split ! $ move ! (2 ∷ []) $ split ! $ keep ! (2 ∷ 0 ∷ 6 ∷ 5 ∷ 4 ∷ 7 ∷ []) $ by ! (exits 𝓤 H A W at-mem run κ0 q0 κ1 q1 κ2 q2 κ3 q3 κs qs z x0 x1 xf xp xs out zs ms e₂ e₁ (fields out w is-o))))))))))))))))))))))))))))))))))))))))))))))))))))))))))))))))))))))))))))))))))))))))))))))))
+        assigns ! (of-opd ! (load ! (from ! (fld ! {d = 520} refl (stop !))) (look-in ! 108 (sub ! 2 {d = 520} refl (whole !))))) (from ! (stop !)) (init ! 170 refl (typed-answer 𝓤 H A W out (fields out w is-o .1 .1))) $
+        returns ! (look ! 170 refl) $
+        forget ! 170 refl $ forget ! 168 refl $ forget ! 166 refl $ forget ! 164 refl $ forget ! 162 refl $ forget ! 160 refl $ forget ! 158 refl $ forget ! 156 refl $ forget ! 154 refl $ forget ! 152
+        refl $ forget ! 150 refl $ forget ! 148 refl $ forget ! 146 refl $ forget ! 144 refl $ forget ! 142 refl $ forget ! 140 refl $ forget ! 138 refl $ forget ! 136 refl $ forget ! 134 refl $
+        forget ! 132 refl $ forget ! 130 refl $ forget ! 128 refl $ forget ! 126 refl $ forget ! 124 refl $ forget ! 122 refl $ forget ! 120 refl $ forget ! 118 refl $ forget ! 116 refl $ forget ! 114
+        refl $ forget ! 112 refl $ forget ! 110 refl $ forget ! 108 refl $ forget ! 106 refl $ forget ! 104 refl $ forget ! 102 refl $ forget ! 100 refl $ forget ! 98 refl $ forget ! 96 refl $ forget
+        ! 94 refl $ forget ! 92 refl $ forget ! 90 refl $ forget ! 88 refl $ forget ! 86 refl $ forget ! 84 refl $ forget ! 82 refl $ forget ! 80 refl $ forget ! 78 refl $ forget ! 76 refl $ forget !
+        74 refl $ forget ! 72 refl $ forget ! 70 refl $ forget ! 68 refl $ forget ! 66 refl $ forget ! 64 refl $ forget ! 62 refl $ forget ! 60 refl $ forget ! 58 refl $ forget ! 56 refl $ forget ! 54
+        refl $ forget ! 52 refl $ forget ! 50 refl $ forget ! 48 refl $ forget ! 46 refl $ forget ! 44 refl $ forget ! 42 refl $ forget ! 40 refl $ forget ! 38 refl $ forget ! 36 refl $ forget ! 34
+        refl $ forget ! 32 refl $ forget ! 30 refl $ forget ! 28 refl $ forget ! 26 refl $ forget ! 24 refl $ forget ! 22 refl $ forget ! 20 refl $ forget ! 18 refl $ forget ! 16 refl $ forget ! 14
+        refl $ forget ! 12 refl $ forget ! 10 refl $ forget ! 8 refl $
+        move ! (170 ∷ 171 ∷ []) $ free1 ! $ move ! (168 ∷ 169 ∷ []) $ free1 ! $ move ! (166 ∷ 167 ∷ []) $ free1 ! $ move ! (164 ∷ 165 ∷ []) $ free1 ! $ move ! (162 ∷ 163 ∷ []) $ free1 ! $ move ! (160
+        ∷ 161 ∷ []) $ free1 ! $ move ! (158 ∷ 159 ∷ []) $ free1 ! $ move ! (156 ∷ 157 ∷ []) $ free1 ! $ move ! (154 ∷ 155 ∷ []) $ free1 ! $ move ! (152 ∷ 153 ∷ []) $ free1 ! $ move ! (150 ∷ 151 ∷ [])
+        $ free1 ! $ move ! (148 ∷ 149 ∷ []) $ free1 ! $ move ! (146 ∷ 147 ∷ []) $ free1 ! $ move ! (144 ∷ 145 ∷ []) $ free1 ! $ move ! (142 ∷ 143 ∷ []) $ free1 ! $ move ! (140 ∷ 141 ∷ []) $ free1 ! $
+        move ! (138 ∷ 139 ∷ []) $ free1 ! $ move ! (136 ∷ 137 ∷ []) $ free1 ! $ move ! (134 ∷ 135 ∷ []) $ free1 ! $ move ! (132 ∷ 133 ∷ []) $ free1 ! $ move ! (130 ∷ 131 ∷ []) $ free1 ! $ move ! (128
+        ∷ 129 ∷ []) $ free1 ! $ move ! (126 ∷ 127 ∷ []) $ free1 ! $ move ! (124 ∷ 125 ∷ []) $ free1 ! $ move ! (122 ∷ 123 ∷ []) $ free1 ! $ move ! (120 ∷ 121 ∷ []) $ free1 ! $ move ! (118 ∷ 119 ∷ [])
+        $ free1 ! $ move ! (116 ∷ 117 ∷ []) $ free1 ! $ move ! (114 ∷ 115 ∷ []) $ free1 ! $ move ! (112 ∷ 113 ∷ []) $ free1 ! $ move ! (110 ∷ 111 ∷ []) $ free1 ! $ move ! (108 ∷ 109 ∷ []) $ free1 ! $
+        move ! (106 ∷ 107 ∷ []) $ free1 ! $ move ! (104 ∷ 105 ∷ []) $ free1 ! $ move ! (102 ∷ 103 ∷ []) $ free1 ! $ move ! (100 ∷ 101 ∷ []) $ free1 ! $ move ! (98 ∷ 99 ∷ []) $ free1 ! $ move ! (96 ∷
+        97 ∷ []) $ free1 ! $ move ! (94 ∷ 95 ∷ []) $ free1 ! $ move ! (92 ∷ 93 ∷ []) $ free1 ! $ move ! (90 ∷ 91 ∷ []) $ free1 ! $ move ! (88 ∷ 89 ∷ []) $ free1 ! $ move ! (86 ∷ 87 ∷ []) $ free1 ! $
+        move ! (84 ∷ 85 ∷ []) $ free1 ! $ move ! (82 ∷ 83 ∷ []) $ free1 ! $ move ! (80 ∷ 81 ∷ []) $ free1 ! $ move ! (78 ∷ 79 ∷ []) $ free1 ! $ move ! (76 ∷ 77 ∷ []) $ free1 ! $ move ! (74 ∷ 75 ∷ [])
+        $ free1 ! $ move ! (72 ∷ 73 ∷ []) $ free1 ! $ move ! (70 ∷ 71 ∷ []) $ free1 ! $ move ! (68 ∷ 69 ∷ []) $ free1 ! $ move ! (66 ∷ 67 ∷ []) $ free1 ! $ move ! (64 ∷ 65 ∷ []) $ free1 ! $ move ! (62
+        ∷ 63 ∷ []) $ free1 ! $ move ! (60 ∷ 61 ∷ []) $ free1 ! $ move ! (58 ∷ 59 ∷ []) $ free1 ! $ move ! (56 ∷ 57 ∷ []) $ free1 ! $ move ! (54 ∷ 55 ∷ []) $ free1 ! $ move ! (52 ∷ 53 ∷ []) $ free1 ! $
+        move ! (50 ∷ 51 ∷ []) $ free1 ! $ move ! (48 ∷ 49 ∷ []) $ free1 ! $ move ! (46 ∷ 47 ∷ []) $ free1 ! $ move ! (44 ∷ 45 ∷ []) $ free1 ! $ move ! (42 ∷ 43 ∷ []) $ free1 ! $ move ! (40 ∷ 41 ∷ [])
+        $ free1 ! $ move ! (38 ∷ 39 ∷ []) $ free1 ! $ move ! (36 ∷ 37 ∷ []) $ free1 ! $ move ! (34 ∷ 35 ∷ []) $ free1 ! $ move ! (32 ∷ 33 ∷ []) $ free1 ! $ move ! (30 ∷ 31 ∷ []) $ free1 ! $ move ! (28
+        ∷ 29 ∷ []) $ free1 ! $ move ! (26 ∷ 27 ∷ []) $ free1 ! $ move ! (24 ∷ 25 ∷ []) $ free1 ! $ move ! (22 ∷ 23 ∷ []) $ free1 ! $ move ! (20 ∷ 21 ∷ []) $ free1 ! $ move ! (18 ∷ 19 ∷ []) $ free1 ! $
+        move ! (16 ∷ 17 ∷ []) $ free1 ! $ move ! (14 ∷ 15 ∷ []) $ free1 ! $ move ! (12 ∷ 13 ∷ []) $ free1 ! $ move ! (10 ∷ 11 ∷ []) $ free1 ! $ move ! (8 ∷ 9 ∷ []) $ free1 ! $ free0 ! $
+        move ! (2 ∷ []) $ split ! $ move ! (2 ∷ []) $ split ! $ keep ! (2 ∷ 0 ∷ 6 ∷ 5 ∷ 4 ∷ 7 ∷ []) $ by ! (exits 𝓤 H A W at-mem run κ0 q0 κ1 q1 κ2 q2 κ3 q3 κs qs z x0 x1 xf xp xs out zs ms e₂ e₁ (fields out w is-o)))))))))))))))))))))))))))))))))))))))))))))))))))))))))))))))))))))))))))))))))))))))))))))))))))))))))
 
 module _ {M : Type 1} (𝓤 : URA M) (H : Heap 𝓤) (A : Atoms 𝓤) (W : Given 𝓤 H A) (at-mem : Memory → SProp 𝓤) (run : Routine → Fun 𝓤) where
   walks : (C : Calls 𝓤 H) (Λ : Loops 𝓤 H) → FmC 𝓤 H (W .laws) C → Triple 𝓤 (C #load) (Load 𝓤 H A at-mem run) → Triple 𝓤 (C #core) (Core 𝓤 H A at-mem run) → Triple 𝓤 (C #save) (Save 𝓤 H A at-mem run) → Triple 𝓤 (C #renew) (Renew 𝓤 H A at-mem run)
       → Walks 𝓤 H A fn.ended stayed (WpFn 𝓤 H C Λ code.function) (fn.clauses 𝓤 H A at-mem run)
   walks C Λ fm known-load known-core known-save known-renew = walked 𝓤 H A fn.ended stayed (fn.clauses 𝓤 H A at-mem run) (WpFn 𝓤 H C Λ code.function)
-      (λ κs. (sizes-vals, (slice-vals, (slice-vals, (slice-vals, (ptr-vals, (slice-vals, (slice-vals, (slice-vals, (slice-vals, (slice-vals, (slice-vals, (slice-vals, (slice-vals, (slice-vals, (slice-vals, (slice-vals, (slice-vals, (slice-vals, (slice-vals, (slice-vals, (slice-vals, (slice-vals, (slice-vals, (slice-vals, tt)))))))))))))))))))))))))
-      (λ (κ0, (κ1, (κ2, (κ3, (κ4, (κ5, (κ6, (κ7, (κ8, (κ9, (κ10, (κ11, (κ12, (κ13, (κ14, (κ15, (κ16, (κ17, (κ18, (κ19, (κ20, (κ21, (κ22, _))))))))))))))))))))))). let p = mut-tells (named 3) κ3 P in let f = mut 2 κ2 F in let a = mut 1 κ1 u32 in let z = sizes-tells in
-      (z, (shr 0 κ0 u32, (a, (f, (p, (mut 4 κ4 u32, (mut 5 κ5 u32, (mut 6 κ6 u16, (mut 7 κ7 u16, (mut 8 κ8 u16, (shr 9 κ9 u16, (mut 10 κ10 u32, (mut 11 κ11 u32, (mut 12 κ12 u16, (mut 13 κ13 u16, (mut 14 κ14 u16, (mut 15 κ15 u8, (mut 16 κ16 u8, (mut 17 κ17 u32, (mut 18 κ18 u8, (mut 19 κ19 u8, (mut 20 κ20 u16, (mut 21 κ21 u16, (mut 22 κ22 u16, tt)))))))))))))))))))))))))
+      (λ κs. (sizes-vals, (slice-vals, (slice-vals, (slice-vals, (ptr-vals, each-vals 22))))))
+      (λ (κ0, (κ1, (κ2, (κ3, (κ4, (κ5, (κ6, (κ7, (κ8, (κ9, (κ10, (κ11, (κ12, (κ13, (κ14, (κ15, (κ16, (κ17, (κ18, (κ19, (κ20, (κ21, (κ22, (κ23, (κ24, (κ25, _)))))))))))))))))))))))))). let p = mut-tells (named 3) κ3 P in let f = mut 2 κ2 F in let a = mut 1 κ1 u32 in let z = sizes-tells in
+      let i = u8 in let j = u16 in let k = u32 in let c = mut in let o = shr in
+      (z, (shr 0 κ0 u32, (a, (f, (p, (c 4 κ4 k, (c 5 κ5 k, (c 6 κ6 j, (c 7 κ7 j, (c 8 κ8 j, (o 9 κ9 j, (c 10 κ10 k, (c 11 κ11 k, (c 12 κ12 j, (c 13 κ13 j, (c 14 κ14 j, (c 15 κ15 i, (c 16 κ16 i, (c 17 κ17 k, (c 18 κ18 i, (c 19 κ19 i, (c 20 κ20 j, (c 21 κ21 k, (c 22 κ22 j, (c 23 κ23 j, (c 24 κ24 j, (c 25 κ25 j, tt))))))))))))))))))))))))))))
       (λ κs qs bounds a g are. via 𝓤 _ (fst∗ 𝓤 _ (emp 𝓤))
       (walk 𝓤 H A W at-mem run C Λ fm known-load known-core known-save known-renew (κs .0) (qs .0) (κs .1 .0) (qs .1 .0) (κs .1 .1 .0) (qs .1 .1 .0) (κs .1 .1 .1 .0) (qs .1 .1 .1 .0) (κs .1 .1 .1 .1) (qs .1 .1 .1 .1) (a .0) (a .1 .0) (a .1 .1 .0) (a .1 .1 .1 .0) (a .1 .1 .1 .1 .0) (a .1 .1 .1 .1 .1) are))
 
@@ -239,9 +250,10 @@ meets : {M : Type 1} (𝓤 : URA M) (H : Heap 𝓤) (A : Atoms 𝓤) → Given �
     → Triple 𝓤 (𝓣 .C #load) (Load 𝓤 H A at-mem run) → Triple 𝓤 (𝓣 .C #core) (Core 𝓤 H A at-mem run) → Triple 𝓤 (𝓣 .C #save) (Save 𝓤 H A at-mem run) → Triple 𝓤 (𝓣 .C #renew) (Renew 𝓤 H A at-mem run)
     → Meets 𝓤 H A fn.signature (WpFn 𝓤 H (𝓣 .C) (𝓣 .Λ) code.function) (fn.spec 𝓤 H A at-mem run)
 meets 𝓤 H A W at-mem run 𝓣 known-load known-core known-save known-renew =
-    let v = goes-value 𝓤 H A W 23 in let g = goes-gave 𝓤 H A W 23 in let h = goes-seen 𝓤 H A W 23 in let z = v Z (λ κs x f. refl) in
+    let v = goes-value 𝓤 H A W 26 in let g = goes-gave 𝓤 H A W 26 in let h = goes-seen 𝓤 H A W 26 in let z = v Z (λ κs x f. refl) in
+    let i = u8 in let j = u16 in let k = u32 in
     walk-meets 𝓤 H A fn.ended stayed W
-    (z, (h 0 tt u32, (g 1 tt u32, (g 2 tt F, (goes-gave-ref 𝓤 H A W 23 3 tt (plain (λ _. P)), (g 4 tt u32, (g 5 tt u32, (g 6 tt u16, (g 7 tt u16, (g 8 tt u16, (h 9 tt u16, (g 10 tt u32, (g 11 tt u32, (g 12 tt u16, (g 13 tt u16, (g 14 tt u16, (g 15 tt u8, (g 16 tt u8, (g 17 tt u32, (g 18 tt u8, (g 19 tt u8, (g 20 tt u16, (g 21 tt u16, (g 22 tt u16, tt))))))))))))))))))))))))
+    (z, (h 0 tt u32, (g 1 tt u32, (g 2 tt F, (goes-gave-ref 𝓤 H A W 26 3 tt (plain (λ _. P)), (g 4 tt k, (g 5 tt k, (g 6 tt j, (g 7 tt j, (g 8 tt j, (h 9 tt j, (g 10 tt k, (g 11 tt k, (g 12 tt j, (g 13 tt j, (g 14 tt j, (g 15 tt i, (g 16 tt i, (g 17 tt k, (g 18 tt i, (g 19 tt i, (g 20 tt j, (g 21 tt k, (g 22 tt j, (g 23 tt j, (g 24 tt j, (g 25 tt j, tt)))))))))))))))))))))))))))
     (fn.clauses 𝓤 H A at-mem run)
     (WpFn 𝓤 H (𝓣 .C) (𝓣 .Λ) code.function) (WpFn-mono 𝓤 H (W .laws) 𝓣 code.function) (walks 𝓤 H A W at-mem run (𝓣 .C) (𝓣 .Λ) (fmOf 𝓤 H (W .laws) 𝓣) known-load known-core known-save known-renew)
 

@@ -50,7 +50,7 @@ use Rattle.model.specs.Part.{partOf}
 use Rattle.model.proofs.frame.Pool as TP
 use Rattle.model.proofs.frame.Pool.Laws as TP′
 use Rattle.keeper.specs.Copies.{loaded}
-use Rattle.keeper.proofs.Shapes.{EachTable, tables-vals, tables-row, tokens, lent, past, value, seen, shr, goes-value, goes-seen}
+use Rattle.keeper.proofs.Shapes.{EachTable, each-vals, tables-vals, tables-row, tokens, lent, past, value, seen, shr, goes-value, goes-seen}
 use Rattle.keeper.proofs.Row.{F}
 use Rattle.keeper.proofs.Row64.{F64, makes64, typed64}
 use Rattle.keeper.proofs.ByValue.{Z, sizes-val, sizes-vals, sizes-tells, makes-sizes, typed-sizes}
@@ -71,22 +71,23 @@ use Rattle.keeper.proofs.looks.page_look.Code as code
 
 abbrev stayed : Stays (fn.ended .signature .params) (fn.ended .kept)
 stayed =
-    let v = value 21 in let h = seen 21 in
-    (v Z, (v usize, (v usize, (h 0 tt F, (v P, (gave-ref (1 ∷ []) tt (plain (λ _. u32)), (h 2 tt u32, (h 3 tt u32, (h 4 tt u16, (h 5 tt u16, (h 6 tt u16, (h 7 tt u16, (h 8 tt u32, (h 9 tt u32, (h 10 tt u16, (h 11 tt u16, (h 12 tt u16, (h 13 tt u8, (h 14 tt u8, (h 15 tt u32, (h 16 tt u8, (h 17 tt u8, (h 18 tt u16, (h 19 tt u16, (h 20 tt u16, tt)))))))))))))))))))))))))
+    let v = value 24 in let h = seen 24 in
+    let i = u8 in let j = u16 in let k = u32 in
+    (v Z, (v usize, (v usize, (h 0 tt F, (v P, (gave-ref (1 ∷ []) tt (plain (λ _. u32)), (h 2 tt k, (h 3 tt k, (h 4 tt j, (h 5 tt j, (h 6 tt j, (h 7 tt j, (h 8 tt k, (h 9 tt k, (h 10 tt j, (h 11 tt j, (h 12 tt j, (h 13 tt i, (h 14 tt i, (h 15 tt k, (h 16 tt i, (h 17 tt i, (h 18 tt j, (h 19 tt k, (h 20 tt j, (h 21 tt j, (h 22 tt j, (h 23 tt j, tt))))))))))))))))))))))))))))
 
 module _ {M : Type 1} (𝓤 : URA M) (H : Heap 𝓤) (A : Atoms 𝓤) (at-mem : Memory → SProp 𝓤) (run : Routine → Fun 𝓤) where
   abbrev Core : Contract 𝓤
   Core = tripleOf 𝓤 H A core.signature (core.spec 𝓤 H A at-mem run)
 
-abbrev Types : Lfts 21 → List RattleType
+abbrev Types : Lfts 24 → List RattleType
 Types κs = typesAt (fn.signature .params) κs
 
 module _ {M : Type 1} (𝓤 : URA M) (H : Heap 𝓤) (A : Atoms 𝓤) (W : Given 𝓤 H A) (at-mem : Memory → SProp 𝓤) (run : Routine → Fun 𝓤)
-    (κ0 : Lft) (q0 : Share) (κ1 : Lft) (q1 : Share) (κt : Lfts 19) (qt : Shares 19)
+    (κ0 : Lft) (q0 : Share) (κ1 : Lft) (q1 : Share) (κt : Lfts 22) (qt : Shares 22)
     (z : Sizes) (slot page : ℕ) (xf : RefT (List Frame)) (p : Pool) (xr : RefT ℕ) (xt : EachTable (RefT (List ℕ))) where
   -- the tables' tokens; the parameters, and their machine values
   abbrev toks : Item 𝓤
-  toks = tokens 𝓤 19 κt qt
+  toks = tokens 𝓤 22 κt qt
 
   abbrev n : ℕ
   n = length (now xf)
@@ -94,7 +95,7 @@ module _ {M : Type 1} (𝓤 : URA M) (H : Heap 𝓤) (A : Atoms 𝓤) (W : Given
   abbrev refusal : Val
   refusal = vptr (ptr xr .0) (ptr xr .1)
 
-  abbrev κa : Lfts 21
+  abbrev κa : Lfts 24
   κa = (κ0, (κ1, κt))
 
   abbrev xa : Sizes × (ℕ × (ℕ × (RefT (List Frame) × (Pool × (RefT ℕ × EachTable (RefT (List ℕ)))))))
@@ -128,12 +129,12 @@ module _ {M : Type 1} (𝓤 : URA M) (H : Heap 𝓤) (A : Atoms 𝓤) (W : Given
     exits r w y e =
         qed W (‵ (flft κ0 q0) ∷ (‵ (flft κ1 q1) ⊛ toks) ∷ ‵ (fres (name xr) (u32 .coded .code y)) ∷ ‵ (ShrSlice (named 9) (κt .1 .1 .1 .1 .1 .1 .1 .0) u32 .own r (w ∷ [])) ∷ []) ∵
         suffices ! _ (ends-at 𝓤 H A fn.ended stayed (fn.clauses 𝓤 H A at-mem run) W bound w r
-        (tt, (tt, (tt, (tt, (tt, (y, (tt, (tt, (tt, (tt, (tt, (tt, (tt, (tt, (tt, (tt, (tt, (tt, (tt, (tt, (tt, (tt, (tt, (tt, (tt, tt)))))))))))))))))))))))))
-        (tt, (tt, (tt, (tt, (tt, (tt, (tt, (tt, (tt, (tt, (tt, (tt, (tt, (tt, (tt, (tt, (tt, (tt, (tt, (tt, (tt, (tt, (tt, (tt, (tt, tt)))))))))))))))))))))))))) $ says ! (said r y e) $ join ! $ frame ! $
+        (tt, (tt, (tt, (tt, (tt, (y, (tt, (tt, (tt, (tt, (tt, (tt, (tt, (tt, (tt, (tt, (tt, (tt, (tt, (tt, (tt, (tt, (tt, (tt, (tt, (tt, (tt, (tt, tt))))))))))))))))))))))))))))
+        (tt, (tt, (tt, (tt, (tt, (tt, (tt, (tt, (tt, (tt, (tt, (tt, (tt, (tt, (tt, (tt, (tt, (tt, (tt, (tt, (tt, (tt, (tt, (tt, (tt, (tt, (tt, (tt, tt))))))))))))))))))))))))))))) $ says ! (said r y e) $ join ! $ frame ! $
         nothing ! $ nothing ! $ fjoin ! $ nothing ! $ fjoin ! $ nothing ! $ fjoin ! $ nothing ! $ fjoin ! $ nothing ! $ fjoin ! $ nothing ! $ fjoin ! $ nothing ! $ fjoin ! $ nothing ! $ fjoin ! $
         nothing ! $ fjoin ! $ nothing ! $ fjoin ! $ nothing ! $ fjoin ! $ nothing ! $ fjoin ! $ nothing ! $ fjoin ! $ nothing ! $ fjoin ! $ nothing ! $ fjoin ! $ nothing ! $ fjoin ! $ nothing ! $
-        fjoin ! $ nothing ! $ fjoin ! $ nothing ! $ fjoin ! $ move ! (1 ∷ 0 ∷ []) $ fjoin ! $ nothing ! $ fjoin ! $ nothing ! $ fjoin ! $ nothing ! $ fjoin ! $ nothing ! $ fjoin ! $ nothing ! $ fjoin
-        ! $ done !
+        fjoin ! $ nothing ! $ fjoin ! $ nothing ! $ fjoin ! $ nothing ! $ fjoin ! $ nothing ! $ fjoin ! $ nothing ! $ fjoin ! $ move ! (1 ∷ 0 ∷ []) $ fjoin ! $ nothing ! $ fjoin ! $ nothing ! $ fjoin
+        ! $ nothing ! $ fjoin ! $ nothing ! $ fjoin ! $ nothing ! $ fjoin ! $ done !
 
     -- what the work's triple binds outside, that the caller has what it asks, and what it leaves
     abbrev to-core : Val → Core 𝓤 H A at-mem run .Ghost
@@ -152,8 +153,8 @@ module _ {M : Type 1} (𝓤 : URA M) (H : Heap 𝓤) (A : Atoms 𝓤) (W : Given
     core-of r =
         qed W (raw (ensured 𝓤 H A core.ended (core.clauses 𝓤 H A at-mem run) (κ1, κt) (z, (slot, (page, (n, (loaded (now xf), (p, (xr, xt))))))) tt r) ∷ []) ∵
         use1 W (some (λ (ws : Unit {0} × (Unit {0} × (Unit {0} × (Unit {0} × (Unit {0} × (Unit {0} × (ℕ × (Unit {0} × (Unit {0} × (Unit {0} × (Unit {0} × (Unit {0} × (Unit {0} × (Unit {0} × (Unit {0}
-        × (Unit {0} × (Unit {0} × (Unit {0} × (Unit {0} × (Unit {0} × (Unit {0} × (Unit {0} × (Unit {0} × (Unit {0} × (Unit {0} × (Unit {0} × (Unit {0}))))))))))))))))))))))))))). ‵ (lasts core.ended
-        (κ1, κt)
+        × (Unit {0} × (Unit {0} × (Unit {0} × (Unit {0} × (Unit {0} × (Unit {0} × (Unit {0} × (Unit {0} × (Unit {0} × (Unit {0} × (Unit {0} × (Unit {0} × (Unit {0} × (Unit {0} × (Unit
+        {0})))))))))))))))))))))))))))))). ‵ (lasts core.ended (κ1, κt)
         (z, (slot, (page, (n, (loaded (now xf), (p, (xr, xt))))))) ws) ⊛ raw (fact 𝓤 (Left r (ws .1 .1 .1 .1 .1 .1 .0))))) (id⊢ 𝓤 _) $ pick ! (λ ws.
         split ! $ move ! (1 ∷ []) $ heard ! (Left r (ws .1 .1 .1 .1 .1 .1 .0)) (λ e₁. fsplit ! $ drop ! $ fsplit ! $ drop ! $ fsplit ! $ drop ! $ fsplit ! $ drop ! $ fsplit ! $ drop ! $ fsplit ! $ drop ! $ fsplit ! $
         show ! (λ (y : ℕ). guard 𝓤 (Left r y) (sem 𝓤 H A (fres (name xr) (u32 .coded .code y)))) (ws .1 .1 .1 .1 .1 .1 .0) $ check ! e₁ $ keep ! (0 ∷ []) $ done !))
@@ -168,79 +169,85 @@ module _ {M : Type 1} (𝓤 : URA M) (H : Heap 𝓤) (A : Atoms 𝓤) (W : Given
           enter ! C Λ code.function (sizes-val z ∷ vint w64 slot ∷ vint w64 page ∷ frames-val xf ∷ pool-val p ∷ refusal ∷ tables-row xt) _ $
           alloc1 ! (λ l0. alloc1 ! (λ l1. alloc1 ! (λ l2. alloc1 ! (λ l3. alloc1 ! (λ l4. alloc1 ! (λ l5. alloc1 ! (λ l6. alloc1 ! (λ l7. alloc1 ! (λ l8. alloc1 ! (λ l9. alloc1 ! (λ l10. alloc1 ! (λ
           l11. alloc1 ! (λ l12. alloc1 ! (λ l13. alloc1 ! (λ l14. alloc1 ! (λ l15. alloc1 ! (λ l16. alloc1 ! (λ l17. alloc1 ! (λ l18. alloc1 ! (λ l19. alloc1 ! (λ l20. alloc1 ! (λ l21. alloc1 ! (λ
-          l22. alloc1 ! (λ l23. alloc1 ! (λ l24. alloc1 ! (λ l25. alloc1 ! (λ l26. alloc1 ! (λ l27. alloc1 ! (λ l28. alloc0 ! $ params1 ! $
-          pass1 ! (init ! 54 refl (typed-sizes 𝓤 H A W z (are .0))) $ pass1 ! (init ! 52 refl (tt, record { fits = are .1 .0 .1 })) $ pass1 ! (init ! 50 refl (tt, record { fits = are .1 .1 .0 .1 })) $
-          pass1 ! (init ! 48 refl (tt, (tt, (record { fits = are .1 .1 .1 .0 .0 .1 .0 }, tt)))) $ pass1 ! (init ! 46 refl (typed-pool 𝓤 H A W p (pool-val p) (are .1 .1 .1 .1 .0))) $ pass1 ! (init ! 44
-          refl (tt, tt)) $ pass1 ! (init ! 42 refl (tt, (tt, (record { fits = are .1 .1 .1 .1 .1 .1 .0 .0 .1 .0 }, tt)))) $ pass1 ! (init ! 40 refl
-          (tt, (tt, (record { fits = are .1 .1 .1 .1 .1 .1 .1 .0 .0 .1 .0 }, tt)))) $ pass1 ! (init ! 38 refl (tt, (tt, (record { fits = are .1 .1 .1 .1 .1 .1 .1 .1 .0 .0 .1 .0 }, tt)))) $ pass1 !
-          (init ! 36 refl (tt, (tt, (record { fits = are .1 .1 .1 .1 .1 .1 .1 .1 .1 .0 .0 .1 .0 }, tt)))) $ pass1 ! (init ! 34 refl
-          (tt, (tt, (record { fits = are .1 .1 .1 .1 .1 .1 .1 .1 .1 .1 .0 .0 .1 .0 }, tt)))) $ pass1 ! (init ! 32 refl
-          (tt, (tt, (record { fits = are .1 .1 .1 .1 .1 .1 .1 .1 .1 .1 .1 .0 .0 .1 .0 }, tt)))) $ pass1 ! (init ! 30 refl
-          (tt, (tt, (record { fits = are .1 .1 .1 .1 .1 .1 .1 .1 .1 .1 .1 .1 .0 .0 .1 .0 }, tt)))) $ pass1 ! (init ! 28 refl
-          (tt, (tt, (record { fits = are .1 .1 .1 .1 .1 .1 .1 .1 .1 .1 .1 .1 .1 .0 .0 .1 .0 }, tt)))) $ pass1 ! (init ! 26 refl
-          (tt, (tt, (record { fits = are .1 .1 .1 .1 .1 .1 .1 .1 .1 .1 .1 .1 .1 .1 .0 .0 .1 .0 }, tt)))) $ pass1 ! (init ! 24 refl
-          (tt, (tt, (record { fits = are .1 .1 .1 .1 .1 .1 .1 .1 .1 .1 .1 .1 .1 .1 .1 .0 .0 .1 .0 }, tt)))) $ pass1 ! (init ! 22 refl
-          (tt, (tt, (record { fits = are .1 .1 .1 .1 .1 .1 .1 .1 .1 .1 .1 .1 .1 .1 .1 .1 .0 .0 .1 .0 }, tt)))) $ pass1 ! (init ! 20 refl
-          (tt, (tt, (record { fits = are .1 .1 .1 .1 .1 .1 .1 .1 .1 .1 .1 .1 .1 .1 .1 .1 .1 .0 .0 .1 .0 }, tt)))) $ pass1 ! (init ! 18 refl
-          (tt, (tt, (record { fits = are .1 .1 .1 .1 .1 .1 .1 .1 .1 .1 .1 .1 .1 .1 .1 .1 .1 .1 .0 .0 .1 .0 }, tt)))) $ pass1 ! (init ! 16 refl
-          (tt, (tt, (record { fits = are .1 .1 .1 .1 .1 .1 .1 .1 .1 .1 .1 .1 .1 .1 .1 .1 .1 .1 .1 .0 .0 .1 .0 }, tt)))) $ pass1 ! (init ! 14 refl
-          (tt, (tt, (record { fits = are .1 .1 .1 .1 .1 .1 .1 .1 .1 .1 .1 .1 .1 .1 .1 .1 .1 .1 .1 .1 .0 .0 .1 .0 }, tt)))) $ pass1 ! (init ! 12 refl
-          (tt, (tt, (record { fits = are .1 .1 .1 .1 .1 .1 .1 .1 .1 .1 .1 .1 .1 .1 .1 .1 .1 .1 .1 .1 .1 .0 .0 .1 .0 }, tt)))) $ pass1 ! (init ! 10 refl
-          (tt, (tt, (record { fits = are .1 .1 .1 .1 .1 .1 .1 .1 .1 .1 .1 .1 .1 .1 .1 .1 .1 .1 .1 .1 .1 .1 .0 .0 .1 .0 }, tt)))) $ pass1 ! (init ! 8 refl
-          (tt, (tt, (record { fits = are .1 .1 .1 .1 .1 .1 .1 .1 .1 .1 .1 .1 .1 .1 .1 .1 .1 .1 .1 .1 .1 .1 .1 .0 .0 .1 .0 }, tt)))) $ pass1 ! (init ! 6 refl
-          (tt, (tt, (record { fits = are .1 .1 .1 .1 .1 .1 .1 .1 .1 .1 .1 .1 .1 .1 .1 .1 .1 .1 .1 .1 .1 .1 .1 .1 .0 .0 .1 .0 }, tt)))) $ pass0 ! $
-          assigns ! (of-opd ! (load ! (from ! (fld ! refl (stop !))) (look-in ! 48 (sub ! 1 refl (whole !))))) (from ! (stop !)) (init ! 4 refl (tt, record { fits = are .1 .1 .1 .0 .0 .1 .0 })) $
+          l22. alloc1 ! (λ l23. alloc1 ! (λ l24. alloc1 ! (λ l25. alloc1 ! (λ l26. alloc1 ! (λ l27. alloc1 ! (λ l28. alloc1 ! (λ l29. alloc1 ! (λ l30. alloc1 ! (λ l31. alloc0 ! $ params1 ! $
+          pass1 ! (init ! 60 refl (typed-sizes 𝓤 H A W z (are .0))) $ pass1 ! (init ! 58 refl (tt, record { fits = are .1 .0 .1 })) $ pass1 ! (init ! 56 refl (tt, record { fits = are .1 .1 .0 .1 })) $
+          pass1 ! (init ! 54 refl (tt, (tt, (record { fits = are .1 .1 .1 .0 .0 .1 .0 }, tt)))) $ pass1 ! (init ! 52 refl (typed-pool 𝓤 H A W p (pool-val p) (are .1 .1 .1 .1 .0))) $ pass1 ! (init ! 50
+          refl (tt, tt)) $ pass1 ! (init ! 48 refl (tt, (tt, (record { fits = are .1 .1 .1 .1 .1 .1 .0 .0 .1 .0 }, tt)))) $ pass1 ! (init ! 46 refl
+          (tt, (tt, (record { fits = are .1 .1 .1 .1 .1 .1 .1 .0 .0 .1 .0 }, tt)))) $ pass1 ! (init ! 44 refl (tt, (tt, (record { fits = are .1 .1 .1 .1 .1 .1 .1 .1 .0 .0 .1 .0 }, tt)))) $ pass1 !
+          (init ! 42 refl (tt, (tt, (record { fits = are .1 .1 .1 .1 .1 .1 .1 .1 .1 .0 .0 .1 .0 }, tt)))) $ pass1 ! (init ! 40 refl
+          (tt, (tt, (record { fits = are .1 .1 .1 .1 .1 .1 .1 .1 .1 .1 .0 .0 .1 .0 }, tt)))) $ pass1 ! (init ! 38 refl
+          (tt, (tt, (record { fits = are .1 .1 .1 .1 .1 .1 .1 .1 .1 .1 .1 .0 .0 .1 .0 }, tt)))) $ pass1 ! (init ! 36 refl
+          (tt, (tt, (record { fits = are .1 .1 .1 .1 .1 .1 .1 .1 .1 .1 .1 .1 .0 .0 .1 .0 }, tt)))) $ pass1 ! (init ! 34 refl
+          (tt, (tt, (record { fits = are .1 .1 .1 .1 .1 .1 .1 .1 .1 .1 .1 .1 .1 .0 .0 .1 .0 }, tt)))) $ pass1 ! (init ! 32 refl
+          (tt, (tt, (record { fits = are .1 .1 .1 .1 .1 .1 .1 .1 .1 .1 .1 .1 .1 .1 .0 .0 .1 .0 }, tt)))) $ pass1 ! (init ! 30 refl
+          (tt, (tt, (record { fits = are .1 .1 .1 .1 .1 .1 .1 .1 .1 .1 .1 .1 .1 .1 .1 .0 .0 .1 .0 }, tt)))) $ pass1 ! (init ! 28 refl
+          (tt, (tt, (record { fits = are .1 .1 .1 .1 .1 .1 .1 .1 .1 .1 .1 .1 .1 .1 .1 .1 .0 .0 .1 .0 }, tt)))) $ pass1 ! (init ! 26 refl
+          (tt, (tt, (record { fits = are .1 .1 .1 .1 .1 .1 .1 .1 .1 .1 .1 .1 .1 .1 .1 .1 .1 .0 .0 .1 .0 }, tt)))) $ pass1 ! (init ! 24 refl
+          (tt, (tt, (record { fits = are .1 .1 .1 .1 .1 .1 .1 .1 .1 .1 .1 .1 .1 .1 .1 .1 .1 .1 .0 .0 .1 .0 }, tt)))) $ pass1 ! (init ! 22 refl
+          (tt, (tt, (record { fits = are .1 .1 .1 .1 .1 .1 .1 .1 .1 .1 .1 .1 .1 .1 .1 .1 .1 .1 .1 .0 .0 .1 .0 }, tt)))) $ pass1 ! (init ! 20 refl
+          (tt, (tt, (record { fits = are .1 .1 .1 .1 .1 .1 .1 .1 .1 .1 .1 .1 .1 .1 .1 .1 .1 .1 .1 .1 .0 .0 .1 .0 }, tt)))) $ pass1 ! (init ! 18 refl
+          (tt, (tt, (record { fits = are .1 .1 .1 .1 .1 .1 .1 .1 .1 .1 .1 .1 .1 .1 .1 .1 .1 .1 .1 .1 .1 .0 .0 .1 .0 }, tt)))) $ pass1 ! (init ! 16 refl
+          (tt, (tt, (record { fits = are .1 .1 .1 .1 .1 .1 .1 .1 .1 .1 .1 .1 .1 .1 .1 .1 .1 .1 .1 .1 .1 .1 .0 .0 .1 .0 }, tt)))) $ pass1 ! (init ! 14 refl
+          (tt, (tt, (record { fits = are .1 .1 .1 .1 .1 .1 .1 .1 .1 .1 .1 .1 .1 .1 .1 .1 .1 .1 .1 .1 .1 .1 .1 .0 .0 .1 .0 }, tt)))) $ pass1 ! (init ! 12 refl
+          (tt, (tt, (record { fits = are .1 .1 .1 .1 .1 .1 .1 .1 .1 .1 .1 .1 .1 .1 .1 .1 .1 .1 .1 .1 .1 .1 .1 .1 .0 .0 .1 .0 }, tt)))) $ pass1 ! (init ! 10 refl
+          (tt, (tt, (record { fits = are .1 .1 .1 .1 .1 .1 .1 .1 .1 .1 .1 .1 .1 .1 .1 .1 .1 .1 .1 .1 .1 .1 .1 .1 .1 .0 .0 .1 .0 }, tt)))) $ pass1 ! (init ! 8 refl
+          (tt, (tt, (record { fits = are .1 .1 .1 .1 .1 .1 .1 .1 .1 .1 .1 .1 .1 .1 .1 .1 .1 .1 .1 .1 .1 .1 .1 .1 .1 .1 .0 .0 .1 .0 }, tt)))) $ pass1 ! (init ! 6 refl
+          (tt, (tt, (record { fits = are .1 .1 .1 .1 .1 .1 .1 .1 .1 .1 .1 .1 .1 .1 .1 .1 .1 .1 .1 .1 .1 .1 .1 .1 .1 .1 .1 .0 .0 .1 .0 }, tt)))) $ pass0 ! $
+          assigns ! (of-opd ! (load ! (from ! (fld ! refl (stop !))) (look-in ! 54 (sub ! 1 refl (whole !))))) (from ! (stop !)) (init ! 4 refl (tt, record { fits = are .1 .1 .1 .0 .0 .1 .0 })) $
           -- `load`
-          move ! (59 ∷ 58 ∷ []) $ use2 W (raw (Load 𝓤 H A at-mem run .pre (to-load 𝓤 H A at-mem run κ0 q0 xf))) (goes-load 𝓤 H A at-mem run W κ0 q0 xf) $
-          calls-at ! fm (Load 𝓤 H A at-mem run) known-load (to-load 𝓤 H A at-mem run κ0 q0 xf) (and-then ! (load ! (from ! (stop !)) (look ! 49 refl)) (no-more !)) (λ v.
+          move ! (65 ∷ 64 ∷ []) $ use2 W (raw (Load 𝓤 H A at-mem run .pre (to-load 𝓤 H A at-mem run κ0 q0 xf))) (goes-load 𝓤 H A at-mem run W κ0 q0 xf) $
+          calls-at ! fm (Load 𝓤 H A at-mem run) known-load (to-load 𝓤 H A at-mem run κ0 q0 xf) (and-then ! (load ! (from ! (stop !)) (look ! 55 refl)) (no-more !)) (λ v.
           use1 W (later (some (λ (r : List Frame). ((‵ (flft κ0 q0) ⊛ ‵ ftrue) ⊛ ‵ (F64 .own r (v ∷ []))) ⊛ raw (ensured 𝓤 H A load′.ended (load′.clauses 𝓤 H A at-mem run) (κ0, tt) (xf, tt) tt r)))) (id⊢ 𝓤 _) $ await ! tt $ pick ! (λ r.
           split ! $ move ! (1 ∷ []) $ use1 W (raw (fact 𝓤 (r ≡ loaded (now xf)))) (load-of 𝓤 H A at-mem run κ0 xf r) $ heard ! (r ≡ loaded (now xf)) (λ eq. split ! $ rewrite ! 1 (λ (l : List Frame). ‵ (F64 .own l (v ∷ []))) eq refl $
           move ! (1 ∷ []) $ peeks ! F64 (Is F64) (shows 𝓤 H A F64) (loaded (now xf)) (v ∷ []) (λ is-a. drop ! $
           land ! (from ! (stop !)) (init ! 3 refl (typed64 𝓤 H A W (loaded (now xf)) v is-a)) $
-          assigns ! (addr ! (from ! (hop ! (look ! 45 refl) (stop !)))) (from ! (stop !)) (init ! 1 refl (tt, tt)) $
+          assigns ! (addr ! (from ! (hop ! (look ! 51 refl) (stop !)))) (from ! (stop !)) (init ! 1 refl (tt, tt)) $
           -- the work
-          move ! (60 ∷ 59 ∷ []) $ use2 W (raw (Core 𝓤 H A at-mem run .pre (to-core v))) (goes-core v is-a) $
-          calls-at ! fm (Core 𝓤 H A at-mem run) known-core (to-core v) (and-then ! (load ! (from ! (stop !)) (look ! 56 refl)) (and-then ! (load ! (from ! (stop !)) (look ! 54 refl)) (and-then ! (load
-          ! (from ! (stop !)) (look ! 52 refl)) (and-then ! (load ! (from ! (stop !)) (look ! 6 refl)) (and-then ! (load ! (from ! (stop !)) (look ! 4 refl)) (and-then ! (load ! (from ! (stop !))
-          (look ! 48 refl)) (and-then ! (load ! (from ! (stop !)) (look ! 2 refl)) (and-then ! (load ! (from ! (stop !)) (look ! 44 refl)) (and-then ! (load ! (from ! (stop !)) (look ! 42 refl))
-          (and-then ! (load ! (from ! (stop !)) (look ! 40 refl)) (and-then ! (load ! (from ! (stop !)) (look ! 38 refl)) (and-then ! (load ! (from ! (stop !)) (look ! 36 refl)) (and-then ! (load !
-          (from ! (stop !)) (look ! 34 refl)) (and-then ! (load ! (from ! (stop !)) (look ! 32 refl)) (and-then ! (load ! (from ! (stop !)) (look ! 30 refl)) (and-then ! (load ! (from ! (stop !))
-          (look ! 28 refl)) (and-then ! (load ! (from ! (stop !)) (look ! 26 refl)) (and-then ! (load ! (from ! (stop !)) (look ! 24 refl)) (and-then ! (load ! (from ! (stop !)) (look ! 22 refl))
-          (and-then ! (load ! (from ! (stop !)) (look ! 20 refl)) (and-then ! (load ! (from ! (stop !)) (look ! 18 refl)) (and-then ! (load ! (from ! (stop !)) (look ! 16 refl)) (and-then ! (load !
-          (from ! (stop !)) (look ! 14 refl)) (and-then ! (load ! (from ! (stop !)) (look ! 12 refl)) (and-then ! (load ! (from ! (stop !)) (look ! 10 refl)) (and-then ! (load ! (from ! (stop !))
-          (look ! 8 refl)) (no-more !))))))))))))))))))))))))))) (λ w.
+          move ! (66 ∷ 65 ∷ []) $ use2 W (raw (Core 𝓤 H A at-mem run .pre (to-core v))) (goes-core v is-a) $
+          calls-at ! fm (Core 𝓤 H A at-mem run) known-core (to-core v) (and-then ! (load ! (from ! (stop !)) (look ! 62 refl)) (and-then ! (load ! (from ! (stop !)) (look ! 60 refl)) (and-then ! (load
+          ! (from ! (stop !)) (look ! 58 refl)) (and-then ! (load ! (from ! (stop !)) (look ! 6 refl)) (and-then ! (load ! (from ! (stop !)) (look ! 4 refl)) (and-then ! (load ! (from ! (stop !))
+          (look ! 54 refl)) (and-then ! (load ! (from ! (stop !)) (look ! 2 refl)) (and-then ! (load ! (from ! (stop !)) (look ! 50 refl)) (and-then ! (load ! (from ! (stop !)) (look ! 48 refl))
+          (and-then ! (load ! (from ! (stop !)) (look ! 46 refl)) (and-then ! (load ! (from ! (stop !)) (look ! 44 refl)) (and-then ! (load ! (from ! (stop !)) (look ! 42 refl)) (and-then ! (load !
+          (from ! (stop !)) (look ! 40 refl)) (and-then ! (load ! (from ! (stop !)) (look ! 38 refl)) (and-then ! (load ! (from ! (stop !)) (look ! 36 refl)) (and-then ! (load ! (from ! (stop !))
+          (look ! 34 refl)) (and-then ! (load ! (from ! (stop !)) (look ! 32 refl)) (and-then ! (load ! (from ! (stop !)) (look ! 30 refl)) (and-then ! (load ! (from ! (stop !)) (look ! 28 refl))
+          (and-then ! (load ! (from ! (stop !)) (look ! 26 refl)) (and-then ! (load ! (from ! (stop !)) (look ! 24 refl)) (and-then ! (load ! (from ! (stop !)) (look ! 22 refl)) (and-then ! (load !
+          (from ! (stop !)) (look ! 20 refl)) (and-then ! (load ! (from ! (stop !)) (look ! 18 refl)) (and-then ! (load ! (from ! (stop !)) (look ! 16 refl)) (and-then ! (load ! (from ! (stop !))
+          (look ! 14 refl)) (and-then ! (load ! (from ! (stop !)) (look ! 12 refl)) (and-then ! (load ! (from ! (stop !)) (look ! 10 refl)) (and-then ! (load ! (from ! (stop !)) (look ! 8 refl))
+          (no-more !)))))))))))))))))))))))))))))) (λ w.
           use1 W (later (some (λ (r′ : RefT (List ℕ)). ((‵ (flft κ1 q1) ⊛ toks) ⊛ ‵ (ShrSlice (named 9) (κt .1 .1 .1 .1 .1 .1 .1 .0) u32 .own r′ (w ∷ []))) ⊛ raw (ensured 𝓤 H A core.ended (core.clauses 𝓤 H A at-mem run) (κ1, κt) (z, (slot, (page, (n, (loaded (now xf), (p, (xr, xt))))))) tt r′)))) (id⊢ 𝓤 _) $ await ! tt $ pick ! (λ r′.
           split ! $ move ! (1 ∷ []) $ use1 W (some (λ (y : ℕ). given (Left r′ y) (‵ (fres (name xr) (u32 .coded .code y))))) (core-of r′) $ pick ! (λ y. learn ! (λ e₁.
           move ! (1 ∷ []) $ split ! $ move ! (1 ∷ []) $ peeks ! (ShrSlice (named 9) (κt .1 .1 .1 .1 .1 .1 .1 .0) u32) (Is (ShrSlice (named 9) (κt .1 .1 .1 .1 .1 .1 .1 .0) u32)) (shows 𝓤 H A (ShrSlice (named 9) (κt .1 .1 .1 .1 .1 .1 .1 .0) u32)) r′ (w ∷ []) (λ is-r.
-          land ! (from ! (stop !)) (init ! 60 refl (shr-slice-lawful 𝓤 H A W (named 9) (κt .1 .1 .1 .1 .1 .1 .1 .0) u32 .typed r′ (w ∷ []) is-r .0)) $
-          returns ! (look ! 60 refl) $
-          forget ! 60 refl $ move ! (60 ∷ 61 ∷ []) $ free1 ! $ forget ! 58 refl $ move ! (58 ∷ 59 ∷ []) $ free1 ! $ forget ! 56 refl $ move ! (56 ∷ 57 ∷ []) $ free1 ! $ forget ! 54 refl $ move ! (54 ∷
-          55 ∷ []) $ free1 ! $ forget ! 52 refl $ move ! (52 ∷ 53 ∷ []) $ free1 ! $ forget ! 50 refl $ move ! (50 ∷ 51 ∷ []) $ free1 ! $ forget ! 48 refl $ move ! (48 ∷ 49 ∷ []) $ free1 ! $ forget !
-          46 refl $ move ! (46 ∷ 47 ∷ []) $ free1 ! $ forget ! 44 refl $ move ! (44 ∷ 45 ∷ []) $ free1 ! $ forget ! 42 refl $ move ! (42 ∷ 43 ∷ []) $ free1 ! $ forget ! 40 refl $ move ! (40 ∷ 41 ∷ [])
-          $ free1 ! $ forget ! 38 refl $ move ! (38 ∷ 39 ∷ []) $ free1 ! $ forget ! 36 refl $ move ! (36 ∷ 37 ∷ []) $ free1 ! $ forget ! 34 refl $ move ! (34 ∷ 35 ∷ []) $ free1 ! $ forget ! 32 refl $
-          move ! (32 ∷ 33 ∷ []) $ free1 ! $ forget ! 30 refl $ move ! (30 ∷ 31 ∷ []) $ free1 ! $ forget ! 28 refl $ move ! (28 ∷ 29 ∷ []) $ free1 ! $ forget ! 26 refl $ move ! (26 ∷ 27 ∷ []) $ free1 !
-          $ forget ! 24 refl $ move ! (24 ∷ 25 ∷ []) $ free1 ! $ forget ! 22 refl $ move ! (22 ∷ 23 ∷ []) $ free1 ! $ forget ! 20 refl $ move ! (20 ∷ 21 ∷ []) $ free1 ! $ forget ! 18 refl $ move ! (18
-          ∷ 19 ∷ []) $ free1 ! $ forget ! 16 refl $ move ! (16 ∷ 17 ∷ []) $ free1 ! $ forget ! 14 refl $ move ! (14 ∷ 15 ∷ []) $ free1 ! $ forget ! 12 refl $ move ! (12 ∷ 13 ∷ []) $ free1 ! $ forget !
-          10 refl $ move ! (10 ∷ 11 ∷ []) $ free1 ! $ forget ! 8 refl $ move ! (8 ∷ 9 ∷ []) $ free1 ! $ forget ! 6 refl $ move ! (6 ∷ 7 ∷ []) $ free1 ! $ forget ! 4 refl $ move ! (4 ∷ 5 ∷ []) $ free1
-          ! $ free0 ! $
-          move ! (3 ∷ []) $ split ! $ keep ! (0 ∷ 3 ∷ 4 ∷ 2 ∷ []) $ by ! (exits r′ w y e₁)))))))))))))))))))))))))))))))))))))))
+          land ! (from ! (stop !)) (init ! 66 refl (shr-slice-lawful 𝓤 H A W (named 9) (κt .1 .1 .1 .1 .1 .1 .1 .0) u32 .typed r′ (w ∷ []) is-r .0)) $
+          returns ! (look ! 66 refl) $
+          forget ! 66 refl $ move ! (66 ∷ 67 ∷ []) $ free1 ! $ forget ! 64 refl $ move ! (64 ∷ 65 ∷ []) $ free1 ! $ forget ! 62 refl $ move ! (62 ∷ 63 ∷ []) $ free1 ! $ forget ! 60 refl $ move ! (60 ∷
+          61 ∷ []) $ free1 ! $ forget ! 58 refl $ move ! (58 ∷ 59 ∷ []) $ free1 ! $ forget ! 56 refl $ move ! (56 ∷ 57 ∷ []) $ free1 ! $ forget ! 54 refl $ move ! (54 ∷ 55 ∷ []) $ free1 ! $ forget !
+          52 refl $ move ! (52 ∷ 53 ∷ []) $ free1 ! $ forget ! 50 refl $ move ! (50 ∷ 51 ∷ []) $ free1 ! $ forget ! 48 refl $ move ! (48 ∷ 49 ∷ []) $ free1 ! $ forget ! 46 refl $ move ! (46 ∷ 47 ∷ [])
+          $ free1 ! $ forget ! 44 refl $ move ! (44 ∷ 45 ∷ []) $ free1 ! $ forget ! 42 refl $ move ! (42 ∷ 43 ∷ []) $ free1 ! $ forget ! 40 refl $ move ! (40 ∷ 41 ∷ []) $ free1 ! $ forget ! 38 refl $
+          move ! (38 ∷ 39 ∷ []) $ free1 ! $ forget ! 36 refl $ move ! (36 ∷ 37 ∷ []) $ free1 ! $ forget ! 34 refl $ move ! (34 ∷ 35 ∷ []) $ free1 ! $ forget ! 32 refl $ move ! (32 ∷ 33 ∷ []) $ free1 !
+          $ forget ! 30 refl $ move ! (30 ∷ 31 ∷ []) $ free1 ! $ forget ! 28 refl $ move ! (28 ∷ 29 ∷ []) $ free1 ! $ forget ! 26 refl $ move ! (26 ∷ 27 ∷ []) $ free1 ! $ forget ! 24 refl $ move ! (24
+          ∷ 25 ∷ []) $ free1 ! $ forget ! 22 refl $ move ! (22 ∷ 23 ∷ []) $ free1 ! $ forget ! 20 refl $ move ! (20 ∷ 21 ∷ []) $ free1 ! $ forget ! 18 refl $ move ! (18 ∷ 19 ∷ []) $ free1 ! $ forget !
+          16 refl $ move ! (16 ∷ 17 ∷ []) $ free1 ! $ forget ! 14 refl $ move ! (14 ∷ 15 ∷ []) $ free1 ! $ forget ! 12 refl $ move ! (12 ∷ 13 ∷ []) $ free1 ! $ forget ! 10 refl $ move ! (10 ∷ 11 ∷ [])
+          $ free1 ! $ forget ! 8 refl $ move ! (8 ∷ 9 ∷ []) $ free1 ! $ forget ! 6 refl $ move ! (6 ∷ 7 ∷ []) $ free1 ! $ forget ! 4 refl $ move ! (4 ∷ 5 ∷ []) $ free1 ! $ free0 ! $
+          move ! (3 ∷ []) $ split ! $ keep ! (0 ∷ 3 ∷ 4 ∷ 2 ∷ []) $ by ! (exits r′ w y e₁))))))))))))))))))))))))))))))))))))))))))
 
 module _ {M : Type 1} (𝓤 : URA M) (H : Heap 𝓤) (A : Atoms 𝓤) (W : Given 𝓤 H A) (at-mem : Memory → SProp 𝓤) (run : Routine → Fun 𝓤) where
   walks : (C : Calls 𝓤 H) (Λ : Loops 𝓤 H) → FmC 𝓤 H (W .laws) C → Triple 𝓤 (C #load) (Load 𝓤 H A at-mem run) → Triple 𝓤 (C #core) (Core 𝓤 H A at-mem run)
       → Walks 𝓤 H A fn.ended stayed (WpFn 𝓤 H C Λ code.function) (fn.clauses 𝓤 H A at-mem run)
   walks C Λ fm known-load known-core = walked 𝓤 H A fn.ended stayed (fn.clauses 𝓤 H A at-mem run) (WpFn 𝓤 H C Λ code.function)
-      (λ κs. (sizes-vals, (uint-vals w64, (uint-vals w64, (slice-vals, (LL.vals TP.the-type TP′.the-laws, (ptr-vals, (slice-vals, (slice-vals, (slice-vals, (slice-vals, (slice-vals, (slice-vals, (slice-vals, (slice-vals, (slice-vals, (slice-vals, (slice-vals, (slice-vals, (slice-vals, (slice-vals, (slice-vals, (slice-vals, (slice-vals, (slice-vals, (slice-vals, tt))))))))))))))))))))))))))
-      (λ (κ0, (κ1, (κ2, (κ3, (κ4, (κ5, (κ6, (κ7, (κ8, (κ9, (κ10, (κ11, (κ12, (κ13, (κ14, (κ15, (κ16, (κ17, (κ18, (κ19, (κ20, _))))))))))))))))))))). let e = LL.tells TP.the-type TP′.the-laws in let u = uint-tells w64 in let r = mut-tells (named 1) κ1 u32 in
-      (sizes-tells, (u, (u, (shr 0 κ0 F, (e, (r, (shr 2 κ2 u32, (shr 3 κ3 u32, (shr 4 κ4 u16, (shr 5 κ5 u16, (shr 6 κ6 u16, (shr 7 κ7 u16, (shr 8 κ8 u32, (shr 9 κ9 u32, (shr 10 κ10 u16, (shr 11 κ11 u16, (shr 12 κ12 u16, (shr 13 κ13 u8, (shr 14 κ14 u8, (shr 15 κ15 u32, (shr 16 κ16 u8, (shr 17 κ17 u8, (shr 18 κ18 u16, (shr 19 κ19 u16, (shr 20 κ20 u16, tt))))))))))))))))))))))))))
+      (λ κs. (sizes-vals, (uint-vals w64, (uint-vals w64, (slice-vals, (LL.vals TP.the-type TP′.the-laws, (ptr-vals, each-vals 22)))))))
+      (λ (κ0, (κ1, (κ2, (κ3, (κ4, (κ5, (κ6, (κ7, (κ8, (κ9, (κ10, (κ11, (κ12, (κ13, (κ14, (κ15, (κ16, (κ17, (κ18, (κ19, (κ20, (κ21, (κ22, (κ23, _)))))))))))))))))))))))). let e = LL.tells TP.the-type TP′.the-laws in let u = uint-tells w64 in let r = mut-tells (named 1) κ1 u32 in
+      let i = u8 in let j = u16 in let k = u32 in let o = shr in
+      (sizes-tells, (u, (u, (shr 0 κ0 F, (e, (r, (o 2 κ2 k, (o 3 κ3 k, (o 4 κ4 j, (o 5 κ5 j, (o 6 κ6 j, (o 7 κ7 j, (o 8 κ8 k, (o 9 κ9 k, (o 10 κ10 j, (o 11 κ11 j, (o 12 κ12 j, (o 13 κ13 i, (o 14 κ14 i, (o 15 κ15 k, (o 16 κ16 i, (o 17 κ17 i, (o 18 κ18 j, (o 19 κ19 k, (o 20 κ20 j, (o 21 κ21 j, (o 22 κ22 j, (o 23 κ23 j, tt)))))))))))))))))))))))))))))
       (λ κs qs bounds a g are. via 𝓤 _ (fst∗ 𝓤 _ (emp 𝓤))
       (walk 𝓤 H A W at-mem run (κs .0) (qs .0) (κs .1 .0) (qs .1 .0) (κs .1 .1) (qs .1 .1) (a .0) (a .1 .0) (a .1 .1 .0) (a .1 .1 .1 .0) (a .1 .1 .1 .1 .0) (a .1 .1 .1 .1 .1 .0) (a .1 .1 .1 .1 .1 .1) are C Λ fm known-load known-core))
 
 meets : {M : Type 1} (𝓤 : URA M) (H : Heap 𝓤) (A : Atoms 𝓤) → Given 𝓤 H A → (at-mem : Memory → SProp 𝓤) (run : Routine → Fun 𝓤) (𝓣 : Tables 𝓤 H) → Triple 𝓤 (𝓣 .C #load) (Load 𝓤 H A at-mem run) → Triple 𝓤 (𝓣 .C #core) (Core 𝓤 H A at-mem run)
     → Meets 𝓤 H A fn.signature (WpFn 𝓤 H (𝓣 .C) (𝓣 .Λ) code.function) (fn.spec 𝓤 H A at-mem run)
 meets 𝓤 H A W at-mem run 𝓣 known-load known-core =
-    let v = goes-value 𝓤 H A W 21 in let h = goes-seen 𝓤 H A W 21 in let r = goes-gave-ref 𝓤 H A W 21 1 tt (plain (λ _. u32)) in let u = v usize (λ κs x f. refl) in
+    let v = goes-value 𝓤 H A W 24 in let h = goes-seen 𝓤 H A W 24 in let r = goes-gave-ref 𝓤 H A W 24 1 tt (plain (λ _. u32)) in let u = v usize (λ κs x f. refl) in
+    let i = u8 in let j = u16 in let k = u32 in
     walk-meets 𝓤 H A fn.ended stayed W
-    (v Z (λ κs x f. refl), (u, (u, (h 0 tt F, (v P (λ κs x f. refl), (r, (h 2 tt u32, (h 3 tt u32, (h 4 tt u16, (h 5 tt u16, (h 6 tt u16, (h 7 tt u16, (h 8 tt u32, (h 9 tt u32, (h 10 tt u16, (h 11 tt u16, (h 12 tt u16, (h 13 tt u8, (h 14 tt u8, (h 15 tt u32, (h 16 tt u8, (h 17 tt u8, (h 18 tt u16, (h 19 tt u16, (h 20 tt u16, tt))))))))))))))))))))))))) (fn.clauses 𝓤 H A at-mem run)
+    (v Z (λ κs x f. refl), (u, (u, (h 0 tt F, (v P (λ κs x f. refl), (r, (h 2 tt k, (h 3 tt k, (h 4 tt j, (h 5 tt j, (h 6 tt j, (h 7 tt j, (h 8 tt k, (h 9 tt k, (h 10 tt j, (h 11 tt j, (h 12 tt j, (h 13 tt i, (h 14 tt i, (h 15 tt k, (h 16 tt i, (h 17 tt i, (h 18 tt j, (h 19 tt k, (h 20 tt j, (h 21 tt j, (h 22 tt j, (h 23 tt j, tt)))))))))))))))))))))))))))) (fn.clauses 𝓤 H A at-mem run)
     (WpFn 𝓤 H (𝓣 .C) (𝓣 .Λ) code.function) (WpFn-mono 𝓤 H (W .laws) 𝓣 code.function) (walks 𝓤 H A W at-mem run (𝓣 .C) (𝓣 .Λ) (fmOf 𝓤 H (W .laws) 𝓣) known-load known-core)
 
 pub page-look-spec : {M : Type 1} → stated.statement M

@@ -58,7 +58,7 @@ returns : tie.Need-returns
 returns c =
     let q = asked (c .before) in
     let l = fault-none q (c .if1 .taken) in
-    (fault-no q (c .if1 .taken), (refl, (l .frames, (l .words-left, (l .queue-left, (l .list-left, (l .addresses-left, (l .states-left, (l .owners-left, (l .map-left, (l .hand, l .free)))))))))))
+    (fault-no q (c .if1 .taken), (refl, (refl, (l .frames, (l .words-left, (l .queue-left, (l .list-left, (l .addresses-left, (l .states-left, (l .owners-left, (l .map-left, (l .hand, l .free))))))))))))
 
 page-of-requires : tie.Need-page-of-requires
 page-of-requires c κs = let r = range c in (start (c .before) .pre .0 .sizes, r .0, r .1)
@@ -96,7 +96,7 @@ returns-2 c =
     (from x .pre .0 .sizes .pages) _ (d .hold .result) _ _ _ _ _ _ _
     (v .serve .ensures .0) (d .hold .ensures .0) (v .serve .ensures .1 .0) (o .pop .ensures) (v .serve .ensures .1 .1) (d .hold .ensures .1 .0) (d .hold .ensures .1 .1 .0) (d .hold .ensures .1 .1 .1 .0) (d .hold .ensures .1 .1 .1 .1) in (
       fault-yes q (passed x .if1 .left) (paged x .page-of .ensures) (x .way-of .ensures) (queued x .first .ensures),
-      (refl, (l .frames, (l .words-left, (l .queue-left, (l .list-left, (l .addresses-left, (l .states-left, (l .owners-left, (l .map-left, (l .hand, l .free)))))))))),
+      (refl, (refl, (l .frames, (l .words-left, (l .queue-left, (l .list-left, (l .addresses-left, (l .states-left, (l .owners-left, (l .map-left, (l .hand, l .free))))))))))),
     )
 
 pub fault-spec : {M : Type 1} → statement M

@@ -2,13 +2,13 @@
 use borrow.Author.Needs.{needs}
 use mathlib.Core.Path.{sym, _∙_}
 use Rattle.model.specs.Sizes.{sizesFit}
-use Rattle.model.specs.Step.{allFit}
+use Rattle.model.specs.Laws.Apart.{tablesFit}
 use Rattle.tables.specs.Turn.{learn, both, first-no, second-told}
 use Rattle.questions.proofs.question1.all_fit.Statement.{statement}
 use Rattle.questions.proofs.question1.all_fit.Tie as tie
 
 returns : tie.Need-returns
-unfolding allFit
+unfolding tablesFit
 returns c =
     let s₀ : tie.Start = search in let args = s₀ .args in
     λ frames pool e. first-no (sizesFit (args .z)) _ (sym (c .if1 .left) ∙ c .before .sizes-fit .ensures)
@@ -24,7 +24,7 @@ memory-lengths-fit-requires c κs =
     learn (sizesFit (args .z)) (sym (c .before .if1 .taken) ∙ c .before .before .sizes-fit .ensures)
 
 returns-2 : tie.Need-returns-2
-unfolding allFit
+unfolding tablesFit
 returns-2 c =
     let s₀ : tie.Start = search in let args = s₀ .args in
     let after-sizes-fit : tie.After-sizes-fit = search in let sizes-fit = after-sizes-fit .sizes-fit in

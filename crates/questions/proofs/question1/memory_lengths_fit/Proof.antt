@@ -1,5 +1,4 @@
 -- The twelve tests are the rule's; the products are small.
-use borrow.Author.Needs.{needs}
 use Prim.Native.Nat.{_+_, _*_, _/_}
 use lib.Dec.{eqb}
 use lib.ListN.{length}
@@ -20,6 +19,11 @@ mul-result c =
     let s₀ : tie.Start = search in let args = s₀ .args in let pre = s₀ .pre in
     omega (arith, frame-words-most (args .z) (within (args .z) pre))
 
+add-result : tie.Need-add-result
+add-result c =
+    let s₀ : tie.Start = search in let args = s₀ .args in let pre = s₀ .pre in
+    omega (arith, within (args .z) pre .records-most)
+
 returns : tie.Need-returns
 unfolding test packed
 returns c =
@@ -31,4 +35,4 @@ returns c =
     )
 
 pub memory-lengths-fit-spec : {M : Type 1} → statement M
-memory-lengths-fit-spec = tie.close (tie.spec mul-pages mul-result (λ c. search needs) returns)
+memory-lengths-fit-spec = tie.close (tie.spec mul-pages mul-result add-result returns)

@@ -12,7 +12,8 @@ use Rattle.model.specs.State.{State, allPages, files, frameAt}
 use Rattle.model.specs.Laws.Ruled.{OnDisk}
 use Rattle.leaves.specs.Packed.{unpacked}
 use Rattle.leaves.specs.Payers.{Paying, paying, paying-below}
-use Rattle.model.specs.Laws.Fit.{Fit, fit}
+use Rattle.model.specs.Laws.Fit.{Fit}
+use Rattle.model.specs.Laws.Apart.{fit-apart}
 use Rattle.model.specs.Laws.Bounds.{pages-most}
 use Rattle.model.specs.Lent.{stateOf}
 use Rattle.questions.proofs.Shapes.{all-zero}
@@ -29,7 +30,7 @@ lent s =
     (a .addresses .now) (a .states .now) (a .owners .now) (a .free-map .now) (a .active .now) (a .updating .now) (a .images .now) (a .used .now)
 
 fits : (s : tie.Start) → Fit (s .args .z) (lent s)
-fits s = fit (s .args .z) (lent s) (s .pre)
+fits s = fit-apart (s .args .z) (lent s) (s .pre)
 
 same : (s : tie.Start) (f : ℕ) → f < s .args .z .frames → frameAt (unpacked (s .args .frames .now)) f ≡ frameAt (lent s .memory .core .frames) f
 same s = frames-taken (s .args .z .frames) (s .args .count) (unpacked (s .args .frames .now)) (fits s .memory .frames)

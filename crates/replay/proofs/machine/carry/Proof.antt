@@ -8,13 +8,13 @@ use Rattle.replay.proofs.machine.carry.Statement.{statement}
 use Rattle.replay.proofs.machine.carry.Tie as tie
 
 -- the places before the calls
-abbrev half : tie.After-restart-core-arg24 → tie.After-restart-core-arg10
+abbrev half : tie.After-restart-core-arg27 → tie.After-restart-core-arg10
 half c = search
 
 abbrev restarts : tie.After-restart-core-arg10 → tie.After-sizes
 restarts c = search
 
-abbrev applies : tie.After-apply-one-arg19 → tie.After-sizes2
+abbrev applies : tie.After-apply-one-arg22 → tie.After-sizes2
 applies c = search
 
 abbrev begun : tie.After-sizes2 → tie.Start

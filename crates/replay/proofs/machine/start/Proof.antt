@@ -4,9 +4,15 @@ use Rattle.replay.proofs.Carried.{by-start}
 use Rattle.replay.proofs.machine.start.Statement.{statement}
 use Rattle.replay.proofs.machine.start.Tie as tie
 
--- the place before the call
+-- the place before the call, by one between
+abbrev half : tie.After-carry → tie.After-carry-arg12
+half c = search
+
+abbrev first : tie.After-carry-arg12 → tie.After-blank
+first h = search
+
 abbrev blanked : tie.After-carry → tie.After-blank
-blanked c = search
+blanked c = first (half c)
 
 abbrev sized : tie.After-format → tie.After-sizes
 sized f = search

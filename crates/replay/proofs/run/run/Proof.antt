@@ -10,13 +10,13 @@ use Rattle.replay.proofs.run.run.Tie as tie
 
 -- the tables, in the order in which they are lent: a to u, with the highest number v, and the parents p, which stay
 abbrev Inv-loop : tie.InvT-loop
-Inv-loop a₀ b₀ c₀ d₀ e₀ p v₀ f₀ g₀ h₀ i₀ j₀ k₀ l₀ m₀ o₀ q₀ r₀ u₀ held₀ buffer₀ out₀ reader₀ n₀ turns₀
-    a b c d e v f g h i j k l m o q r u held buffer out reader n turns =
+Inv-loop a₀ b₀ c₀ d₀ e₀ p v₀ f₀ g₀ h₀ i₀ j₀ k₀ l₀ m₀ o₀ q₀ x₀ y₀ s₀ r₀ u₀ held₀ buffer₀ out₀ reader₀ n₀ turns₀
+    a b c d e v f g h i j k l m o q x y s r u held buffer out reader n turns =
     (reader .place ≤ reader .filled) × (reader .filled ≤ 4096) × (length buffer ≡ 4096) × (length out ≡ 4096)
 
 abbrev μ-loop : tie.MeasureT-loop
-μ-loop a₀ b₀ c₀ d₀ e₀ p v₀ f₀ g₀ h₀ i₀ j₀ k₀ l₀ m₀ o₀ q₀ r₀ u₀ held₀ buffer₀ out₀ reader₀ n₀ turns₀
-    a b c d e v f g h i j k l m o q r u held buffer out reader n turns =
+μ-loop a₀ b₀ c₀ d₀ e₀ p v₀ f₀ g₀ h₀ i₀ j₀ k₀ l₀ m₀ o₀ q₀ x₀ y₀ s₀ r₀ u₀ held₀ buffer₀ out₀ reader₀ n₀ turns₀
+    a b c d e v f g h i j k l m o q x y s r u held buffer out reader n turns =
     turns
 
 -- the place before the call

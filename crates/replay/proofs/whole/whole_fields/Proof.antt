@@ -10,24 +10,30 @@ use Rattle.replay.proofs.whole.whole_fields.Tie as tie
 
 -- the tables, in the order in which they are lent: a to u, with the highest number v, and the parents p, which stay
 abbrev Inv-loop : tie.InvT-loop
-Inv-loop input from out₀ count a₀ b₀ c₀ d₀ e₀ p v₀ f₀ g₀ h₀ i₀ j₀ k₀ l₀ m₀ o₀ q₀ r₀ u₀ held₀ place₀ size₀ n₀ step₀
-    out a b c d e v f g h i j k l m o q r u held place size n step =
+Inv-loop input from out₀ count a₀ b₀ c₀ d₀ e₀ p v₀ f₀ g₀ h₀ i₀ j₀ k₀ l₀ m₀ o₀ q₀ x₀ y₀ s₀ r₀ u₀ held₀ place₀ size₀ n₀ step₀
+    out a b c d e v f g h i j k l m o q x y s r u held place size n step =
     At input out₀ from count
-    (allOf (framesOf (held₀ .frames) 2) (held₀ .pool) a₀ b₀ c₀ d₀ e₀ p v₀ f₀ g₀ h₀ i₀ j₀ k₀ l₀ m₀ o₀ q₀ r₀ u₀)
+    (allOf (framesOf (held₀ .frames) 2) (held₀ .pool) a₀ b₀ c₀ d₀ e₀ p v₀ f₀ g₀ h₀ i₀ j₀ k₀ l₀ m₀ o₀ q₀ x₀ y₀ s₀ r₀ u₀)
     place size n step out
-    (allOf (framesOf (held .frames) 2) (held .pool) a b c d e p v f g h i j k l m o q r u)
+    (allOf (framesOf (held .frames) 2) (held .pool) a b c d e p v f g h i j k l m o q x y s r u)
 
 abbrev μ-loop : tie.MeasureT-loop
-μ-loop input from out₀ count a₀ b₀ c₀ d₀ e₀ p v₀ f₀ g₀ h₀ i₀ j₀ k₀ l₀ m₀ o₀ q₀ r₀ u₀ held₀ place₀ size₀ n₀ step₀
-    out a b c d e v f g h i j k l m o q r u held place size n step =
+μ-loop input from out₀ count a₀ b₀ c₀ d₀ e₀ p v₀ f₀ g₀ h₀ i₀ j₀ k₀ l₀ m₀ o₀ q₀ x₀ y₀ s₀ r₀ u₀ held₀ place₀ size₀ n₀ step₀
+    out a b c d e v f g h i j k l m o q x y s r u held place size n step =
     18446744073709551615 - n
 
 -- the places before the calls
 abbrev In : Type 0
 In = tie.In-loop Inv-loop μ-loop
 
+abbrev half : tie.After-carry Inv-loop μ-loop → tie.After-carry-arg12 Inv-loop μ-loop
+half c = search
+
+abbrev first : tie.After-carry-arg12 Inv-loop μ-loop → In
+first h = search
+
 abbrev turned : tie.After-carry Inv-loop μ-loop → In
-turned c = search
+turned c = first (half c)
 
 loop-holds : tie.Need-loop-holds Inv-loop μ-loop
 loop-holds c = let s : tie.After-step-at Inv-loop μ-loop = search in at-first (s .step-at .ensures)

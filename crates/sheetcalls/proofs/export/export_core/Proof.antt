@@ -18,7 +18,7 @@ abbrev at : tie.Start → List Frame → State
 at s l =
     let a = s .args in
     allGiven l (a .pool) (a .records) (a .numbers) (a .accounts) (a .maps) (a .limits) (a .parents) (a .highest) (a .frame-words) (a .free-queue) (a .removal-list)
-    (a .addresses) (a .states) (a .owners) (a .free-map) (a .active) (a .updating) (a .images) (a .line) (a .used)
+    (a .addresses) (a .states) (a .owners) (a .free-map) (a .active) (a .updating) (a .images) (a .chip-words) (a .chip-records) (a .chip-next) (a .line) (a .used)
 
 -- from questions 1 and 2 back to the packing, and to the start
 abbrev packed : tie.After-common → tie.After-pack-all

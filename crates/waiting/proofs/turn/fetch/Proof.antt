@@ -3,7 +3,7 @@ use borrow.Author.Needs.{needs}
 use mathlib.Core.Path.{_∙_}
 use native.Mathlib.Omega.{arith}
 use Rattle.model.specs.State.{State}
-use Rattle.model.specs.Lent.{allGiven}
+use Rattle.model.specs.Lent.{linedGiven}
 use Rattle.model.specs.Pool.{taken, deposited}
 use Rattle.leaves.specs.Packed.{framesGiven, unpacked}
 use Rattle.model.specs.Laws.LineLaws.{InFrame}
@@ -11,7 +11,7 @@ use Rattle.pages.specs.Faults.{fault-left}
 use Rattle.pages.proofs.ItsFrame.{its-in}
 use Rattle.dispatch.proofs.FaultLaws.{fault-ready}
 use Rattle.waiting.proofs.Turned.{packed-line}
-use Rattle.waiting.proofs.Brought.{brought, claim-asked, brought-by-claim}
+use Rattle.waiting.proofs.Brought.{brought, brought-nulls, claim-asked, brought-by-claim, brought-nulls-by-claim}
 use Rattle.waiting.proofs.turn.fetch.Statement.{statement}
 use Rattle.waiting.proofs.turn.fetch.Tie as tie
 
@@ -19,7 +19,7 @@ use Rattle.waiting.proofs.turn.fetch.Tie as tie
 abbrev lent : tie.Start → State
 lent s =
     let a = s .args in
-    allGiven (framesGiven (a .sizes) (a .frames)) (a .pool) (a .records) (a .numbers) (a .accounts) (a .maps) (a .limits) (a .parents) (a .highest) (a .frame-words) (a .free-queue) (a .removal-list)
+    linedGiven (framesGiven (a .sizes) (a .frames)) (a .pool) (a .records) (a .numbers) (a .accounts) (a .maps) (a .limits) (a .parents) (a .highest) (a .frame-words) (a .free-queue) (a .removal-list)
     (a .addresses) (a .states) (a .owners) (a .free-map) (a .active) (a .updating) (a .images) (a .line) (a .used)
 
 -- ── the places ──
@@ -51,7 +51,7 @@ claim-requires c κs =
     let f = faulted (t .before) in
     let s = start f in
     let d = f .fault .ensures in
-    claim-asked (s .args .sizes) (lent s) (s .pre .0) (s .pre .1) (absent s) (s .args .i) (s .pre .2) _ (fault-left (d .1 .1)) (d .0) (t .if1 .taken)
+    claim-asked (s .args .sizes) (lent s) (s .pre .0) (s .pre .1) (absent s) (s .args .i) (s .pre .2) _ (fault-left (d .1 .1 .1)) (d .0) (t .if1 .taken)
 
 returns : tie.Need-returns
 unfolding taken deposited
@@ -61,7 +61,10 @@ returns c =
     let f = faulted (t .before) in
     let s = start f in
     let d = f .fault .ensures in
-    rw (c .claimed .ensures) (brought-by-claim (s .args .sizes) (lent s) (s .pre .0) (s .pre .1) (absent s) (s .args .i) (s .pre .2) _ (fault-left (d .1 .1)) (d .0) (t .if1 .taken) (m .claim .ensures))
+    rw (c .claimed .ensures) (
+      brought-by-claim (s .args .sizes) (lent s) (s .pre .0) (s .pre .1) (absent s) (s .args .i) (s .pre .2) _ (fault-left (d .1 .1 .1)) (d .0) (t .if1 .taken) (m .claim .ensures .1),
+      brought-nulls-by-claim (s .args .sizes) (lent s) (s .pre .0) (s .pre .1) (absent s) (s .args .i) (s .pre .2) _ (fault-left (d .1 .1 .1)) (d .0) (t .if1 .taken) (m .claim .ensures .0),
+    )
 
 settle-requires : tie.Need-settle-requires
 settle-requires c κs =
@@ -77,7 +80,10 @@ returns-2 c =
     let f = faulted (e .before) in
     let s = start f in
     let d = f .fault .ensures in
-    rw (r .settle .ensures .0, d .1 .0) (brought (s .args .sizes) (lent s) (s .pre .0) (s .pre .1) (absent s) (s .args .i) (s .pre .2) _ (fault-left (d .1 .1)) (d .0) (e .if1 .left) (r .settle .ensures .1))
+    rw (r .settle .ensures .0, d .1 .0, d .1 .1 .0) (
+      brought (s .args .sizes) (lent s) (s .pre .0) (s .pre .1) (absent s) (s .args .i) (s .pre .2) _ (fault-left (d .1 .1 .1)) (d .0) (e .if1 .left) (r .settle .ensures .1),
+      brought-nulls (s .args .sizes) (lent s) (s .pre .0) (s .pre .1) (absent s) (s .args .i) (s .pre .2) _ (fault-left (d .1 .1 .1)) (d .0) (e .if1 .left),
+    )
 
 pub fetch-spec : {M : Type 1} → statement M
 fetch-spec =

@@ -11,7 +11,7 @@ use Rattle.model.specs.declared.frame.Frame.{Frame}
 use Rattle.model.specs.State.{State, NONE, frameAt}
 use Rattle.model.specs.Setters.{setLine}
 use Rattle.model.specs.Laws.Bounds.{pages-most}
-use Rattle.model.specs.Lent.{allGiven}
+use Rattle.model.specs.Lent.{linedGiven}
 use Rattle.model.specs.Pool.{taken, deposited}
 use Rattle.leaves.specs.Packed.{framesGiven, unpacked}
 use Rattle.model.specs.Questions.{still, nextPage}
@@ -20,7 +20,7 @@ use Rattle.model.specs.Laws.Own.{leaves}
 use Rattle.leaves.specs.FrameLaws.{frameIn}
 use Rattle.pages.proofs.ItsFrame.{its-some}
 use Rattle.dispatch.proofs.PageLaws.{served-ready}
-use Rattle.waiting.proofs.Turned.{nobody-own, met-own, still-told, packed-line}
+use Rattle.waiting.proofs.Turned.{nobody-own, nobody-nulls, met-own, met-nulls, still-told, packed-line}
 use Rattle.waiting.proofs.turn.turn.Statement.{statement}
 use Rattle.waiting.proofs.turn.turn.Tie as tie
 
@@ -28,7 +28,7 @@ use Rattle.waiting.proofs.turn.turn.Tie as tie
 abbrev lent : tie.Start → State
 lent s =
     let a = s .args in
-    allGiven (framesGiven (a .sizes) (a .frames)) (a .pool) (a .records) (a .numbers) (a .accounts) (a .maps) (a .limits) (a .parents) (a .highest) (a .frame-words) (a .free-queue) (a .removal-list)
+    linedGiven (framesGiven (a .sizes) (a .frames)) (a .pool) (a .records) (a .numbers) (a .accounts) (a .maps) (a .limits) (a .parents) (a .highest) (a .frame-words) (a .free-queue) (a .removal-list)
     (a .addresses) (a .states) (a .owners) (a .free-map) (a .active) (a .updating) (a .images) (a .line) (a .used)
 
 abbrev start : tie.Else1 → tie.Start
@@ -48,7 +48,8 @@ returns c =
     let t : tie.Then1 = search in
     let n : tie.After-at16 = search in
     let r : tie.After-told = search in
-    rw (r .told .ensures) (nobody-own (s .args .sizes) (lent s) (size-zero (s .args .line .now) (sym (n .at16 .ensures) ∙ t .if1 .taken)))
+    let none = size-zero (s .args .line .now) (sym (n .at16 .ensures) ∙ t .if1 .taken) in
+    rw (r .told .ensures) (nobody-own (s .args .sizes) (lent s) none, nobody-nulls (s .args .sizes) (lent s) none)
 
 frame-of-requires : tie.Need-frame-of-requires
 frame-of-requires c κs =
@@ -104,9 +105,11 @@ returns-2 c =
     let m : tie.After-meet = search in
     let g : tie.After-frame-at = search in
     let o = found g in
-    rw (c .told2 .ensures)
-    ((λ x. leaves (record { refusal = 0; result = m .meet .ensures .0 x }) (setLine (m .meet .ensures .1 x) (lent (s o))))
-    ∙ met-own (s o .args .sizes) (lent (s o)) (waits (e o)) (in-frame o (below g)) (eqb (g .frame-at .result .transfer) NONE) (told-still g))
+    rw (c .told2 .ensures) (
+      (λ x. leaves (record { refusal = 0; result = m .meet .ensures .0 x }) (setLine (m .meet .ensures .1 x) (lent (s o))))
+          ∙ met-own (s o .args .sizes) (lent (s o)) (waits (e o)) (in-frame o (below g)) (eqb (g .frame-at .result .transfer) NONE) (told-still g),
+      met-nulls (s o .args .sizes) (lent (s o)) (waits (e o)) (in-frame o (below g)),
+    )
 
 fetch-requires : tie.Need-fetch-requires
 fetch-requires c κs =

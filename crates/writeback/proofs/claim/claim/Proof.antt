@@ -4,6 +4,7 @@ use mathlib.Core.Path.{_∙_}
 use native.Mathlib.Omega.{arith}
 use Rattle.tables.specs.QueueEntries.{size-more}
 use Rattle.writeback.proofs.ClaimWork.{Taken, refused, taken, write-begins, freed}
+use Rattle.writeback.proofs.ClaimNulls.{refused-nulls, begun-nulls, freed-nulls}
 use Rattle.writeback.proofs.claim.claim.Statement.{statement}
 use Rattle.writeback.proofs.claim.claim.Tie as tie
 
@@ -44,7 +45,9 @@ told g =
 returns : tie.Need-returns
 returns c =
     let k : tie.After-at16 = search in
-    refused _ _ _ _ _ _ _ _ _ _ _ (k .at16 .ensures) (c .if1 .taken)
+    let o : tie.Then1 = search in
+    let x : tie.After-claim-done = search in
+    rw (x .claim-done .ensures) (refused-nulls _ _ _ _ _ _ _ _ _ _ _ (k .at16 .ensures) (o .if1 .taken), refused _ _ _ _ _ _ _ _ _ _ _ (k .at16 .ensures) (o .if1 .taken))
 
 turn-requires : tie.Need-turn-requires
 turn-requires c κs =
@@ -74,8 +77,12 @@ returns-2 c =
     let g : tie.After-frame-at = search in
     let q = popped g in
     let p = shown q in
-    write-begins _ _ _ _ _ _ _ _ _ _ _ (asked (some p) .at16 .ensures) (some p .if1 .left) (start p .pre) (turned p .turn .ensures) (p .first .ensures) (g .frame-at .ensures)
-    (b .begins .ensures) (h .if2 .taken) (q .pop .ensures) (w .writing .ensures) (v .put-frame .ensures)
+    let x : tie.After-claim-done2 = search in
+    rw (x .claim-done2 .ensures) (
+      begun-nulls _ _ _ _ _ _ _ _ _ _ _ (asked (some p) .at16 .ensures) (some p .if1 .left) (start p .pre) (turned p .turn .ensures) (p .first .ensures) (g .frame-at .ensures) (b .begins .ensures) (h .if2 .taken),
+      write-begins _ _ _ _ _ _ _ _ _ _ _ (asked (some p) .at16 .ensures) (some p .if1 .left) (start p .pre) (turned p .turn .ensures) (p .first .ensures) (g .frame-at .ensures)
+          (b .begins .ensures) (h .if2 .taken) (q .pop .ensures) (w .writing .ensures) (v .put-frame .ensures),
+    )
 
 make-nulled-requires : tie.Need-make-nulled-requires
 make-nulled-requires c κs =
@@ -116,9 +123,27 @@ returns-3 c =
     let g : tie.After-frame-at = search in
     let q = popped g in
     let p = shown q in
-    freed _ _ _ _ _ _ _ _ _ _ _ (asked (some p) .at16 .ensures) (some p .if1 .left) (start p .pre) (turned p .turn .ensures) (p .first .ensures) (g .frame-at .ensures)
-    (b .begins .ensures) (h .if2 .left) (r .record-of .ensures) (n .named .ensures) (q .pop .ensures) (k .push-back .ensures)
-    (u .uncharge-modified .ensures) (w .no-frame .ensures) (v .put-frame2 .ensures) (m .make-nulled .ensures)
+    let y : tie.After-entry-nulled = search in
+    let x : tie.After-claim-done3 = search in
+    rw (x .claim-done3 .ensures) (
+      freed-nulls _ _ _ _ _ _ _ _ _ _ _ (asked (some p) .at16 .ensures) (some p .if1 .left) (start p .pre) (turned p .turn .ensures) (p .first .ensures) (g .frame-at .ensures) (b .begins .ensures) (h .if2 .left) (y .entry-nulled .ensures),
+      freed _ _ _ _ _ _ _ _ _ _ _ (asked (some p) .at16 .ensures) (some p .if1 .left) (start p .pre) (turned p .turn .ensures) (p .first .ensures) (g .frame-at .ensures)
+          (b .begins .ensures) (h .if2 .left) (r .record-of .ensures) (n .named .ensures) (q .pop .ensures) (k .push-back .ensures)
+          (u .uncharge-modified .ensures) (w .no-frame .ensures) (v .put-frame2 .ensures) (m .make-nulled .ensures),
+    )
+
+-- from the frame freed back to its record, and to the frame
+abbrev queued : tie.After-put-frame2 → tie.After-push-back
+queued v = search
+
+abbrev lessened : tie.After-push-back → tie.After-uncharge-modified
+lessened k = search
+
+abbrev recorded : tie.After-uncharge-modified → tie.After-record-of
+recorded u = search
+
+abbrev framed : tie.After-record-of → tie.After-frame-at
+framed r = search
 
 -- the frames and the list are as long as they came
 same-length-2 : tie.Need-same-length-2
@@ -135,11 +160,7 @@ same-length-3 c =
 same-length-4 : tie.Need-same-length-4
 same-length-4 c =
     let v : tie.After-put-frame2 = search in
-    let k : tie.After-push-back = search in
-    let u : tie.After-uncharge-modified = search in
-    let r : tie.After-record-of = search in
-    let g : tie.After-frame-at = search in
-    v .put-frame2 .kept .0 ∙ turned (first g) .turn .kept .0
+    v .put-frame2 .kept .0 ∙ turned (first (framed (recorded (lessened (queued v))))) .turn .kept .0
 
 same-length-6 : tie.Need-same-length-6
 same-length-6 c =
@@ -150,8 +171,8 @@ same-length-6 c =
 pub claim-spec : {M : Type 1} → statement M
 claim-spec =
     tie.close
-    (tie.spec (λ c κs. search needs) (λ c. search needs) returns
+    (tie.spec (λ c κs. search needs) (λ c κs. search needs) (λ c. search needs) returns
     turn-requires (λ c κs. search needs) pop-requires (λ c κs. search needs) begins-requires
-    (λ c κs. search needs) (λ c κs. search needs) same-length-2 same-length-3 returns-2
-    (λ c κs. search needs) make-nulled-requires (λ c κs. search needs) div-uncharge-modified uncharge-modified-requires push-back-requires
-    (λ c κs. search needs) (λ c κs. search needs) same-length-4 (λ c. search needs) same-length-6 (λ c. search needs) (λ c. search needs) returns-3)
+    (λ c κs. search needs) (λ c κs. search needs) (λ c κs. search needs) same-length-2 same-length-3 returns-2
+    (λ c κs. search needs) (λ c κs. search needs) make-nulled-requires (λ c κs. search needs) div-uncharge-modified uncharge-modified-requires push-back-requires
+    (λ c κs. search needs) (λ c κs. search needs) (λ c κs. search needs) same-length-4 (λ c. search needs) same-length-6 (λ c. search needs) (λ c. search needs) returns-3)

@@ -1,4 +1,4 @@
--- `new` meets its contract: its six tests together are the rule's test, and so is question 1's answer.
+-- `new` meets its contract: its seven tests together are the rule's test, and so is question 1's answer.
 use borrow.Author.Needs.{needs}
 use mathlib.Core.Bool.{true, false, and-assoc}
 use Rattle.tables.specs.Rule.{test}
@@ -18,6 +18,7 @@ pub new-spec : {M : Type 1} → statement M
 new-spec =
     tie.close
     (tie.spec
+    (λ c κs. search needs)
     (λ c κs. search needs)
     (λ c κs. search needs)
     (λ c κs. search needs)

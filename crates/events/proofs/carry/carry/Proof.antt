@@ -1,14 +1,15 @@
 -- `carry` meets its contract: each family's outcome is the event's.
 use borrow.Author.Needs.{needs}
-use mathlib.Core.Path.{refl}
+use mathlib.Core.Path.{refl, sym, _∙_}
 use Rattle.model.specs.declared.event.Event.the-variants as Event
 use Rattle.model.specs.State.{State}
-use Rattle.model.specs.Lent.{allGiven, given}
+use Rattle.model.specs.Lent.{linedGiven, given}
 use Rattle.model.specs.Pool.{taken, deposited}
 use Rattle.leaves.specs.Packed.{framesGiven}
-use Rattle.dispatch.specs.Beside.{kept-alone, leaves-beside}
-use Rattle.calls.proofs.carry.carry.Statement.{statement}
-use Rattle.calls.proofs.carry.carry.Tie as tie
+use Rattle.model.specs.Laws.Nulled.{nulledBy}
+use Rattle.dispatch.specs.Beside.{kept-alone, leaves-beside, nulls-beside}
+use Rattle.events.proofs.carry.carry.Statement.{statement}
+use Rattle.events.proofs.carry.carry.Tie as tie
 
 -- from each family's work back to the match
 abbrev event : tie.After-design-event → tie.After-event
@@ -43,7 +44,7 @@ start4 k = search
 abbrev lent : tie.Start → State
 lent s =
     let a = s .args in
-    allGiven (framesGiven (a .sizes) (a .frames)) (a .pool) (a .records) (a .numbers) (a .accounts) (a .maps) (a .limits) (a .parents) (a .highest) (a .frame-words) (a .free-queue) (a .removal-list)
+    linedGiven (framesGiven (a .sizes) (a .frames)) (a .pool) (a .records) (a .numbers) (a .accounts) (a .maps) (a .limits) (a .parents) (a .highest) (a .frame-words) (a .free-queue) (a .removal-list)
     (a .addresses) (a .states) (a .owners) (a .free-map) (a .active) (a .updating) (a .images) (a .line) (a .used)
 
 abbrev alone : tie.Start → State
@@ -68,30 +69,35 @@ waiting-event-requires : tie.Need-waiting-event-requires
 waiting-event-requires c κs = let s : tie.Start = search in s .pre
 
 returns : tie.Need-returns
-unfolding taken deposited
+unfolding taken deposited nulledBy
 returns c =
     let k : tie.After-design-event = search in
     let s = start (event k) in
-    rw (event k .event .given .1) (leaves-beside (s .args .line .now) (s .args .sizes) (alone s) (Event.Design (event k .event .given .0 .0)) tt _ (k .design-event .ensures))
+    rw (event k .event .given .1) (leaves-beside (s .args .line .now) (s .args .sizes) (alone s) (Event.Design (event k .event .given .0 .0)) tt _ (k .design-event .ensures), refl)
 
 returns-2 : tie.Need-returns-2
-unfolding taken deposited
+unfolding taken deposited nulledBy
 returns-2 c =
     let k : tie.After-account-event = search in
     let s = start2 (event2 k) in
-    rw (event2 k .event2 .given .1) (leaves-beside (s .args .line .now) (s .args .sizes) (alone s) (Event.Account (event2 k .event2 .given .0 .0)) tt _ (k .account-event .ensures))
+    rw (event2 k .event2 .given .1) (leaves-beside (s .args .line .now) (s .args .sizes) (alone s) (Event.Account (event2 k .event2 .given .0 .0)) tt _ (k .account-event .ensures), refl)
 
 returns-3 : tie.Need-returns-3
+unfolding nulledBy
 returns-3 c =
     let k : tie.After-page-event = search in
     let s = start3 (event3 k) in
-    rw (event3 k .event3 .given .1) (leaves-beside (s .args .line .now) (s .args .sizes) (alone s) (Event.Page (event3 k .event3 .given .0 .0)) tt _ (k .page-event .ensures))
+    rw (event3 k .event3 .given .1) (leaves-beside (s .args .line .now) (s .args .sizes) (alone s) (Event.Page (event3 k .event3 .given .0 .0)) tt _ (k .page-event .ensures .0), k .page-event .ensures .1)
 
 returns-4 : tie.Need-returns-4
 returns-4 c =
     let k : tie.After-writeback-event = search in
     let s = start4 (event4 k) in
-    rw (event4 k .event4 .given .1) (leaves-beside (s .args .line .now) (s .args .sizes) (alone s) (Event.Writeback (event4 k .event4 .given .0 .0)) tt _ (k .writeback-event .ensures))
+    let e = Event.Writeback (event4 k .event4 .given .0 .0) in
+    rw (event4 k .event4 .given .1) (
+      leaves-beside (s .args .line .now) (s .args .sizes) (alone s) e tt _ (k .writeback-event .ensures .0),
+      k .writeback-event .ensures .1 ∙ sym (nulls-beside (s .args .line .now) (s .args .sizes) (alone s) e tt),
+    )
 
 returns-5 : tie.Need-returns-5
 returns-5 c =

@@ -1,7 +1,8 @@
 // An event handed on to its family.
 ghost use mathlib.Core.Path.{_≡_};
-ghost use Rattle.model.specs.Lent.{allGiven, allEntered, allLeft};
+ghost use Rattle.model.specs.Lent.{linedGiven, linedEntered, linedLeft};
 ghost use Rattle.model.specs.Laws.Own.{own, leaves};
+ghost use Rattle.model.specs.Laws.Nulled.{nulledBy};
 ghost use Rattle.model.specs.Pool.{taken, deposited};
 ghost use Rattle.leaves.specs.Packed.{framesGiven, framesEntered, framesLeft};
 ghost use Rattle.dispatch.specs.Kept.{Kept};
@@ -42,13 +43,16 @@ pub fn carry(
     used: &mut [u16],
 ) -> Worked
     requires { ⌜ Kept sizes
-        (allGiven (framesGiven sizes frames) pool records numbers accounts maps limits parents highest
+        (linedGiven (framesGiven sizes frames) pool records numbers accounts maps limits parents highest
         «frame_words» «free_queue» «removal_list» addresses states owners «free_map» active updating images line used) ⌝ }
-    ensures { λ r. ⌜ leaves (r .answer)
-        (allLeft (framesLeft sizes frames) (deposited (r .deposited) (taken sizes (r .taken) pool)) records numbers accounts maps limits parents highest
+    ensures left { λ r. ⌜ leaves (r .answer)
+        (linedLeft (framesLeft sizes frames) (deposited (r .deposited) (taken sizes (r .taken) pool)) records numbers accounts maps limits parents highest
         «frame_words» «free_queue» «removal_list» addresses states owners «free_map» active updating images line used)
         ≡ own sizes
-        (allEntered (framesEntered sizes frames) pool records numbers accounts maps limits parents highest
+        (linedEntered (framesEntered sizes frames) pool records numbers accounts maps limits parents highest
+        «frame_words» «free_queue» «removal_list» addresses states owners «free_map» active updating images line used) event ⌝ }
+    ensures nulled { λ r. ⌜ r .nulled ≡ nulledBy sizes
+        (linedEntered (framesEntered sizes frames) pool records numbers accounts maps limits parents highest
         «frame_words» «free_queue» «removal_list» addresses states owners «free_map» active updating images line used) event ⌝ }
 {
     match event {
@@ -80,6 +84,7 @@ pub fn carry(
             Worked {
                 taken: 0,
                 deposited: 0,
+                nulled: 0,
                 answer,
             }
         }
@@ -111,6 +116,7 @@ pub fn carry(
             Worked {
                 taken: 0,
                 deposited: 0,
+                nulled: 0,
                 answer,
             }
         }

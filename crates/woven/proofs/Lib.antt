@@ -1,0 +1,5 @@
+-- What a read shows, in every list of acts.
+pub mod Text
+pub mod Unseen
+pub mod ChipUnseen
+pub mod Used
