@@ -1,1 +1,2 @@
 // Edges, runs and worlds: the definitions computed on small examples, and wrong worlds denied.
+#![tactic(auto)]

@@ -11,7 +11,7 @@ pub const WRITING: u8 = 2;
 
 // A memory frame. page: 0 for none, else the flat page number + 1. Switches: 0 or 1. transfer: one of the three.
 #[repr(C)]
-#[derive(Drop)]
+#[derive(Clone, Copy)]
 pub struct Frame {
     pub page: u16,
     pub used: u8,

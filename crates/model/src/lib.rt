@@ -1,4 +1,6 @@
 // The types that the definitions share with all code, a module for each subject. The definitions of paper 01 stand in specs/.
+#![tactic(auto)]
+
 pub mod sizes; // the sizes and their limits
 pub mod frame; // a memory frame; the pool: the hand and the count of free records
 pub mod event; // the events and their answer

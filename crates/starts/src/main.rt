@@ -1,4 +1,5 @@
 // Prints the table of the 600-record pack, the start of each record, one number a line.
+#![tactic(auto)]
 use libc::STDOUT_FILENO;
 use sectors::starts;
 

@@ -1,4 +1,5 @@
 // The events of the waiting line, over all tables: joining it, and a turn, which treats the first request.
+#![tactic(auto)]
 ghost use Rattle.std.specs.Prelude.{◌≡◌};
 ghost use Rattle.model.specs.declared.event.Event.TheVariants as Event;
 ghost use Rattle.model.specs.Lent.{lined_given, lined_entered, lined_left};
