@@ -1,6 +1,4 @@
 -- `may_move` meets its contract: the checker computes that the code's table, whole, is that of the lines, and a law gives its cells.
-use borrow.Author.Rules.{rules}
-use borrow.Author.Tests.{ltb-true, ltb-false}
 use mathlib.Core.Path.{◌≡◌, sym}
 use mathlib.Core.Bool.{Bool, false}
 use mathlib.Core.List.{List, []}
@@ -12,8 +10,7 @@ use Rattle.tables.specs.Base.{all, any, tab}
 use Rattle.tables.specs.Laws.{at_tab0}
 use Rattle.tables.specs.Rule.{Rule, ◌and◌, each, below, test, sound, untold}
 use Rattle.model.specs.Lines.{STATES, lines, line, led, allowed}
-use Rattle.model.proofs.lines.may_move.Statement.{statement}
-use Rattle.model.proofs.lines.may_move.Tie as tie
+use Rattle.model.proofs.lines.may_move.Goals as goal
 
 -- state by state, what the lines allow
 abbrev table : List (List Bool)
@@ -26,14 +23,11 @@ cell i j h k = rw (at_tab0 STATES (λ a. tab STATES (allowed a) 0) i [] h) (at_t
 inside : Rule
 inside = each (length lines) λ k. let l = get_or lines k (line 0 0) in below l.from STATES and below l.to STATES
 
-returns : tie.Need-returns
+pub returns-then-j-lt-STATES : goal.returns-then-j-lt-STATES
 unfolding test any tab allowed
-returns c = let s = c.before.before.before.args in cell s.from s.to c.before.before.if1.true (ltb-true s.to STATES c.before.if2.true)
+returns-then-j-lt-STATES c = let s = c.args in cell s.from s.to c.if-i-lt-STATES.true c.if-j-lt-STATES.true
 
-returns-2 : tie.Need-returns-2
+pub returns-else-i-lt-STATES : goal.returns-else-i-lt-STATES
 unfolding test all allowed inside
-returns-2 c = let s = c.before.args in sym (untold (led s.from s.to) (λ l. let b = sound inside tt l.0 l.1 in
-    ⊎_elim (λ w. omega (arith, l.2, b, ltb-false s.to STATES w.1.left)) (λ w. omega (arith, l.2, b)) c.if1.branch))
-
-pub may-move-spec : {M : Type 1} → statement M
-may-move-spec = tie.close (tie.spec (λ c. search rules) (λ c. search rules) (λ c. search rules) returns returns-2)
+returns-else-i-lt-STATES c = let s = c.args in sym (untold (led s.from s.to) (λ l. let b = sound inside tt l.0 l.1 in
+    ⊎_elim (λ w. omega (arith, l.2, b, w.1)) (λ w. omega (arith, l.2, b, w)) c.else-i-lt-STATES.either))
