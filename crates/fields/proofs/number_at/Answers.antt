@@ -12,9 +12,6 @@ loop-k-init c = (omega arith, refl, omega arith)
 pub overflow_mul-value : goal.overflow_mul-value
 overflow_mul-value c = let h = four c.loop-k.k (omega arith) in omega (arith, h, c.loop-k.invariant.2)
 
-pub overflow_cast-value : goal.overflow_cast-value
-overflow_cast-value c = omega arith
-
 pub overflow_add-value-in-loop-k : goal.overflow_add-value-in-loop-k
 overflow_add-value-in-loop-k c =
     let l = c.loop-k in
