@@ -1,4 +1,4 @@
-/* Not proved, tested by make plug: the disk of filedisk.h: which layout and which sizes a device has, format and open. */
+/* Not proved, tested by tests/sectordisk: the disk of filedisk.h: which layout and which sizes a device has, format and open. */
 #include <stdio.h>
 #include "filedisk_inside.h"
 

@@ -1,4 +1,4 @@
-/* Not proved, tested by make plug: a disk for the keeper over a file, or over any device of bytes that can be read, written and synced. It is the disk of
+/* Not proved, tested by tests/sectordisk: a disk for the keeper over a file, or over any device of bytes that can be read, written and synced. It is the disk of
  * include/keeper_disk.h, in sectors of FILEDISK_BLOCK bytes, one behind the other from byte 0 on: the commit sector, two areas of the journal, the header,
  * the tables (docs/USING.md, "A disk on sectors"). What makes each store land whole or not at all, and where everything is, is proved below that.
  *

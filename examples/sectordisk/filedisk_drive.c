@@ -1,4 +1,4 @@
-/* Not proved, tested by make plug: the driver over the disk of filedisk.h: the calls of include/keeper_disk.h, and stores of single entries. */
+/* Not proved, tested by tests/sectordisk: the driver over the disk of filedisk.h: the calls of include/keeper_disk.h, and stores of single entries. */
 #include "filedisk_inside.h"
 
 /* Once the disk on sectors is dead, so is this one. */
