@@ -1,4 +1,4 @@
-/* Not proved, tested by tests/convert.sh: the layouts 1 to 4 of the file disk, which are only read, to be converted: a header block with a checksum, a journal
+/* Not proved, tested by tests/sectordisk/convert.sh: the layouts 1 to 4 of the file disk, which are only read, to be converted: a header block with a checksum, a journal
  * of one store with another, and the tables, each entry in its own width, low byte first. */
 #include <stdio.h>
 #include "filedisk_inside.h"
