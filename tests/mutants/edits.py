@@ -74,6 +74,12 @@ class Edit:
             return file.startswith((self.at or self.crate) + "/")
         return file == self.at and (lines is None or line in lines)
 
+    def module(self):
+        """The module of definitions that it is refused in, where its crate has definitions alone and no function; else ''."""
+        crate = ROOT / "crates" / self.crate
+        alone = not any(re.search(r"\bfn \w", path.read_text(encoding="utf-8")) for path in (crate / "src").rglob("*.rt"))
+        return pathlib.PurePath(self.at).stem if alone and (self.at or "").startswith(f"{self.crate}/specs/") else ""
+
     def crates(self):
         """The crates that it changes."""
         return {pathlib.PurePath(file).parts[1] for file, _, _ in self.pairs}
@@ -138,6 +144,22 @@ def apply(edit, to):
         path.write_text(text.replace(old, new), encoding="utf-8")
 
 
+def keep_needed(crate, module):
+    """Leaves out of a crate of definitions alone the modules that one of them does not need."""
+    found, todo = set(), {module}
+    while todo:
+        name = todo.pop()
+        found.add(name)
+        text = (crate / "specs" / f"{name}.antt").read_text(encoding="utf-8")
+        todo |= set(re.findall(rf"^use Rattle\.{crate.name}\.specs\.(\w+)", text, re.M)) - found
+    lib = crate / "specs" / "Lib.antt"
+    told = lib.read_text(encoding="utf-8").splitlines(keepends=True)
+    lib.write_text("".join(line for line in told if not line.startswith("pub mod ") or line.split()[2] in found), encoding="utf-8")
+    for path in (crate / "specs").glob("*.antt"):
+        if path != lib and path.stem not in found:
+            path.unlink()
+
+
 def linked(one, other):
     """What was checked is linked: a check replaces such a file, and changes none."""
     if one.endswith(".oantt"):
@@ -158,6 +180,8 @@ def make(edit, to):
         if kept.is_dir():
             shutil.copytree(kept, to / "kept", copy_function=linked, dirs_exist_ok=True)
     apply(edit, to)
+    if edit.module():
+        keep_needed(to / "crates" / edit.crate, edit.module())
 
 
 def command(edit, to, kit):

@@ -62,7 +62,7 @@ def room():
     return pathlib.Path(tempfile.mkdtemp(prefix="mutants-"))
 
 
-def check(command, folder, log, **more):
+def check(command, folder, log, seconds, **more):
     """What a check ends with, and what it prints."""
     with open(log, "wb") as out:
         # a group of its own, so that what it has started ends with it
@@ -71,9 +71,9 @@ def check(command, folder, log, **more):
         if ended.is_set():  # ended from outside between the start and here
             kill(tool)
         try:
-            status = tool.wait(SECONDS)
+            status = tool.wait(seconds)
         except subprocess.TimeoutExpired:
-            raise Bad(f"no verdict: the check took more than {SECONDS} s") from None
+            raise Bad(f"no verdict: the check took more than {seconds} s") from None
         finally:
             kill(tool)
             tool.wait()
@@ -85,9 +85,7 @@ def prove(crate, work):
     """Sees that a crate is proved as it is, once: rt keeps what it checked, and builds the libraries below it."""
     with proving[crate]:
         if crate not in proved:
-            tool = ["rt", "check"]
-            with open(work / f"{crate}.log", "wb") as out:
-                proved[crate] = not subprocess.run(tool, cwd=edits.ROOT / "crates" / crate, stdout=out, stderr=subprocess.STDOUT).returncode
+            proved[crate] = not check(["rt", "check"], edits.ROOT / "crates" / crate, work / f"{crate}.log", None)[0]
     if not proved[crate]:
         raise Bad(f"no verdict: {crate} is not proved without the edit")
 
@@ -137,7 +135,7 @@ def tried(edit, to):
     """What the prover says of a copy with the edit made: where it is refused, or ''; whether that is where it must be; and its words."""
     os.makedirs(to / "lent")  # where the checker puts what it reads of libraries
     edits.make(edit, to)
-    status, text = check(edits.command(edit, to, kit()), to, to / "check.log", TMPDIR=str(to / "lent"))
+    status, text = check(edits.command(edit, to, kit()), to, to / "check.log", SECONDS, TMPDIR=str(to / "lent"))
     return *refused_at(edit, status, text, to), text
 
 
@@ -150,7 +148,7 @@ def judge(edit, work):
         prove(edit.crate, work)
         start = time.monotonic()
         place, well, _ = tried(edit, to)
-        said = f"refused at {place}" if well else f"FAILED, refused at {place}, not at {edit.at} {edit.fact or ''}".rstrip()
+        said = f"refused at {place}" if well else f"FAILED, refused at {place}, not at {edit.at or edit.crate} {edit.fact or ''}".rstrip()
         return well, said if place else "FAILED, accepted: everything is proved with this edit", time.monotonic() - start
     except (Bad, OSError) as bad:
         return False, f"FAILED, {bad}", time.monotonic() - start
