@@ -14,7 +14,7 @@ TOOLS = pathlib.Path(__file__).resolve().parent
 ROOT = TOOLS.parent
 SMALL = "# crates\nlow:\nhigh: low\nother:\n"
 GOOD = "rt: low proved (unchanged since it was last proved)\nfn high::f: proved\nrt: high proved (3 s)\n"
-BAD = "rt: low proved (1 s)\ncrates/high/specs/A.antt:7:1: error: `nine`: edge 9 fails\nlogic=not-proved\nrt: high NOT PROVED (exit 1, 3 s)\n"
+BAD = "rt: low proved (1 s)\ncrates/high/specs/A.antt:7:1: error: edge 9 fails\nlogic=not-proved\nrt: high NOT PROVED (exit 1, 3 s)\n"
 
 
 class Tools(unittest.TestCase):
@@ -78,23 +78,23 @@ class Break(Tools):
         self.put("tests/mutants/silent.edit", self.EDIT.replace("breaks", "says"))
         self.put("crates/low/src/lib.rt", "")
         self.put("crates/high/src/lib.rt", "")
-        for name in ("run.py", "edits.py"):
+        for name in ("run.py", "edits.py", "evidence.py", "functions.py"):
             shutil.copy(ROOT / "tests" / "mutants" / name, self.root / "tests" / "mutants")
 
     def run_tool(self, tool, said, status, *words):
         """Here the checker says it, and rt proves what it is asked for."""
         self.put("refused", said)
-        checker = self.put("bin/rattle", f"#!/bin/sh\ngrep -q two crates/high/specs/A.antt || exit 9\ncat '{self.root}/refused'\nexit {status}\n")
+        checker = self.put(f"on/{os.uname().machine}/bin/rattle", f"#!/bin/sh\ngrep -q two crates/high/specs/A.antt || exit 9\ncat '{self.root}/refused'\nexit {status}\n")
         checker.chmod(0o755)
         return super().run_tool(tool, GOOD, 0, *words)
 
     def test_refused(self):
         status, said = self.run_tool("break.py", BAD, 1)
         self.assertEqual(status, 0)
-        for text in ("what is tried", "Refused, after", "high, at high/specs/A.antt:7", "edge 9 fails"):
+        for text in ("what is tried", "Refused, after", "high, at high/specs/A.antt:7:1", "edge 9 fails"):
             self.assertIn(text, said)
         self.assertEqual(said.count("No edge fails."), 2)
-        self.assertEqual((self.root / "asked").read_text(), "check\n")
+        self.assertEqual((self.root / "asked").read_text(), "check low\n")
         self.assertEqual((self.root / "crates/high/specs/A.antt").read_text(), "one\n")
 
     def test_accepted(self):

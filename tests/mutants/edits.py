@@ -149,6 +149,8 @@ def keep_needed(crate, module):
     found, todo = set(), {module}
     while todo:
         name = todo.pop()
+        if not (crate / "specs" / f"{name}.antt").is_file():
+            raise Bad(f"there is no module {name} in {crate.name}")
         found.add(name)
         text = (crate / "specs" / f"{name}.antt").read_text(encoding="utf-8")
         todo |= set(re.findall(rf"^use Rattle\.{crate.name}\.specs\.(\w+)", text, re.M)) - found

@@ -14,6 +14,7 @@ import edits
 
 HERE = pathlib.Path(__file__).resolve().parent
 EDIT = "# what is wrong\ncrate: small\nrefused: a fact\nat: small/src/lib.rt\nfile: crates/small/src/lib.rt\nold: one\nnew: two\n"
+CODE = "fn f() one\n"
 END = "logic=not-proved\n"
 REFUSED = "crates/small/src/lib.rt:1:1: error: `f`: no\n" + END
 SECONDS = 60  # what a loaded machine may take for what takes none
@@ -28,9 +29,9 @@ class Small(unittest.TestCase):
         self.root = pathlib.Path(folder.name)
         self.put("crates.txt", "base:\nsmall: base\nother:\nprints: small words\n")
         for name in ("base", "small", "other"):
-            self.put(f"crates/{name}/src/lib.rt", "one\n")
+            self.put(f"crates/{name}/src/lib.rt", CODE)
             self.put(f"crates/{name}/out/incremental/checked-1/{name}.oantt", "checked\n")
-        self.put("crates/prints/src/main.rt", "one\n")
+        self.put("crates/prints/src/main.rt", CODE)
         self.put("tests/mutants/an_edit.edit", EDIT)
         for name in ("run.py", "edits.py"):
             shutil.copy(HERE / name, self.root / "tests" / "mutants")
@@ -86,6 +87,10 @@ class Small(unittest.TestCase):
 class Judged(Small):
     def test_refused(self):
         self.assertEqual(self.passed(self.says(REFUSED, 1)), "mutant an_edit: refused at small/src/lib.rt:1")
+
+    def test_refused_below(self):
+        self.at("at: base/specs/A.antt\n")
+        self.assertEqual(self.passed(self.says(REFUSED.replace("small/src/lib.rt:1", "base/specs/A.antt:2"), 1)), "mutant an_edit: refused at base/specs/A.antt:2")
 
     def test_accepted(self):
         self.failed(self.says("logic=proved\n", 0), "accepted")
@@ -152,7 +157,7 @@ class Copied(Small):
     def test_the_edited_copy_is_checked(self):
         look = "case \"$*\" in *'--crate-name small crates/small/src/lib.rt '*) ;; *) exit 9 ;; esac\ngrep -q two crates/small/src/lib.rt || exit 9\n"
         self.passed(look + self.says(REFUSED, 1))
-        self.assertEqual((self.root / "crates/small/src/lib.rt").read_text(), "one\n")
+        self.assertEqual((self.root / "crates/small/src/lib.rt").read_text(), CODE)
 
     def test_what_does_not_change_is_lent(self):
         look = f"case \"$*\" in *'--extern base={self.root}/crates/base/out/rlib/base.rlib '*) ;; *) exit 9 ;; esac\n"
@@ -185,9 +190,22 @@ class Copied(Small):
         self.passed(look + self.says(REFUSED.replace("small/src/lib", "prints/src/main"), 1))
 
     def test_pairs(self):
-        self.put("tests/mutants/an_edit.edit", EDIT + "file: crates/base/src/lib.rt\nold: one\nnew: three\nold: three\nnew:\n")
+        self.put("tests/mutants/an_edit.edit", EDIT + "file: crates/base/src/lib.rt\nold: one\nnew: three\nold: fn f() three\nnew:\n")
         look = "grep -q two crates/small/src/lib.rt && [ -z \"$(cat crates/base/src/lib.rt)\" ] || exit 9\n"
         self.passed(look + self.says(REFUSED, 1))
+
+    def test_of_definitions_alone_what_is_needed(self):
+        """Of a crate without functions no more is checked than the module that refuses, and what it needs of its crate."""
+        for name, text in {"Lib": "-- all\npub mod A\npub mod B\npub mod C\n", "A": "", "B": "use Rattle.shown.specs.A.{a}\n", "C": ""}.items():
+            self.put(f"crates/shown/specs/{name}.antt", text)
+        self.put("crates/shown/src/lib.rt", "// one\n")
+        self.put("crates.txt", "shown:\n")
+        self.put("tests/mutants/an_edit.edit", EDIT.replace("at: small/src/lib.rt", "at: small/specs/B.antt").replace("small", "shown"))
+        look = "cd crates/shown/specs && [ -f A.antt ] && [ ! -f C.antt ] && [ \"$(tr '\\n' . <Lib.antt)\" = '-- all.pub mod A.pub mod B.' ] || exit 9\n"
+        said = self.says(f"crates/shown/specs/B.antt:1:1: error: `b`: no\n{END}", 1)
+        self.passed(look + said)
+        self.put("tests/mutants/an_edit.edit", EDIT.replace("at: small/src/lib.rt", "at: small/specs/D.antt").replace("small", "shown"))
+        self.failed(said, "there is no module D in shown")
 
     def test_bad_edits(self):
         for old, new, why in (
