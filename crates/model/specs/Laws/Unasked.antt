@@ -1,4 +1,4 @@
--- Question 23 of paper 01, "Good map done: no leaving record in the image?", is not asked: no-leaving-imaged of Implied. Its number stays unused: no call answers it.
+-- Question 23 of paper 01, "Good map done: no leaving record in the image?", is not asked: no_leaving_imaged of Implied. Its number stays unused: no call answers it.
 use Rattle.std.specs.Prelude.{◌≡◌, refl, Bool, true, false, ◌||◌, List, ℕ, T, eqb}
 use Rattle.std.proofs.Common.{ap, sym, ◌∙◌, arith}
 use Rattle.tables.specs.Base.{if}

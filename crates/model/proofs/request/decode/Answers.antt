@@ -1,4 +1,4 @@
--- `decode` meets its contract: each arm's tag leads to its event, and any other is looked for in `page`; `decodes-by` gives the number of the answer.
+-- `decode` meets its contract: each arm's tag leads to its event, and any other is looked for in `page`; `decodes_by` gives the number of the answer.
 use mathlib.Core.Path.{◌∙◌}
 use mathlib.Core.List.{◌++◌}
 use Rattle.model.specs.Requests.{design_kinds, page_kinds, writeback_kinds, account_kinds, waiting_kinds, decoded, decodes_by}
