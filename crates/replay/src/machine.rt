@@ -31,7 +31,7 @@ fn sizes() -> Sizes
 
 // Frames and pool before the first restart; what stands in them is never read.
 fn blank() -> Pooled
-    ensures* { λ r. ⌜ r ≡ record { frames = replicate 64 no_frame; pool = no_pool; answer = record { refusal = 0; result = 0 } } ⌝ }
+    ensures { result ≡ record { frames = replicate 64 no_frame; pool = no_pool; answer = record { refusal = 0; result = 0 } } }
 {
     Pooled {
         frames: no_frames(),

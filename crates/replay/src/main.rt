@@ -5,6 +5,9 @@ mod machine; // the tables, and one request carried out
 mod whole; // the whole fields that have come, and their lines
 mod run; // reading, and printing
 
-fn main() {
-    run::run();
+use std::io;
+use std::io::Input;
+
+fn main(rt: HostRuntime) -> io::Result<()> {
+    run::run(&rt, &mut rt.reader())
 }
