@@ -1,5 +1,6 @@
 // The 600-record pack: where each record starts, and which record a sector is in. Each look-up asks question 28 alone.
 #![tactic(auto)]
+
 ghost use Rattle.std.specs.Prelude.{◌≡◌};
 ghost use Rattle.tables.specs.Base.{tab};
 ghost use Rattle.sectors.specs.Pack.{pack_records, start, start_of, record_of};

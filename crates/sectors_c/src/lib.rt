@@ -1,5 +1,6 @@
 // The look-ups of the 600-record pack as C symbols (include/sectors.h): each is the function of its name in crate `sectors`, with the same clause.
 #![tactic(auto)]
+
 ghost use Rattle.std.specs.Prelude.{◌≡◌};
 ghost use Rattle.sectors.specs.Pack.{start_of, record_of};
 

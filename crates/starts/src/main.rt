@@ -1,5 +1,6 @@
 // Prints the table of the 600-record pack, the start of each record, one number a line.
 #![tactic(auto)]
+
 use sectors::starts;
 use std::io;
 
