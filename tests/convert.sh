@@ -3,8 +3,8 @@
 # by the firmware of examples/weaver.c and read back.
 set -eu
 cd "$(dirname "$0")/.."
-[ -f target/staticlib/libkeeper.a ] || rt staticlib keeper
-[ -f target/staticlib/libdisk.a ] || rt staticlib disk
+[ -f target/staticlib/libkeeper.a ] || python3 tools/prove.py --lib keeper
+[ -f target/staticlib/libdisk.a ] || python3 tools/prove.py --lib disk
 libraries="target/staticlib/libkeeper.a target/staticlib/libdisk.a"
 strict="-std=c99 -O1 -Wall -Wextra -Werror -pedantic -Iinclude -Iexamples -fsanitize=address,undefined -fno-sanitize-recover=all"
 mkdir -p target/mend

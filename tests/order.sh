@@ -2,8 +2,8 @@
 # order.sh: not proved; the file disk's numbers are low byte first, and where the layout says: by a script that reads the file.
 set -eu
 cd "$(dirname "$0")/.."
-[ -f target/staticlib/libkeeper.a ] || rt staticlib keeper
-[ -f target/staticlib/libdisk.a ] || rt staticlib disk
+[ -f target/staticlib/libkeeper.a ] || python3 tools/prove.py --lib keeper
+[ -f target/staticlib/libdisk.a ] || python3 tools/prove.py --lib disk
 mkdir -p target/order
 rm -f target/order/*
 . tests/same.sh

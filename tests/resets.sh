@@ -3,8 +3,8 @@
 # torn stores (10000), from SEED (1). docs/TESTS.md says what is checked.
 set -eu
 cd "$(dirname "$0")/.."
-[ -f target/staticlib/libkeeper.a ] || rt staticlib keeper
-[ -f target/staticlib/libdisk.a ] || rt staticlib disk
+[ -f target/staticlib/libkeeper.a ] || python3 tools/prove.py --lib keeper
+[ -f target/staticlib/libdisk.a ] || python3 tools/prove.py --lib disk
 libraries="target/staticlib/libkeeper.a target/staticlib/libdisk.a"
 gcc -std=c99 -O2 -Wall -Wextra -Werror -pedantic -Iinclude -Iexamples -Itests/plug -Itests/resets \
     tests/resets/*.c tests/plug/without.c examples/filedisk*.c $libraries -o target/resets

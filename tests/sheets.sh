@@ -3,8 +3,8 @@
 # also over system calls that fail (tests/failing.c), and attacks them (tests/sheets.py).
 set -eu
 cd "$(dirname "$0")/.."
-[ -f target/staticlib/libkeeper.a ] || rt staticlib keeper
-[ -f target/staticlib/libdisk.a ] || rt staticlib disk
+[ -f target/staticlib/libkeeper.a ] || python3 tools/prove.py --lib keeper
+[ -f target/staticlib/libdisk.a ] || python3 tools/prove.py --lib disk
 libraries="target/staticlib/libkeeper.a target/staticlib/libdisk.a"
 strict="-std=c99 -O1 -g -Wall -Wextra -Werror -pedantic -Iinclude -Iexamples -fsanitize=address,undefined -fno-sanitize-recover=all"
 wrapped="-Wl,--wrap=pwrite,--wrap=write,--wrap=fsync,--wrap=link,--wrap=rename"

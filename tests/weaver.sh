@@ -2,8 +2,8 @@
 # weaver.sh: not proved; builds the firmware over a file, examples/weaver.c, and attacks it through its own commands (tests/weaver.c).
 set -eu
 cd "$(dirname "$0")/.."
-[ -f target/staticlib/libkeeper.a ] || rt staticlib keeper
-[ -f target/staticlib/libdisk.a ] || rt staticlib disk
+[ -f target/staticlib/libkeeper.a ] || python3 tools/prove.py --lib keeper
+[ -f target/staticlib/libdisk.a ] || python3 tools/prove.py --lib disk
 libraries="target/staticlib/libkeeper.a target/staticlib/libdisk.a"
 strict="-std=c99 -O1 -Wall -Wextra -Werror -pedantic -Iinclude -Iexamples"
 gcc $strict examples/weaver.c examples/filedisk*.c $libraries -o target/weaver
