@@ -162,8 +162,7 @@ def archive(name, given):
     text = module_text()
     module.looked_at(text)
     same(text)
-    inner = module.inner_names(text, prototypes(header), structs(header))
-    keeper = compiled(target, module.for_target(text, inner, target.triple, layout(target), target.probes), folder)
+    keeper = compiled(target, module.for_target(text, prototypes(header), structs(header), target.triple, layout(target), target.probes), folder)
     (folder / "shim.c").write_text(shim(header))
     strict = ["-std=c11", "-O2", "-ffreestanding", "-ffunction-sections", "-Wall", "-Wextra", "-Werror", "-Wa,--noexecstack", *([] if target.bare else ["-fPIC"])]
     run(*compiler, *target.words, *strict, "-I", HEADER.parent, "-c", folder / "shim.c", "-o", folder / "shim.o")
