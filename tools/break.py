@@ -92,7 +92,7 @@ def shown(edit):
     if not place:
         print(f"\nNOT REFUSED, after {seconds:.0f} s: everything is proved with this definition. That must not be.")
         return 1
-    print(f"\nRefused, after {seconds:.0f} s, by the crate {place}. The prover's first words:\n")
+    print(f"\nRefused, after {seconds:.0f} s, at {place}. The prover's first words:\n")
     lines(said or f"({edit.refused})", 4)
     print("\nSo this sentence of the specification does not hold with it:\n")
     quote(edit.breaks)

@@ -147,7 +147,7 @@ class Break(Tools):
     def test_refused(self):
         status, said = self.run_tool("break.py", BAD, 1)
         self.assertEqual(status, 0)
-        for text in ("what is tried", "Refused, after", "high, at high/specs/A.antt:7:1", "edge 9 fails"):
+        for text in ("what is tried", "Refused, after", "s, at high/specs/A.antt:7. ", "edge 9 fails"):
             self.assertIn(text, said)
         self.assertEqual(said.count("No edge fails."), 2)
         self.assertEqual(self.asked(), ["high: rt check"])
