@@ -98,10 +98,10 @@ class Named(unittest.TestCase):
                 self.assertTrue(not edit.at or (CRATES / edit.at).is_file() or self.is_function(edit))
 
     def is_function(self, edit):
-        """Whether an edit's place is a function of the source, as NAME/proofs/module/function."""
-        name = edit.function().split("::")[-1]
-        files = (CRATES / edit.at.split("/")[0] / "src").rglob("*.rt")
-        return bool(name) and any(re.search(rf"\bfn {name}\b", path.read_text()) for path in files)
+        """Whether an edit's place is a function of the source, as NAME/proofs/module/function, or +function of those that call one another."""
+        crate, *_, name = edit.at.replace("+", "").split("/")
+        files = (CRATES / crate / "src").rglob("*.rt")
+        return re.fullmatch(r"\w+", name) and any(re.search(rf"\bfn {name}\b", path.read_text()) for path in files)
 
 
 if __name__ == "__main__":
