@@ -15,7 +15,10 @@ SECTORS_LIBRARY = target/staticlib/libsectors.a
 STARTS = crates/starts/out/starts
 KILLS = 2000
 TRACE = examples/traces/weaving.txt
-FILEDISK = $(wildcard examples/filedisk*.c)
+# what the tools of packs are built over: the file disk, or, by DRIVER=examples/sectordisk, the one on sectors
+DRIVER = examples
+DRIVER_LIBRARIES = $(LIBRARY) $(if $(filter examples/sectordisk,$(DRIVER)),$(DISK_LIBRARY))
+FILEDISK = $(wildcard $(DRIVER)/filedisk*.c)
 # by the environment, so that a name may have blanks in it
 export PACK OLD NEW SLOT ACCOUNT NUMBER SHEET
 MODULE = target/cross/module.bc
@@ -41,34 +44,34 @@ starts:
 named-pack:
 	@[ -n "$$PACK" ] || { echo "make mend PACK=file: which pack is to be mended?"; exit 2; }
 
-mend: named-pack $(LIBRARY) $(DISK_LIBRARY)
+mend: named-pack $(DRIVER_LIBRARIES)
 	@mkdir -p target/mend
-	@gcc -std=c99 -O1 -Wall -Wextra -Iinclude -Iexamples tools/mend.c $(FILEDISK) $(LIBRARY) $(DISK_LIBRARY) -o target/mend/mend
+	@gcc -std=c99 -O1 -Wall -Wextra -Iinclude -I$(DRIVER) tools/mend.c $(FILEDISK) $(DRIVER_LIBRARIES) -o target/mend/mend
 	@target/mend/mend "$$PACK" "$$PACK.mended"
 
 named-files:
 	@[ -n "$$OLD" ] && [ -n "$$NEW" ] || { echo "make convert OLD=file NEW=file: which pack is to be converted, and into which new file?"; exit 2; }
 
-convert: named-files $(LIBRARY) $(DISK_LIBRARY)
+convert: named-files $(DRIVER_LIBRARIES)
 	@mkdir -p target/mend
-	@gcc -std=c99 -O1 -Wall -Wextra -Iinclude -Iexamples tools/convert.c $(FILEDISK) $(LIBRARY) $(DISK_LIBRARY) -o target/mend/convert
+	@gcc -std=c99 -O1 -Wall -Wextra -Iinclude -I$(DRIVER) tools/convert.c $(FILEDISK) $(DRIVER_LIBRARIES) -o target/mend/convert
 	@target/mend/convert "$$OLD" "$$NEW"
 
 named-export:
 	@[ -n "$$PACK" ] && [ -n "$$SLOT" ] && [ -n "$$SHEET" ] || { echo "make export PACK=file SLOT=number SHEET=file: which design of which pack, and into which new file?"; exit 2; }
 
-export: named-export $(LIBRARY) $(DISK_LIBRARY)
+export: named-export $(DRIVER_LIBRARIES)
 	@mkdir -p target/sheets
-	@gcc -std=c99 -O1 -Wall -Wextra -Iinclude -Iexamples tools/export.c $(FILEDISK) $(LIBRARY) $(DISK_LIBRARY) -o target/sheets/export
+	@gcc -std=c99 -O1 -Wall -Wextra -Iinclude -I$(DRIVER) tools/export.c $(FILEDISK) $(DRIVER_LIBRARIES) -o target/sheets/export
 	@target/sheets/export "$$PACK" "$$SLOT" "$$SHEET" $(if $(filter 1,$(REPLACE)),replace)
 
 named-import:
 	@[ -n "$$PACK" ] && [ -n "$$SLOT" ] && [ -n "$$ACCOUNT" ] && [ -n "$$NUMBER" ] && [ -n "$$SHEET" ] \
 	|| { echo "make import PACK=file SLOT=number ACCOUNT=number NUMBER=number SHEET=file: which sheet, into which slot of which pack, who pays, and under which number?"; exit 2; }
 
-import: named-import $(LIBRARY) $(DISK_LIBRARY)
+import: named-import $(DRIVER_LIBRARIES)
 	@mkdir -p target/sheets
-	@gcc -std=c99 -O1 -Wall -Wextra -Iinclude -Iexamples tools/import.c $(FILEDISK) $(LIBRARY) $(DISK_LIBRARY) -o target/sheets/import
+	@gcc -std=c99 -O1 -Wall -Wextra -Iinclude -I$(DRIVER) tools/import.c $(FILEDISK) $(DRIVER_LIBRARIES) -o target/sheets/import
 	@target/sheets/import "$$PACK" "$$SLOT" "$$ACCOUNT" "$$NUMBER" "$$SHEET"
 
 named-sheet:
@@ -99,7 +102,7 @@ timeline: $(LIBRARY)
 misses: $(LIBRARY)
 	@python3 tools/misses.py $(TRACE)
 
-plug: $(LIBRARY) $(DISK_LIBRARY)
+plug: $(LIBRARY)
 	KILLS=$(KILLS) tests/plug.sh
 
 # a target that was not tried is refused before anything is proved for it
@@ -108,7 +111,7 @@ cross:
 	@$(MAKE) -s --no-print-directory $(MODULE)
 	@python3 tools/cross.py "$(TARGET)" $(CROSS_CC)
 
-cross-test: $(MODULE) $(DISK_LIBRARY)
+cross-test: $(MODULE)
 	@python3 tests/cross/run.py $(TARGET)
 
 $(LIBRARY): $(SOURCES)

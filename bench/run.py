@@ -288,8 +288,8 @@ def save():
     """The table of a save of ten pages and a map on a file, beside SQLite where it is installed."""
     print("save ..", file=sys.stderr)
     beside = ["-DWITH_SQLITE", "-l:libsqlite3.a", "-lm", "-ldl", "-lpthread"] if SQLITE.exists() else []
-    sources = ["bench/save.c", *sorted(str(path.relative_to(ROOT)) for path in (ROOT / "examples").glob("filedisk*.c"))]
-    output(*GCC, "-std=c99", "-Iinclude", "-Iexamples", *sources, str(LIBRARY), str(DISK_LIBRARY), COUNTED, *beside, "-o", str(SAVE))
+    sources = ["bench/save.c", *sorted(str(path.relative_to(ROOT)) for path in (ROOT / "examples" / "sectordisk").glob("filedisk*.c"))]
+    output(*GCC, "-std=c99", "-Iinclude", "-Iexamples/sectordisk", *sources, str(LIBRARY), str(DISK_LIBRARY), COUNTED, *beside, "-o", str(SAVE))
     yield "### A save of ten pages of 256 words and their map, on a file\n"
     yield "Each save, the mean of 1,000: calls that write, their bytes, syncs, microseconds of the processor's time and of the clock. The file system is that of the working folder.\n"
     yield "| | writes | bytes | syncs | processor | clock |"

@@ -1,4 +1,4 @@
-/* Not proved, tested by make plug: the disk of filedisk.h: which layout and which sizes a device has, format and open. */
+/* Not proved, tested by make plug: the disk of filedisk.h: its header block and its tables, format and open. */
 #include <stdio.h>
 #include "filedisk_inside.h"
 
@@ -9,7 +9,85 @@ int filedisk_refused(FileDisk *disk, int answer, const char *line)
     return answer;
 }
 
-int filedisk_is_empty(const unsigned char *block)
+/* ── the header block ── */
+static const char MAGIC[8] = {'K', 'E', 'E', 'P', 'D', 'I', 'S', 'K'};
+
+/* Where its numbers are, 4 bytes each; the widths follow the sizes, the lengths the widths; the checksum of all before ends the block. The sizes are the
+ * first of the keeper's: B stands in no header. */
+enum { STORED_SIZES = 6, VERSION = 8, SIZE_COUNT = 12, TABLE_COUNT = 16, SIZES = 20, WIDTHS = SIZES + 4 * STORED_SIZES, SUM = FILEDISK_BLOCK - 4 };
+
+/* How many tables each version has, the first of those that there are now; versions before FRAMELESS have F among their sizes. */
+enum { FRAMELESS = 3 };
+static const uint32_t TABLES[FILEDISK_VERSION + 1] = {0, 5, 6, 6, KEEPER_DISK_COUNT};
+KEEPER_ASSERT(FILEDISK_VERSION == 4 && KEEPER_DISK_COUNT == 7, "another table is another version of the layout");
+KEEPER_ASSERT(KEEPER_SIZE_COUNT == STORED_SIZES + 1, "another size is part of a disk, or not");
+
+static uint32_t field(const unsigned char *block, size_t at)
+{
+    return (uint32_t)filedisk_get(block + at, 4);
+}
+
+/* F and B: no table of the disk part has its length by them. */
+static int is_memory(size_t size)
+{
+    const char letter = keeper_size((KeeperSizes){0, 0, 0, 0, 0, 0, 0}, size).letter;
+    return letter == 'F' || letter == 'B';
+}
+
+/* Where the tables are for these sizes. */
+static void plan(FileDisk *disk, FileBlocks blocks, KeeperSizes sizes, uint32_t version)
+{
+    Keeper keeper;
+    memset(disk, 0, sizeof *disk);
+    memset(&keeper, 0, sizeof keeper);
+    keeper.sizes = sizes;
+    disk->blocks = blocks;
+    disk->version = version;
+    disk->tables = TABLES[version];
+    disk->end = FILEDISK_BLOCK + FILEDISK_JOURNAL;
+    for (size_t table = 0; table < disk->tables; table++) {
+        const KeeperTable described = keeper_table(&keeper, table);
+        disk->width[table] = (uint32_t)described.width;
+        disk->count[table] = (uint32_t)described.count;
+        disk->table_at[table] = disk->end;
+        disk->end += filedisk_whole_blocks((uint64_t)described.width * described.count);
+    }
+}
+
+static void put_sizes(unsigned char *block, KeeperSizes sizes, uint32_t version)
+{
+    for (size_t size = 0; size < STORED_SIZES; size++)
+        filedisk_put(block + SIZES + 4 * size, 4, version >= FRAMELESS && is_memory(size) ? 0 : keeper_size(sizes, size).value);
+}
+
+static KeeperSizes get_sizes(const unsigned char *block)
+{
+    uint32_t values[KEEPER_SIZE_COUNT];
+    for (size_t size = 0; size < KEEPER_SIZE_COUNT; size++) {
+        values[size] = size < STORED_SIZES ? field(block, SIZES + 4 * size) : 0;
+        if (values[size] == 0 && is_memory(size))
+            values[size] = 1;
+    }
+    return keeper_sizes_of(values);
+}
+
+/* The header that says where the tables are. */
+static void put_header(const FileDisk *disk, KeeperSizes sizes, unsigned char *block)
+{
+    memset(block, 0, FILEDISK_BLOCK);
+    memcpy(block, MAGIC, sizeof MAGIC);
+    filedisk_put(block + VERSION, 4, disk->version);
+    filedisk_put(block + SIZE_COUNT, 4, STORED_SIZES);
+    filedisk_put(block + TABLE_COUNT, 4, disk->tables);
+    put_sizes(block, sizes, disk->version);
+    for (size_t table = 0; table < disk->tables; table++) {
+        filedisk_put(block + WIDTHS + 4 * table, 4, disk->width[table]);
+        filedisk_put(block + WIDTHS + 4 * (disk->tables + table), 4, disk->count[table]);
+    }
+    filedisk_put(block + SUM, 4, filedisk_checksum(block, SUM));
+}
+
+static int is_empty(const unsigned char *block)
 {
     size_t at = 0;
     while (at < FILEDISK_BLOCK && block[at] == 0)
@@ -17,116 +95,45 @@ int filedisk_is_empty(const unsigned char *block)
     return at == FILEDISK_BLOCK;
 }
 
-/* ── sectors over blocks ── */
-static int read_sector(void *self, uint32_t sector, uint8_t *bytes)
-{
-    const FileBlocks *blocks = self;
-    return blocks->read(blocks->self, (uint64_t)sector * FILEDISK_BLOCK, bytes, FILEDISK_BLOCK);
-}
-
-static int write_sector(void *self, uint32_t sector, const uint8_t *bytes)
-{
-    const FileBlocks *blocks = self;
-    return blocks->write(blocks->self, (uint64_t)sector * FILEDISK_BLOCK, bytes, FILEDISK_BLOCK);
-}
-
-static int sync_sectors(void *self)
-{
-    const FileBlocks *blocks = self;
-    return blocks->sync(blocks->self);
-}
-
-static KeeperDevice device_of(FileDisk *disk)
-{
-    const KeeperDevice device = {&disk->blocks, read_sector, write_sector, sync_sectors};
-    return device;
-}
-
-KeeperDisk *filedisk_sectors(FileDisk *disk)
-{
-    disk->sectors.device = device_of(disk);
-    if (disk->dead && !disk->sectors.dead)
-        disk->sectors.dead = KEEPER_DISK_CLOSED;
-    return &disk->sectors;
-}
-
-/* ── where things are ── */
-static void plan(FileDisk *disk, FileBlocks blocks, KeeperSizes sizes)
-{
-    memset(disk, 0, sizeof *disk);
-    disk->blocks = blocks;
-    disk->version = FILEDISK_VERSION;
-    disk->sectors.sizes = sizes;
-    for (size_t table = 0; table < KEEPER_DISK_COUNT; table++)
-        disk->table_at[table] = (uint64_t)disk_home(keeper_disk_place(sizes, table).begins) * FILEDISK_BLOCK;
-    disk->end = (uint64_t)keeper_disk_sectors(sizes) * FILEDISK_BLOCK;
-}
-
-uint64_t filedisk_place(const FileDisk *disk, size_t table, size_t entry)
-{
-    const DiskPlace place = keeper_disk_place(disk->sectors.sizes, table);
-    const size_t row = entry / place.width, at = entry % place.width;
-    return disk->table_at[table] + (row * place.sectors + at / DISK_WORDS) * FILEDISK_BLOCK + 4 * (at % DISK_WORDS);
-}
-
-/* ── the header ── */
-
-/* Whether a first block is one that this layout has: none yet, or a commit sector. */
-static int is_ours(const unsigned char *block)
-{
-    uint32_t words[DISK_WORDS];
-    disk_from_bytes(block, words);
-    return filedisk_is_empty(block) || disk_look_commit(words, UINT32_MAX).what != DISK_NO_JOURNAL;
-}
-
-/* A header sector that is not this layout's. */
-static int other_header(FileDisk *disk, uint32_t why, uint32_t version, const unsigned char *first)
+/* Whether a block is a header, and of which version. */
+static int recognise(FileDisk *disk, const unsigned char *block)
 {
     char line[sizeof disk->line];
-    if (why == DISK_BLANK && is_ours(first))
+    if (is_empty(block))
         return filedisk_refused(disk, FILEDISK_NO_DISK, "no disk of the keeper: never formatted, or a cut fell in the format");
-    if (why == DISK_OUT_OF_LIMITS)
-        return filedisk_refused(disk, FILEDISK_OTHER_SIZES, "the disk was formatted by a keeper with other sizes than this one can have");
-    if (why == DISK_OTHER_VERSION && version > FILEDISK_VERSION) {
-        snprintf(line, sizeof line, "the disk has version %u of the layout, this program knows those up to %u: a later one wrote it", (unsigned)version, FILEDISK_VERSION);
+    if (memcmp(block, MAGIC, sizeof MAGIC) != 0)
+        return filedisk_refused(disk, FILEDISK_DAMAGED, "no disk of the keeper: another program's file, or its header block is damaged");
+    if (field(block, SUM) != filedisk_checksum(block, SUM))
+        return filedisk_refused(disk, FILEDISK_DAMAGED, "the header block is damaged: its checksum is wrong");
+    if (field(block, VERSION) == 0 || field(block, VERSION) > FILEDISK_VERSION) {
+        snprintf(line, sizeof line, "the disk has version %u of the layout, this program knows those up to %u: a later one wrote it",
+                 (unsigned)field(block, VERSION), FILEDISK_VERSION);
         return filedisk_refused(disk, FILEDISK_OTHER_VERSION, line);
     }
-    return filedisk_refused(disk, FILEDISK_DAMAGED, "no disk of the keeper: another program's file, or its header block is damaged");
-}
-
-/* The header of this layout; `first` is the device's first block. */
-static int new_header(FileDisk *disk, FileBlocks blocks, const unsigned char *first, KeeperSizes *sizes)
-{
-    unsigned char header[FILEDISK_BLOCK];
-    uint32_t words[DISK_WORDS];
-    const int got = blocks.read(blocks.self, FILEDISK_HEADER, header, FILEDISK_BLOCK);
-    if (got == FILEDISK_PAST_END)
-        return other_header(disk, filedisk_is_empty(first) ? DISK_BLANK : DISK_FOREIGN, 0, first);
-    if (got != 0)
-        return filedisk_refused(disk, FILEDISK_DEVICE, "the device failed: the header block cannot be read");
-    disk_from_bytes(header, words);
-    const DiskSaid said = disk_header_sizes(words);
-    if (said.refusal != DISK_OURS)
-        return other_header(disk, said.refusal, words[2], first);
-    const KeeperSizes found = {.words = said.words, .records = said.records, .frames = 1, .slots = said.slots, .pages = said.pages, .accounts = said.accounts, .chip = 1};
-    *sizes = found;
-    plan(disk, blocks, found);
     return FILEDISK_GOOD;
 }
 
-/* The header of a device, of any layout, and that the device is as long as it says. A file that was cut short is not lengthened by a store, nor read as
- * zeros. */
+/* The header of a device: the disk is planned as it says, and the device is as long as that. A file that was cut short is not lengthened by a
+ * store, nor read as zeros. */
 static int read_header(FileDisk *disk, FileBlocks blocks, KeeperSizes *sizes)
 {
-    unsigned char first[FILEDISK_BLOCK], last;
+    unsigned char found[FILEDISK_BLOCK], wanted[FILEDISK_BLOCK], last;
     memset(disk, 0, sizeof *disk);
-    disk->blocks = blocks;
-    if (blocks.read(blocks.self, 0, first, FILEDISK_BLOCK) != 0)
-        return filedisk_refused(disk, FILEDISK_DEVICE, "the device failed: its first block cannot be read");
-    const int answer = filedisk_is_old(first) ? filedisk_old_header(disk, first, sizes) : new_header(disk, blocks, first, sizes);
-    if (answer == FILEDISK_GOOD && blocks.read(blocks.self, disk->end - 1, &last, 1) != 0)
+    if (blocks.read(blocks.self, 0, found, FILEDISK_BLOCK) != 0)
+        return filedisk_refused(disk, FILEDISK_DEVICE, "the device failed: the header block cannot be read");
+    const int answer = recognise(disk, found);
+    if (answer != FILEDISK_GOOD)
+        return answer;
+    *sizes = get_sizes(found);
+    if (!keeper_sizes_fit(*sizes))
+        return filedisk_refused(disk, FILEDISK_OTHER_SIZES, "the disk was formatted by a keeper with other sizes than this one can have");
+    plan(disk, blocks, *sizes, field(found, VERSION));
+    put_header(disk, *sizes, wanted);
+    if (memcmp(found, wanted, FILEDISK_BLOCK) != 0)
+        return filedisk_refused(disk, FILEDISK_OTHER_SIZES, "the disk was formatted by a keeper with other tables");
+    if (blocks.read(blocks.self, disk->end - 1, &last, 1) != 0)
         return filedisk_refused(disk, FILEDISK_DEVICE, "the device failed: it is shorter than its tables");
-    return answer;
+    return FILEDISK_GOOD;
 }
 
 int filedisk_sizes(FileDisk *disk, FileBlocks blocks, KeeperSizes *sizes)
@@ -139,7 +146,10 @@ int filedisk_sizes(FileDisk *disk, FileBlocks blocks, KeeperSizes *sizes)
 
 static void name_sizes(char *text, size_t room, KeeperSizes sizes)
 {
-    snprintf(text, room, "W %u R %u S %u N %u Q %u", (unsigned)sizes.words, (unsigned)sizes.records, (unsigned)sizes.slots, (unsigned)sizes.pages, (unsigned)sizes.accounts);
+    size_t used = 0;
+    for (size_t size = 0; size < KEEPER_SIZE_COUNT && used < room; size++)
+        if (!is_memory(size))
+            used += (size_t)snprintf(text + used, room - used, " %c %u", keeper_size(sizes, size).letter, (unsigned)keeper_size(sizes, size).value);
 }
 
 /* The header, if this keeper has the disk's sizes: all but F and B, which are no part of a disk. */
@@ -152,38 +162,73 @@ static int matches(FileDisk *disk, FileBlocks blocks, const Keeper *keeper)
         return answer;
     name_sizes(here, sizeof here, keeper->sizes);
     name_sizes(there, sizeof there, found);
-    snprintf(line, sizeof line, "the disk was formatted with %s, this keeper has %s", there, here);
+    snprintf(line, sizeof line, "the disk was formatted with%s, this keeper has%s", there, here);
     return strcmp(here, there) == 0 ? FILEDISK_GOOD : filedisk_refused(disk, FILEDISK_OTHER_SIZES, line);
 }
 
-/* ── format ── */
-static int zeros(FileDisk *disk, uint32_t from, uint32_t to)
+/* ── the tables ── */
+static int zeros(FileDisk *disk, uint64_t from, uint64_t to)
 {
     static const unsigned char nothing[FILEDISK_BLOCK];
-    for (uint32_t sector = from; sector < to; sector++)
-        if (write_sector(&disk->blocks, sector, nothing) != 0)
+    while (from < to) {
+        if (disk->blocks.write(disk->blocks.self, from, nothing, sizeof nothing) != 0)
             return -1;
+        from += sizeof nothing;
+    }
+    return disk->blocks.sync(disk->blocks.self);
+}
+
+/* A table in its place, with zeros up to the next block. */
+static int put_table(FileDisk *disk, const Keeper *keeper, size_t number)
+{
+    unsigned char chunk[4096];
+    const KeeperTable table = keeper_table(keeper, number);
+    const size_t most = sizeof chunk / table.width;
+    for (size_t first = 0; first < table.count; first += most) {
+        const size_t count = table.count - first < most ? table.count - first : most;
+        memset(chunk, 0, sizeof chunk);
+        filedisk_pack(chunk, (const unsigned char *)table.at + first * table.width, table.width, count);
+        if (disk->blocks.write(disk->blocks.self, disk->table_at[number] + first * table.width, chunk, (size_t)filedisk_whole_blocks(count * table.width)) != 0)
+            return -1;
+    }
     return 0;
 }
 
-/* The header that stands there goes first, so that no cut leaves it before half a new disk; then the areas take their room. */
-static int clear(FileDisk *disk)
+static int put_tables(FileDisk *disk, const Keeper *keeper)
 {
-    unsigned char first[FILEDISK_BLOCK];
-    const int got = read_sector(&disk->blocks, 0, first);
-    if (got == 0 && filedisk_is_old(first) && (zeros(disk, 0, 1) != 0 || sync_sectors(&disk->blocks) != 0))
-        return -1;
-    if (zeros(disk, disk_home(0), disk_home(1)) != 0 || sync_sectors(&disk->blocks) != 0)
-        return -1;
-    return zeros(disk, KEEPER_DISK_COMMIT, disk_home(0));
+    int failed = 0;
+    for (size_t number = 0; number < disk->tables && !failed; number++)
+        failed = put_table(disk, keeper, number);
+    return failed ? -1 : disk->blocks.sync(disk->blocks.self);
 }
 
+/* All tables into the keeper's, with a store of the journal in its places if there is one. */
+static int get_tables(FileDisk *disk, const Keeper *keeper, const unsigned char *entry)
+{
+    for (size_t number = 0; number < KEEPER_DISK_COUNT; number++) {
+        const KeeperTable table = keeper_table(keeper, number);
+        if (number >= disk->tables) {
+            memset(table.at, 0, table.width * table.count);
+            continue;
+        }
+        if (disk->blocks.read(disk->blocks.self, disk->table_at[number], table.at, table.width * table.count) != 0)
+            return -1;
+        if (entry)
+            filedisk_journal_over(entry, disk->table_at[number], table.at, table.width * table.count);
+        filedisk_unpack(table.at, table.at, table.width, table.count);
+    }
+    return 0;
+}
+
+/* ── format and open ── */
 int filedisk_make(FileDisk *disk, FileBlocks blocks, const Keeper *keeper)
 {
-    plan(disk, blocks, keeper->sizes);
-    if (disk->end == 0)
-        return filedisk_refused(disk, FILEDISK_RESTART, "the keeper refused the format");
-    if (clear(disk) != 0 || keeper_disk_make(&disk->sectors, device_of(disk), keeper) != KEEPER_DISK_GOOD)
+    unsigned char block[FILEDISK_BLOCK];
+    plan(disk, blocks, keeper->sizes, FILEDISK_VERSION);
+    put_header(disk, keeper->sizes, block);
+    /* the old header goes first, so that no cut leaves it before half a new disk; the new one comes last */
+    if (zeros(disk, 0, FILEDISK_BLOCK) != 0 || zeros(disk, FILEDISK_BLOCK, FILEDISK_BLOCK + FILEDISK_JOURNAL) != 0 || put_tables(disk, keeper) != 0
+        || blocks.write(blocks.self, 0, block, FILEDISK_BLOCK) != 0 || blocks.sync(blocks.self) != 0)
         return filedisk_refused(disk, FILEDISK_DEVICE, "the device failed in the format: format again");
     return FILEDISK_GOOD;
 }
@@ -194,55 +239,41 @@ int filedisk_format(FileDisk *disk, FileBlocks blocks, Keeper *keeper, const uin
     const uint32_t refusal = keeper_easy_format(keeper, wanted).refusal;
     if (refusal == KEEPER_NO_RANGE)
         return filedisk_refused(disk, FILEDISK_PARENTS, "an account's parent is to be a lower account");
-    if (refusal != KEEPER_DONE)
+    if (refusal != KEEPER_DONE || keeper_easy_restart(keeper).refusal != KEEPER_DONE)
         return filedisk_refused(disk, FILEDISK_RESTART, "the keeper refused the format");
-    const int answer = filedisk_make(disk, blocks, keeper);
-    if (answer == FILEDISK_GOOD && keeper_disk_open(&disk->sectors, device_of(disk), keeper) != KEEPER_DISK_GOOD)
-        return filedisk_refused(disk, FILEDISK_DEVICE, "the device failed in the format: format again");
-    return answer;
-}
-
-/* ── open ── */
-
-/* What the disk on sectors answered, in this one's answers and words. */
-static int answered(FileDisk *disk, int answer, Keeper *keeper)
-{
-    switch (answer) {
-    case KEEPER_DISK_GOOD: return FILEDISK_GOOD;
-    case KEEPER_DISK_RESTART: return filedisk_refused(disk, FILEDISK_RESTART, keeper_text(keeper_easy_restart(keeper).refusal));
-    case KEEPER_DISK_JOURNAL: return filedisk_refused(disk, FILEDISK_DAMAGED, "the disk is damaged: its commit sector is none that the journal writes");
-    case KEEPER_DISK_DAMAGED: return filedisk_refused(disk, FILEDISK_DAMAGED, "the disk is damaged: a sector holds what its table cannot have");
-    default: return filedisk_refused(disk, FILEDISK_DEVICE, "the device failed: the disk part cannot be read, or the newest store not brought home");
-    }
+    return filedisk_make(disk, blocks, keeper);
 }
 
 int filedisk_read(FileDisk *disk, FileBlocks blocks, Keeper *keeper)
 {
+    unsigned char entry[FILEDISK_JOURNAL];
     const int answer = matches(disk, blocks, keeper);
     if (answer != FILEDISK_GOOD)
         return answer;
-    if (disk->version == FILEDISK_VERSION)
-        return answered(disk, keeper_disk_read(&disk->sectors, device_of(disk), keeper), keeper);
-    return filedisk_old_read(disk, keeper) == 0 ? FILEDISK_GOOD : filedisk_refused(disk, FILEDISK_DEVICE, "the device failed: the disk part cannot be read");
+    const int whole = filedisk_journal_read(disk, entry);
+    if (whole < 0 || get_tables(disk, keeper, whole ? entry : NULL) != 0)
+        return filedisk_refused(disk, FILEDISK_DEVICE, "the device failed: the disk part cannot be read");
+    return FILEDISK_GOOD;
 }
 
-/* What stands in a file's cache alone, after a sync that failed, is read, and no later sync stores it. So whatever the newest store stands on is written
- * again as it is: its contents, the commit sector, the header. A commit sector that is none is left for the open to refuse. */
-static int freshen(FileDisk *disk, const Keeper *keeper)
+int filedisk_store_highest(FileDisk *disk, const Keeper *keeper)
 {
-    uint32_t commit[DISK_WORDS];
-    DiskFound found;
-    KeeperDisk *sectors = &disk->sectors;
-    if (keeper_disk_begin(sectors, device_of(disk), keeper) != KEEPER_DISK_GOOD || keeper_disk_look(sectors, commit, &found) != KEEPER_DISK_GOOD)
-        return sectors->dead ? -1 : 0;
-    for (uint32_t content = 0; content < found.count; content++)
-        if (keeper_disk_copy(sectors, disk_area(found.sequence, content), disk_area(found.sequence, content)) != 0)
-            return -1;
-    return keeper_disk_copy(sectors, KEEPER_DISK_COMMIT, KEEPER_DISK_COMMIT) != 0 ? -1 : keeper_disk_copy(sectors, disk_home(0), disk_home(0));
+    const FilePiece piece = {KEEPER_TABLE_HIGHEST, 0, 1, keeper->highest};
+    return filedisk_store(disk, &piece, 1);
+}
+
+/* The restart, with its own one store: the highest number, where an older pack has a lower one. */
+static int restarted(FileDisk *disk, Keeper *keeper)
+{
+    const uint32_t highest = keeper->highest[0], refusal = keeper_easy_restart(keeper).refusal;
+    if (refusal != KEEPER_DONE)
+        return filedisk_refused(disk, FILEDISK_RESTART, keeper_text(refusal));
+    return keeper->highest[0] == highest || filedisk_store_highest(disk, keeper) == 0 ? FILEDISK_GOOD : FILEDISK_DEVICE;
 }
 
 int filedisk_open(FileDisk *disk, FileBlocks blocks, Keeper *keeper)
 {
+    unsigned char block[FILEDISK_BLOCK];
     char line[sizeof disk->line];
     const int answer = matches(disk, blocks, keeper);
     if (disk->version != 0 && disk->version < FILEDISK_VERSION) {
@@ -252,7 +283,11 @@ int filedisk_open(FileDisk *disk, FileBlocks blocks, Keeper *keeper)
     }
     if (answer != FILEDISK_GOOD)
         return answer;
-    if (freshen(disk, keeper) != 0)
-        return answered(disk, KEEPER_DISK_DEVICE, keeper);
-    return answered(disk, keeper_disk_open(&disk->sectors, device_of(disk), keeper), keeper);
+    /* the header too may stand in the device's cache alone, if the format's last sync failed: the first sync of the journal makes it safe */
+    put_header(disk, keeper->sizes, block);
+    if (blocks.write(blocks.self, 0, block, FILEDISK_BLOCK) != 0 || filedisk_journal_recover(disk) != 0)
+        return filedisk_refused(disk, FILEDISK_DEVICE, "the device failed: the journal cannot be read, or its store not brought to its places");
+    if (get_tables(disk, keeper, NULL) != 0)
+        return filedisk_refused(disk, FILEDISK_DEVICE, "the device failed: the disk part cannot be read");
+    return restarted(disk, keeper);
 }

@@ -1,31 +1,35 @@
-/* Not proved, tested by make plug: a disk for the keeper over a file, or over any device of bytes that can be read, written and synced. It is the disk of
- * include/keeper_disk.h, in sectors of FILEDISK_BLOCK bytes, one behind the other from byte 0 on: the commit sector, two areas of the journal, the header,
- * the tables (docs/USING.md, "A disk on sectors"). What makes each store land whole or not at all, and where everything is, is proved below that.
+/* Not proved, tested by make plug: a disk for the keeper over a file, or over any device of bytes that can be read, written and synced.
  *
- * A file's sync that fails may leave what a read still shows and no later sync stores. So open writes the header again, the commit sector and the contents
- * that it names, as they are read, before its sync. If the device fails in a store, nobody can tell whether it lands: the disk is dead, nothing is reported,
- * and it must be opened anew, which counts as a cut.
+ * Where things are (all numbers low byte first, whatever the machine has; every part begins at a multiple of 512):
  *
- * This is version 5 of the layout. Versions 1 to 4 have a header block at byte 0, with a checksum, a journal of one store and the tables behind it; version 1
- * has no parents, versions 1 and 2 have F among the sizes, version 4 has the highest number. filedisk_sizes and filedisk_read know all five, the others
- * the last alone (make convert makes it of the older ones). */
+ *        0   the header block, 512 bytes: magic, version, the sizes, the tables' widths and lengths, and a checksum of these
+ *      512   the journal, FILEDISK_JOURNAL bytes: the last store, whole, with its checksum
+ *   then     the tables of the disk part, in the order of tools/tables.txt: records, numbers, accounts, maps, limits, parents,
+ *            highest
+ *
+ * Version 1 has no parents, version 2 has them. Both have F among the sizes; since version 3 a 0 stands there: the number of frames is no part of
+ * a disk. Nor is the number of the chip's places, B, which stands in no header. Version 4 has the highest number. filedisk_sizes and filedisk_read know all four, the others the last alone (make convert makes it of the
+ * older ones).
+ *
+ * A store goes to the journal first; that is synced; then it goes to its places; that is synced too. A cut in the first half leaves the
+ * places alone (the journal's checksum is wrong then, or it holds the store before, which is in its places already); a cut in the second
+ * half is mended at the next open, which brings the journal's store to its places again. What open finds in the journal may not be safe yet, if
+ * only the processor was reset and the device's cache lives: so the header is written again, and a whole store to the journal, and synced before it
+ * is brought to its places; of one that is not whole the first block is zeroed, so that no later store completes it. So each store lands whole or
+ * not at all, on a device that tears and reorders what was not synced. If the device fails in a store, nobody can tell whether it lands: the disk is
+ * dead, nothing is reported, and it must be opened anew, which counts as a cut. */
 #ifndef FILEDISK_H
 #define FILEDISK_H
 
-#include "keeper_disk.h"
+#include "keeper_easy.h"
 
 #ifdef __cplusplus
 extern "C" {
 #endif
 
-enum { FILEDISK_VERSION = 5, FILEDISK_BLOCK = DISK_BYTES, FILEDISK_MOST_PIECES = 8 };
+enum { FILEDISK_VERSION = 4, FILEDISK_BLOCK = 512, FILEDISK_JOURNAL = 8192, FILEDISK_MOST_PIECES = 8 };
 
-/* The byte where the header is: home sector 0. */
-enum { FILEDISK_HEADER = (1 + 2 * DISK_MOST) * FILEDISK_BLOCK };
-
-/* A device of bytes. Each answers 0, or -1 if it failed; a read also FILEDISK_PAST_END, where the device ends before the last byte. What was written is safe
- * once a later sync has answered 0. Sectors are read and written whole. */
-enum { FILEDISK_PAST_END = 1 };
+/* A device of bytes. Each answers 0, or -1 if it failed. What was written is safe once a later sync has answered 0. */
 typedef struct {
     void *self;
     int (*read)(void *self, uint64_t at, void *to, size_t bytes);
@@ -35,12 +39,14 @@ typedef struct {
 
 typedef struct {
     FileBlocks blocks;
-    KeeperDisk sectors; /* the disk on them, once it is open */
-    uint32_t version;   /* of the layout that is on the device */
-    uint64_t table_at[KEEPER_DISK_COUNT]; /* the byte where each table begins */
-    uint64_t end;       /* how long the device must be */
-    int dead;           /* refused, or the device failed: open it anew */
-    char line[240];     /* why */
+    uint32_t version;  /* of the layout that is on the device */
+    uint32_t tables;   /* how many tables that has */
+    uint64_t table_at[KEEPER_DISK_COUNT];
+    uint32_t width[KEEPER_DISK_COUNT], count[KEEPER_DISK_COUNT];
+    uint64_t end;      /* how long the device must be */
+    uint32_t sequence; /* of the next store */
+    int dead;          /* refused, or the device failed: open it anew */
+    char line[240];    /* why */
 } FileDisk;
 
 /* What file, format, open, sizes, read and make answer; `line` of the disk says it in words. */
@@ -52,7 +58,7 @@ enum {
     FILEDISK_OTHER_SIZES = 4,   /* formatted with other sizes, or for other tables */
     FILEDISK_RESTART = 5,       /* the keeper's restart refused it */
     FILEDISK_PARENTS = 6,       /* format: a wanted parent is not a lower account; the device is untouched */
-    FILEDISK_DAMAGED = 7,       /* something stands there that is no disk: it is damaged, or the file is another program's */
+    FILEDISK_DAMAGED = 7,       /* something stands there that is no header: it is damaged, or the file is another program's */
     FILEDISK_IN_USE = 8,        /* file: another program has it open */
     FILEDISK_THERE = 9          /* file, FILEDISK_NEW: it is there already */
 };
@@ -69,24 +75,23 @@ void filedisk_close(FileBlocks *blocks);
 /* A new file, or a new name of one, is safe only once its folder is synced: that is done. 0, or -1, and errno says why. */
 int filedisk_folder(const char *path);
 
-/* A new disk: all zeros but the parents, and the header last. What stood there is gone. The keeper is formatted and restarted too. `wanted`: the
+/* A new disk: all zeros but the parents, then the header. What stood there is gone. The keeper is formatted and restarted too. `wanted`: the
  * parent of each account, or NULL for account 0 everywhere. Nothing but this and filedisk_make formats, so it is for the caller to ask first. */
 int filedisk_format(FileDisk *disk, FileBlocks blocks, Keeper *keeper, const uint16_t *wanted);
 
-/* A disk after a cut or a reset: the header is looked at, and that the device is as long as it says. Up to there nothing is written. Then the newest store is
- * brought home, the disk part read, the keeper restarted; and if that changed the highest number, it is stored. */
+/* A disk after a cut or a reset: the header is checked, and that the device is as long as it says. Up to there nothing is written. Then the journal's
+ * store is brought to its places, the disk part read, the keeper restarted; and if that changed the highest number, it is stored. */
 int filedisk_open(FileDisk *disk, FileBlocks blocks, Keeper *keeper);
 
 /* The sizes that a disk of this or an older version was formatted with, by its header; it must be as long as that says. The frames and the
  * chip's places are 1. */
 int filedisk_sizes(FileDisk *disk, FileBlocks blocks, KeeperSizes *sizes);
 
-/* The disk part of this or an older version into the keeper's, with the newest store in its places; tables that it lacks are zeros. Writes nothing to the
- * device, and does not restart. The keeper must have the disk's sizes. */
+/* The disk part of this or an older version into the keeper's, with the journal's store in its places; tables that it lacks are zeros. Writes
+ * nothing to the device, and does not restart. The keeper must have the disk's sizes. */
 int filedisk_read(FileDisk *disk, FileBlocks blocks, Keeper *keeper);
 
-/* A new disk, in the place of all that was on the device, with the keeper's disk part. The header comes last: a cut within it leaves no disk. It is not open
- * then. */
+/* A new disk, in the place of all that was on the device, with the keeper's disk part. The header comes last: a cut within it leaves no disk. */
 int filedisk_make(FileDisk *disk, FileBlocks blocks, const Keeper *keeper);
 
 /* Entries of a table that a store changes, and what they become. */
@@ -96,16 +101,14 @@ typedef struct {
 } FilePiece;
 
 /* One store, whole or not at all: 0 once it is safe, or -1, and the disk is dead. Also -1, and nothing has happened, if a piece is no part of a
- * table or all of them touch more sectors than a store takes. The other entries of their rows stay as the device has them. */
+ * table or all of them are more than the journal takes. */
 int filedisk_store(FileDisk *disk, const FilePiece *pieces, size_t count);
 
-/* The byte where an entry of a table stands, in four bytes. */
-uint64_t filedisk_place(const FileDisk *disk, size_t table, size_t entry);
-
 /* The refusal that tells that the disk is dead: the keeper has carried it out, but nobody knows whether its store will land. */
-#define FILEDISK_DIED KEEPER_DISK_DIED
+#define FILEDISK_DIED UINT32_MAX
 
-/* The events that store by themselves: the call, then its store. The keeper's answer, or FILEDISK_DIED. */
+/* The events that store by themselves: the call, then its store. The keeper's answer, or FILEDISK_DIED. A create has two, the highest number and then
+ * the slot: if a cut comes between them, the slot is empty and the number is skipped. */
 KeeperAnswer filedisk_limit(FileDisk *disk, Keeper *keeper, uint32_t account, uint32_t pages);
 KeeperAnswer filedisk_move(FileDisk *disk, Keeper *keeper, uint32_t giver, uint32_t taker, uint32_t pages);
 KeeperAnswer filedisk_create(FileDisk *disk, Keeper *keeper, uint32_t slot, uint32_t account, uint32_t number);
@@ -120,10 +123,7 @@ KeeperAnswer filedisk_import(FileDisk *disk, Keeper *keeper, uint32_t slot, uint
 int filedisk_transfer(FileDisk *disk, Keeper *keeper, KeeperTransfer transfer);
 int filedisk_map(FileDisk *disk, Keeper *keeper, uint32_t slot);
 
-/* All writes that are open, of any design, as one store, or as many as fit, and then their reports. 0, or -1, and the disk is dead. */
-int filedisk_writes(FileDisk *disk, Keeper *keeper);
-
-/* A page into a frame, and a design to the disk, all steps of them; its pages and its map are one store, if they fit. 0, the keeper's refusal, or FILEDISK_DIED. */
+/* A page into a frame, and a design to the disk, all steps of them. 0, the keeper's refusal, or FILEDISK_DIED. */
 uint32_t filedisk_bring(FileDisk *disk, Keeper *keeper, uint32_t slot, uint32_t page);
 uint32_t filedisk_save(FileDisk *disk, Keeper *keeper, uint32_t slot, uint32_t *left);
 

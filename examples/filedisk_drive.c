@@ -1,125 +1,151 @@
-/* Not proved, tested by make plug: the driver over the disk of filedisk.h: the calls of include/keeper_disk.h, and stores of single entries. */
+/* Not proved, tested by make plug: the driver over the disk of filedisk.h. Each event's store is on the device before it is reported. */
 #include "filedisk_inside.h"
 
-/* Once the disk on sectors is dead, so is this one. */
-static int failed(FileDisk *disk, int answer)
+/* The keeper's answer to an event whose store has ended so. */
+static KeeperAnswer stored(KeeperAnswer answer, int failed)
 {
-    if (disk->sectors.dead && !disk->dead)
-        filedisk_refused(disk, FILEDISK_DEVICE, disk->sectors.dead == KEEPER_DISK_DAMAGED ? "the device failed: a record is not as it was stored"
-                                                                                          : "the device failed in a store or a read: open it anew");
+    if (failed) {
+        answer.refusal = FILEDISK_DIED;
+        answer.result = 0;
+    }
     return answer;
 }
 
-static KeeperAnswer told(FileDisk *disk, KeeperAnswer answer)
+static int store_slot(FileDisk *disk, const Keeper *keeper, uint32_t slot)
 {
-    failed(disk, 0);
-    return answer;
+    const FilePiece pieces[2] = {
+        {KEEPER_TABLE_NUMBERS, slot, 1, keeper->numbers + slot},
+        {KEEPER_TABLE_ACCOUNTS, slot, 1, keeper->accounts + slot},
+    };
+    return filedisk_store(disk, pieces, 2);
 }
 
 KeeperAnswer filedisk_limit(FileDisk *disk, Keeper *keeper, uint32_t account, uint32_t pages)
 {
-    return told(disk, keeper_disk_limit(filedisk_sectors(disk), keeper, account, pages));
+    const KeeperAnswer answer = keeper_limit(keeper, account, pages);
+    const FilePiece piece = {KEEPER_TABLE_LIMITS, account, 1, keeper->limits + account};
+    return stored(answer, answer.refusal == KEEPER_DONE && filedisk_store(disk, &piece, 1) != 0);
 }
 
+/* The limits table is one store: both limits land, or neither. */
 KeeperAnswer filedisk_move(FileDisk *disk, Keeper *keeper, uint32_t giver, uint32_t taker, uint32_t pages)
 {
-    return told(disk, keeper_disk_move(filedisk_sectors(disk), keeper, giver, taker, pages));
+    const KeeperAnswer answer = keeper_move(keeper, giver, taker, pages);
+    const FilePiece piece = {KEEPER_TABLE_LIMITS, 0, keeper->sizes.accounts, keeper->limits};
+    return stored(answer, answer.refusal == KEEPER_DONE && filedisk_store(disk, &piece, 1) != 0);
 }
 
+/* The highest number first: a number that is in a slot on the device was never lower than it. */
 KeeperAnswer filedisk_create(FileDisk *disk, Keeper *keeper, uint32_t slot, uint32_t account, uint32_t number)
 {
-    return told(disk, keeper_disk_create(filedisk_sectors(disk), keeper, slot, account, number));
+    const KeeperAnswer answer = keeper_create(keeper, slot, account, number);
+    return stored(answer, answer.refusal == KEEPER_DONE && (filedisk_store_highest(disk, keeper) != 0 || store_slot(disk, keeper, slot) != 0));
 }
 
 KeeperAnswer filedisk_delete(FileDisk *disk, Keeper *keeper, uint32_t slot)
 {
-    return told(disk, keeper_disk_delete(filedisk_sectors(disk), keeper, slot));
+    const KeeperAnswer answer = keeper_delete(keeper, slot);
+    return stored(answer, answer.refusal == KEEPER_DONE && store_slot(disk, keeper, slot) != 0);
+}
+
+/* The record that an entry of a map names: its words as one store. */
+static int store_record(FileDisk *disk, const Keeper *keeper, uint16_t entry)
+{
+    const size_t count = keeper->sizes.words, first = (entry - 1u) * count;
+    const FilePiece piece = {KEEPER_TABLE_RECORDS, first, count, keeper->records + first};
+    return filedisk_store(disk, &piece, 1);
+}
+
+/* The slot with its map: three places, one store. */
+static int store_design(FileDisk *disk, const Keeper *keeper, uint32_t slot)
+{
+    const size_t count = keeper->sizes.pages, first = slot * count;
+    const FilePiece pieces[3] = {
+        {KEEPER_TABLE_NUMBERS, slot, 1, keeper->numbers + slot},
+        {KEEPER_TABLE_ACCOUNTS, slot, 1, keeper->accounts + slot},
+        {KEEPER_TABLE_MAPS, first, count, keeper->maps + first},
+    };
+    return filedisk_store(disk, pieces, 3);
+}
+
+/* The stores of an import that was carried out, in their order; the slot is the last. */
+static int store_import(FileDisk *disk, const Keeper *keeper, uint32_t slot)
+{
+    const uint16_t *map = keeper->maps + slot * keeper->sizes.pages;
+    if (filedisk_store_highest(disk, keeper) != 0)
+        return -1;
+    for (size_t page = 0; page < keeper->sizes.pages; page++)
+        if (map[page] != 0 && store_record(disk, keeper, map[page]) != 0)
+            return -1;
+    return store_design(disk, keeper, slot);
 }
 
 KeeperAnswer filedisk_import(FileDisk *disk, Keeper *keeper, uint32_t slot, uint32_t account, uint32_t number, const uint8_t *sheet, size_t bytes)
 {
-    return told(disk, keeper_disk_import(filedisk_sectors(disk), keeper, slot, account, number, sheet, bytes));
+    const KeeperAnswer answer = keeper_easy_import(keeper, slot, account, number, sheet, bytes);
+    return stored(answer, answer.refusal == KEEPER_DONE && store_import(disk, keeper, slot) != 0);
+}
+
+/* Whether the device still has the record as the lent copy has it. */
+static int confirmed(FileDisk *disk, const Keeper *keeper, uint32_t record)
+{
+    uint32_t words[KEEPER_MOST_WORDS];
+    const size_t count = keeper->sizes.words, first = record * count;
+    if (disk->blocks.read(disk->blocks.self, disk->table_at[KEEPER_TABLE_RECORDS] + first * sizeof *words, words, count * sizeof *words) != 0)
+        return 0;
+    filedisk_unpack(words, (const unsigned char *)words, sizeof *words, count);
+    return memcmp(words, keeper->records + first, count * sizeof *words) == 0;
 }
 
 int filedisk_transfer(FileDisk *disk, Keeper *keeper, KeeperTransfer transfer)
 {
-    return failed(disk, keeper_disk_transfer(filedisk_sectors(disk), keeper, transfer));
-}
-
-int filedisk_writes(FileDisk *disk, Keeper *keeper)
-{
-    return failed(disk, keeper_disk_writes(filedisk_sectors(disk), keeper));
+    uint32_t good = 1;
+    if (transfer.way == KEEPER_WRITING) {
+        const size_t count = keeper->sizes.words;
+        const FilePiece piece = {KEEPER_TABLE_RECORDS, transfer.record * count, count, transfer.words};
+        if (filedisk_store(disk, &piece, 1) != 0)
+            return -1;
+    } else {
+        good = (uint32_t)confirmed(disk, keeper, transfer.record);
+    }
+    keeper_page_done(keeper, transfer.frame, good);
+    if (!good)
+        filedisk_refused(disk, FILEDISK_DEVICE, "the device failed: a record cannot be read, or is not as it was stored");
+    return disk->dead ? -1 : 0;
 }
 
 int filedisk_map(FileDisk *disk, Keeper *keeper, uint32_t slot)
 {
-    return failed(disk, keeper_disk_map(filedisk_sectors(disk), keeper, slot));
+    const size_t count = keeper->sizes.pages;
+    const FilePiece piece = {KEEPER_TABLE_MAPS, slot * count, count, keeper_image(keeper, slot)};
+    if (filedisk_store(disk, &piece, 1) != 0)
+        return -1;
+    keeper_map_done(keeper, slot, 1);
+    return 0;
 }
 
 uint32_t filedisk_bring(FileDisk *disk, Keeper *keeper, uint32_t slot, uint32_t page)
 {
-    const uint32_t refusal = keeper_disk_bring(filedisk_sectors(disk), keeper, slot, page);
-    failed(disk, 0);
-    return refusal;
+    for (;;) {
+        KeeperStep step = keeper_bring(keeper, slot, page);
+        if (step.what != KEEPER_STEP_TRANSFER)
+            return step.refusal;
+        if (filedisk_transfer(disk, keeper, step.transfer) != 0)
+            return FILEDISK_DIED;
+    }
 }
 
 uint32_t filedisk_save(FileDisk *disk, Keeper *keeper, uint32_t slot, uint32_t *left)
 {
-    const uint32_t refusal = keeper_disk_save(filedisk_sectors(disk), keeper, slot, left);
-    failed(disk, 0);
-    return refusal;
-}
-
-/* ── entries: the rows that they are in, as the device has them, with these entries in them ── */
-typedef struct {
-    size_t count, used;
-    KeeperRow rows[DISK_MOST];
-    uint32_t entries[DISK_MOST * DISK_WORDS]; /* the rows' entries, each row from a word on */
-} Rows;
-
-/* A row as the device has it, or as it was changed here; none if there is no room for one more. */
-static void *row_of(FileDisk *disk, Rows *rows, size_t table, size_t row)
-{
-    uint32_t words[DISK_WORDS];
-    const DiskPlace place = keeper_disk_place(disk->sectors.sizes, table);
-    const KeeperTable lent = {"", rows->entries + rows->used, keeper_disk_is_wide(table) ? sizeof(uint32_t) : sizeof(uint16_t), place.width};
-    for (size_t at = 0; at < rows->count; at++)
-        if (rows->rows[at].table == table && rows->rows[at].row == row)
-            return rows->entries + ((const uint32_t *)rows->rows[at].from - rows->entries);
-    if (rows->count == DISK_MOST || place.width > sizeof rows->entries / sizeof *rows->entries - rows->used)
-        return NULL;
-    for (uint32_t sector = 0; sector < place.sectors; sector++)
-        if (keeper_disk_get(&disk->sectors, disk_home(place.begins + (uint32_t)row * place.sectors + sector), words) != 0 || keeper_disk_take(lent, place.width, sector, words) != 0)
-            return NULL;
-    rows->rows[rows->count++] = keeper_row(table, row, lent.at);
-    rows->used += place.width;
-    return lent.at;
-}
-
-static int put_piece(FileDisk *disk, Rows *rows, const FilePiece *piece)
-{
-    const DiskPlace place = keeper_disk_place(disk->sectors.sizes, piece->table);
-    const size_t all = (size_t)place.rows * place.width, width = keeper_disk_is_wide(piece->table) ? sizeof(uint32_t) : sizeof(uint16_t);
-    if (piece->first > all || piece->count > all - piece->first || piece->table >= KEEPER_DISK_COUNT)
-        return -1;
-    for (size_t entry = 0; entry < piece->count; entry++) {
-        const size_t at = piece->first + entry;
-        unsigned char *row = row_of(disk, rows, piece->table, at / place.width);
-        if (!row)
-            return -1;
-        memcpy(row + at % place.width * width, (const unsigned char *)piece->from + entry * width, width);
+    KeeperSave save = keeper_save_begin(slot);
+    for (;;) {
+        KeeperStep step = keeper_save(keeper, &save);
+        *left = save.left;
+        if (step.what == KEEPER_STEP_DONE || step.what == KEEPER_STEP_REFUSED)
+            return step.refusal;
+        if (step.what == KEEPER_STEP_TRANSFER && filedisk_transfer(disk, keeper, step.transfer) != 0)
+            return FILEDISK_DIED;
+        if (step.what == KEEPER_STEP_MAP && filedisk_map(disk, keeper, step.slot) != 0)
+            return FILEDISK_DIED;
     }
-    return 0;
-}
-
-int filedisk_store(FileDisk *disk, const FilePiece *pieces, size_t count)
-{
-    Rows rows;
-    rows.count = rows.used = 0;
-    if (filedisk_sectors(disk)->dead || count > FILEDISK_MOST_PIECES)
-        return -1;
-    for (size_t piece = 0; piece < count; piece++)
-        if (put_piece(disk, &rows, pieces + piece) != 0)
-            return failed(disk, -1);
-    return failed(disk, keeper_disk_store(&disk->sectors, rows.rows, rows.count));
 }

@@ -20,11 +20,9 @@ static int file_read(void *self, uint64_t at, void *to, size_t bytes)
         const ssize_t got = pread(file_of(self), next, bytes, (off_t)at);
         if (got < 0 && errno == EINTR)
             continue;
-        if (got < 0)
+        if (got < 0 || (got == 0 && at >= FILEDISK_BLOCK)) /* a file that ends within its tables is damaged */
             return -1;
-        if (got == 0 && at >= FILEDISK_BLOCK) /* a file that ends within its tables is damaged */
-            return FILEDISK_PAST_END;
-        if (got == 0) { /* one that ends within the first block has none: zeros, which are no header */
+        if (got == 0) { /* one that ends within the header block has none: zeros, which are no header */
             memset(next, 0, bytes);
             return 0;
         }

@@ -1,10 +1,10 @@
 #!/usr/bin/env python3
 """Not proved: writes a pack of an older layout of the file disk, byte by byte, as the programs of that version did: tests/convert.sh has it converted.
 
-    convert.py PATH VERSION JOURNAL    VERSION 1 to 4; JOURNAL none, whole (a store that is not in its places yet) or torn (the same, one byte other)
+    convert.py PATH VERSION JOURNAL    VERSION 1, 2 or 3; JOURNAL none, whole (a store that is not in its places yet) or torn (the same, one byte other)
 
 The sizes are those of examples/weaver.c. Design 101 has pages 0 and 2, design 102 page 5; account 1 is at limit 9, or 4 if the store is not brought
-home; from version 2 on its parent is 0, as it must be; from version 3 on F is 0; version 4 has 150 as the highest number.
+home; from version 2 on its parent is 0, as it must be; version 3 has 0 for F.
 """
 
 import struct
@@ -26,8 +26,7 @@ def tables(version):
         records[4 * record : 4 * record + 4] = range(first, first + 4)
     maps = [4, 0, 1, 0, 0, 0] + [0, 0, 0, 0, 0, 16]
     out = [(4, records), (4, [101, 102]), (2, [0, 1]), (2, maps), (2, [6, 4])]
-    out += [(2, [0, 0])] if version >= 2 else []
-    return out + [(4, [150])] if version >= 4 else out
+    return out + [(2, [0, 0])] if version >= 2 else out
 
 
 def header(version, all_tables):

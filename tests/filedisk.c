@@ -37,18 +37,19 @@ static int opened_with(FileBlocks blocks, KeeperSizes wanted, char *line)
     return answer;
 }
 
-/* One byte of the device is other while the disk is opened; then all before the tables is as it was. */
+/* One byte of the device is other while the disk is opened; then header and journal are as they were. */
 static int opened_with_byte(FileBlocks blocks, uint64_t at, char *line)
 {
-    static unsigned char old[FILEDISK_HEADER + FILEDISK_BLOCK];
+    unsigned char old[FILEDISK_BLOCK + FILEDISK_JOURNAL], other;
     CHECK(blocks.read(blocks.self, 0, old, sizeof old) == 0);
-    const unsigned char other = old[at] ^ 1;
+    other = old[at] ^ 1;
     CHECK(blocks.write(blocks.self, at, &other, 1) == 0);
     const int answer = opened_with(blocks, sizes, line);
     CHECK(blocks.write(blocks.self, 0, old, sizeof old) == 0);
     return answer;
 }
 
+/* A block with a right checksum where it has one: at its end, of all before; or at its start, of so many bytes behind it. */
 static uint32_t sum_of(const unsigned char *bytes, size_t count)
 {
     uint32_t sum = 0xFFFFFFFFu;
@@ -65,12 +66,14 @@ static void put(unsigned char *to, uint64_t value, size_t width)
         to[byte] = (unsigned char)(value >> 8 * byte);
 }
 
-/* A number of a sector. */
-static void put_number(FileBlocks blocks, uint64_t at, uint32_t value)
+/* A header with another number in it, its checksum right, as another program would leave it. */
+static void reseal(FileBlocks blocks, size_t at, uint32_t value)
 {
-    unsigned char bytes[4];
-    put(bytes, value, 4);
-    CHECK(blocks.write(blocks.self, at, bytes, 4) == 0);
+    unsigned char block[FILEDISK_BLOCK];
+    CHECK(blocks.read(blocks.self, 0, block, sizeof block) == 0);
+    put(block + at, value, 4);
+    put(block + sizeof block - 4, sum_of(block, sizeof block - 4), 4);
+    CHECK(blocks.write(blocks.self, 0, block, sizeof block) == 0);
 }
 
 static void test_header(FileBlocks blocks)
@@ -81,60 +84,36 @@ static void test_header(FileBlocks blocks)
     CHECK(opened_with(blocks, roomy, line) == FILEDISK_GOOD); /* F and B are no part of a disk */
     CHECK(opened_with(blocks, alike, line) == FILEDISK_OTHER_SIZES);
     CHECK(strcmp(line, "the disk was formatted with W 16 R 8 S 2 N 4 Q 3, this keeper has W 8 R 16 S 2 N 4 Q 3") == 0);
-    CHECK(opened_with_byte(blocks, FILEDISK_HEADER, line) == FILEDISK_DAMAGED && strstr(line, "another program's"));
-    CHECK(opened_with_byte(blocks, FILEDISK_HEADER + 511, line) == FILEDISK_DAMAGED && strstr(line, "another program's"));
-    CHECK(opened_with_byte(blocks, FILEDISK_HEADER + 12, line) == FILEDISK_OTHER_SIZES && strstr(line, "formatted with W 17 R 8"));
-    CHECK(opened_with_byte(blocks, 0, line) == FILEDISK_DAMAGED && strstr(line, "commit sector"));
-    CHECK(blocks.read(blocks.self, FILEDISK_HEADER, old, sizeof old) == 0 && blocks.write(blocks.self, FILEDISK_HEADER, nothing, sizeof nothing) == 0);
+    CHECK(opened_with_byte(blocks, 0, line) == FILEDISK_DAMAGED && strstr(line, "another program's"));
+    CHECK(opened_with_byte(blocks, 20, line) == FILEDISK_DAMAGED && strstr(line, "checksum"));
+    CHECK(blocks.read(blocks.self, 0, old, sizeof old) == 0 && blocks.write(blocks.self, 0, nothing, sizeof nothing) == 0);
     CHECK(opened_with(blocks, sizes, line) == FILEDISK_NO_DISK);
-    CHECK(opened_with_byte(blocks, 0, line) == FILEDISK_DAMAGED); /* no header, and no commit sector of a format */
-    CHECK(blocks.write(blocks.self, FILEDISK_HEADER, old, sizeof old) == 0);
+    CHECK(blocks.write(blocks.self, 0, old, sizeof old) == 0);
 }
 
-/* A header block of an older version, its checksum right, with these in the places of F and of the first table's width. */
-static void put_older(FileBlocks blocks, uint32_t version, uint32_t frames, uint32_t width)
-{
-    static const uint32_t tables[] = {0, 5, 6, 6, 7, 7}, widths[] = {4, 4, 2, 2, 2, 2, 4}, counts[] = {128, 2, 2, 8, 3, 3, 1};
-    unsigned char block[FILEDISK_BLOCK] = {'K', 'E', 'E', 'P', 'D', 'I', 'S', 'K'};
-    const uint32_t numbers[] = {version, 6, tables[version], 16, 8, frames, 2, 4, 3};
-    for (size_t at = 0; at < sizeof numbers / sizeof *numbers; at++)
-        put(block + 8 + 4 * at, numbers[at], 4);
-    for (size_t table = 0; table < tables[version]; table++) {
-        put(block + 44 + 4 * table, table == 0 ? width : widths[table], 4);
-        put(block + 44 + 4 * (tables[version] + table), counts[table], 4);
-    }
-    put(block + sizeof block - 4, sum_of(block, sizeof block - 4), 4);
-    CHECK(blocks.write(blocks.self, 0, block, sizeof block) == 0);
-}
-
-/* Headers that are whole, and another program's or an older one's. */
+/* Headers that are whole, and another program's. */
 static void test_sealed(FileBlocks blocks)
 {
     unsigned char old[FILEDISK_BLOCK];
     char line[240];
     CHECK(blocks.read(blocks.self, 0, old, sizeof old) == 0);
-    for (uint32_t version = 1; version < FILEDISK_VERSION; version++) { /* without parents; with F; without the highest number; with it */
-        put_older(blocks, version, version < 3 ? 3 : 0, 4);
+    for (uint32_t version = 1; version < FILEDISK_VERSION; version++) { /* without parents; with F; without the highest number */
+        reseal(blocks, 8, version);
         CHECK(opened_with(blocks, sizes, line) == FILEDISK_OTHER_VERSION && line[21] == (char)('0' + version) && strstr(line, "make convert"));
     }
-    put_older(blocks, FILEDISK_VERSION, 0, 4);
-    CHECK(opened_with(blocks, sizes, line) == FILEDISK_OTHER_VERSION && strstr(line, "no program"));
-    KeeperSizes found;
-    FileDisk disk;
-    put_older(blocks, 4, 3, 4); /* F in a version that has none */
-    CHECK(filedisk_sizes(&disk, blocks, &found) == FILEDISK_OTHER_SIZES && strstr(disk.line, "other tables"));
-    put_older(blocks, 4, 0, UINT32_MAX); /* the width of an entry */
-    CHECK(filedisk_sizes(&disk, blocks, &found) == FILEDISK_OTHER_SIZES && strstr(disk.line, "other tables"));
-    put_older(blocks, 4, 0, 4);
-    CHECK(filedisk_sizes(&disk, blocks, &found) == FILEDISK_GOOD && found.records == 8 && disk.version == 4);
-    CHECK(blocks.write(blocks.self, 0, old, sizeof old) == 0 && opened_with(blocks, sizes, line) == FILEDISK_GOOD);
-    put_number(blocks, FILEDISK_HEADER + 8, FILEDISK_VERSION + 1);
+    reseal(blocks, 8, FILEDISK_VERSION + 1);
     CHECK(opened_with(blocks, sizes, line) == FILEDISK_OTHER_VERSION && strstr(line, "a later one"));
-    put_number(blocks, FILEDISK_HEADER + 8, FILEDISK_VERSION);
-    put_number(blocks, FILEDISK_HEADER + 12, 4000000000u); /* sizes that no keeper has */
-    CHECK(opened_with(blocks, sizes, line) == FILEDISK_OTHER_SIZES);
-    put_number(blocks, FILEDISK_HEADER + 12, 16);
+    reseal(blocks, 8, FILEDISK_VERSION);
     CHECK(opened_with(blocks, sizes, line) == FILEDISK_GOOD);
+    reseal(blocks, 20, 4000000000u); /* sizes that no keeper has */
+    CHECK(opened_with(blocks, sizes, line) == FILEDISK_OTHER_SIZES);
+    reseal(blocks, 20, 16);
+    reseal(blocks, 28, 3); /* F */
+    CHECK(opened_with(blocks, sizes, line) == FILEDISK_OTHER_SIZES && strstr(line, "other tables"));
+    reseal(blocks, 28, 0);
+    reseal(blocks, 44, UINT32_MAX); /* the width of an entry */
+    CHECK(opened_with(blocks, sizes, line) == FILEDISK_OTHER_SIZES && strstr(line, "other tables"));
+    CHECK(blocks.write(blocks.self, 0, old, sizeof old) == 0 && opened_with(blocks, sizes, line) == FILEDISK_GOOD);
 }
 
 /* A file is open once; to be read alone, more than once. */
@@ -161,68 +140,65 @@ static uint32_t word_of(FileDisk *disk, Keeper *keeper, uint32_t slot, uint32_t 
     return words ? words[keeper->sizes.words - 1] : UINT32_MAX;
 }
 
-/* The newest store is brought home at the open, and is not if one byte of the commit sector is other. */
+/* The journal's store is brought to its places at the open, if it is whole, and left alone if one byte of it is other. */
 static void test_journal(FileBlocks blocks, FileDisk *disk, Keeper *keeper)
 {
-    unsigned char found[4], zeros[4] = {0};
+    unsigned char entry[FILEDISK_JOURNAL], zeros[64] = {0};
     char line[240];
-    const uint64_t limit = filedisk_place(disk, KEEPER_TABLE_LIMITS, 1);
+    const uint64_t limits = disk->table_at[KEEPER_TABLE_LIMITS];
     CHECK(filedisk_limit(disk, keeper, 1, 3).refusal == KEEPER_DONE && !disk->dead);
-    CHECK(blocks.write(blocks.self, limit, zeros, 4) == 0); /* as if the cut had come before it was home */
-    CHECK(opened_with_byte(blocks, 3, line) == FILEDISK_DAMAGED);
-    CHECK(blocks.read(blocks.self, limit, found, 4) == 0 && found[0] == 0);
+    CHECK(blocks.write(blocks.self, limits, zeros, 4) == 0); /* as if the cut had come before the place was written */
+    CHECK(opened_with_byte(blocks, FILEDISK_BLOCK + 4, line) == FILEDISK_GOOD);
+    CHECK(blocks.read(blocks.self, limits, entry, 4) == 0 && entry[2] == 0);
     CHECK(opened_with(blocks, sizes, line) == FILEDISK_GOOD);
-    CHECK(blocks.read(blocks.self, limit, found, 4) == 0 && found[0] == 3);
+    CHECK(blocks.read(blocks.self, limits, entry, 4) == 0 && entry[2] == 3);
 }
 
-/* A move is one store of the whole limits table: both limits come home, or neither. */
+/* A move is one store of the whole limits table: the journal's brings both limits back, and a broken one neither. */
 static void test_move(FileBlocks blocks, FileDisk *disk, Keeper *keeper)
 {
     const uint64_t limits = disk->table_at[KEEPER_TABLE_LIMITS];
-    unsigned char old[12], new[12], found[12];
+    unsigned char old[6], new[6], found[6];
     char line[240];
-    CHECK(filedisk_limit(disk, keeper, 1, 5).refusal == KEEPER_DONE && blocks.read(blocks.self, limits, old, 12) == 0);
+    CHECK(filedisk_limit(disk, keeper, 1, 5).refusal == KEEPER_DONE && blocks.read(blocks.self, limits, old, 6) == 0);
     CHECK(filedisk_move(disk, keeper, 2, 1, 1).refusal == KEEPER_NO_MOVE && filedisk_move(disk, keeper, 0, 2, 1).refusal == KEEPER_NO_MOVE);
-    CHECK(blocks.read(blocks.self, limits, found, 12) == 0 && memcmp(found, old, 12) == 0);
+    CHECK(blocks.read(blocks.self, limits, found, 6) == 0 && memcmp(found, old, 6) == 0);
     CHECK(filedisk_move(disk, keeper, 1, 2, 3).refusal == KEEPER_DONE && keeper->limits[1] == 2 && keeper->limits[2] == 3);
-    CHECK(blocks.read(blocks.self, limits, new, 12) == 0 && new[4] == 2 && new[8] == 3);
-    CHECK(blocks.write(blocks.self, limits, old, 12) == 0); /* as if the cut had come before it was home */
-    CHECK(opened_with_byte(blocks, 3, line) == FILEDISK_DAMAGED);
-    CHECK(blocks.read(blocks.self, limits, found, 12) == 0 && memcmp(found, old, 12) == 0);
+    CHECK(blocks.read(blocks.self, limits, new, 6) == 0 && new[2] == 2 && new[4] == 3);
+    CHECK(blocks.write(blocks.self, limits, old, 6) == 0); /* as if the cut had come before the place was written */
+    CHECK(opened_with_byte(blocks, FILEDISK_BLOCK + 4, line) == FILEDISK_GOOD);
+    CHECK(blocks.read(blocks.self, limits, found, 6) == 0 && memcmp(found, old, 6) == 0);
     CHECK(opened_with(blocks, sizes, line) == FILEDISK_GOOD);
-    CHECK(blocks.read(blocks.self, limits, found, 12) == 0 && memcmp(found, new, 12) == 0);
+    CHECK(blocks.read(blocks.self, limits, found, 6) == 0 && memcmp(found, new, 6) == 0);
 }
 
-/* A commit sector that names a home sector that is not there, or the header, or too many: it is refused, and the file stays as it is. */
+/* A journal's entry that is whole, but names a place behind the end of all numbers: it is no store. */
 static void test_far_place(FileBlocks blocks, uint64_t end)
 {
-    static unsigned char before[200 * 1024], after[sizeof before];
-    unsigned char old[FILEDISK_BLOCK];
+    unsigned char entry[FILEDISK_BLOCK] = {0}, last;
     char line[240];
-    const uint32_t room = (uint32_t)(end - FILEDISK_HEADER) / FILEDISK_BLOCK, places[] = {room, UINT32_MAX, 0, UINT32_MAX / 2, 1, 1}, counts[] = {1, 1, 1, 1, 126, UINT32_MAX};
-    CHECK(blocks.read(blocks.self, 0, old, sizeof old) == 0 && end <= sizeof before);
+    const uint64_t places[] = {UINT64_MAX - 7, end, 8, UINT64_MAX / 2};
     for (size_t at = 0; at < sizeof places / sizeof *places; at++) {
-        unsigned char commit[FILEDISK_BLOCK] = {0};
-        put(commit, 0x4A524E4C, 4), put(commit + 4, 7, 4), put(commit + 8, counts[at], 4), put(commit + 12, places[at], 4);
-        CHECK(blocks.write(blocks.self, 0, commit, sizeof commit) == 0 && blocks.read(blocks.self, 0, before, (size_t)end) == 0);
-        CHECK(opened_with(blocks, sizes, line) == FILEDISK_DAMAGED && strstr(line, "commit sector"));
-        CHECK(blocks.read(blocks.self, 0, after, (size_t)end) == 0 && memcmp(before, after, (size_t)end) == 0);
-        CHECK(blocks.read(blocks.self, end, after, 1) != 0);
+        put(entry + 4, 0x4A524E4C, 4), put(entry + 12, 1, 4), put(entry + 16, 16, 4), put(entry + 20, 152 + 16, 4);
+        put(entry + 24, places[at], 8), put(entry + 32, 16, 8);
+        put(entry, sum_of(entry + 4, 152 + 16 - 4), 4);
+        CHECK(blocks.write(blocks.self, FILEDISK_BLOCK, entry, sizeof entry) == 0);
+        CHECK(opened_with(blocks, sizes, line) == FILEDISK_GOOD);
+        CHECK(blocks.read(blocks.self, end, &last, 1) != 0);
+        CHECK(blocks.read(blocks.self, FILEDISK_BLOCK, entry, sizeof entry) == 0 && entry[0] == 0 && entry[4] == 0); /* it is gone */
     }
-    CHECK(blocks.write(blocks.self, 0, old, sizeof old) == 0);
 }
 
-/* A file that was cut short, at many lengths, is refused and left as it is, though the newest store would lengthen it. */
+/* A file that was cut short, at any length, is refused and left as it is, though the journal's store would lengthen it. */
 static void test_short(FileBlocks blocks, const char *path, uint64_t end)
 {
     char line[240];
     unsigned lengthened = 0, other = 0;
-    for (uint64_t length = end; length > 0;) {
-        length -= length > FILEDISK_HEADER - 100 || length < 600 ? 1 : 101;
+    for (uint64_t length = end; length-- > 0;) {
         if (truncate(path, (off_t)length) != 0)
             CHECK(0);
         const int answer = opened_with(blocks, sizes, line);
-        other += answer != (length == 0 ? FILEDISK_NO_DISK : length < FILEDISK_HEADER + FILEDISK_BLOCK ? FILEDISK_DAMAGED : FILEDISK_DEVICE) || line[0] == 0;
+        other += answer != (length == 0 ? FILEDISK_NO_DISK : length < FILEDISK_BLOCK ? FILEDISK_DAMAGED : FILEDISK_DEVICE) || line[0] == 0;
         lengthened += filedisk_bytes(&blocks) != length;
     }
     CHECK(other == 0);

@@ -4,8 +4,6 @@
 set -eu
 cd "$(dirname "$0")/.."
 [ -f target/staticlib/libkeeper.a ] || python3 tools/prove.py --lib keeper
-[ -f target/staticlib/libdisk.a ] || python3 tools/prove.py --lib disk
-libraries="target/staticlib/libkeeper.a target/staticlib/libdisk.a"
 strict="-std=c99 -O1 -Wall -Wextra -Werror -pedantic -Iinclude -Iexamples"
 checked="-g -fsanitize=address,undefined -fno-sanitize-recover=all"
 wrapped="-Wl,--wrap=pread,--wrap=pwrite,--wrap=fsync"
@@ -15,7 +13,7 @@ failed=0
 built() {
     name=$1
     shift
-    if gcc $strict "$@" examples/filedisk*.c $libraries -o "target/$name" && "target/$name" "target/$name.disk" >"target/$name.out" 2>&1; then
+    if gcc $strict "$@" examples/filedisk*.c target/staticlib/libkeeper.a -o "target/$name" && "target/$name" "target/$name.disk" >"target/$name.out" 2>&1; then
         passed=$((passed + 1))
         echo "$name: $(tail -n 1 "target/$name.out")"
     else
@@ -42,7 +40,7 @@ int main()
     return filedisk_file(&disk, &blocks, "/no/such/folder/disk", FILEDISK_NEW) == FILEDISK_DEVICE && disk.line[0] != 0 ? 0 : 1;
 }
 END
-    if g++ -std=c++11 -Wall -Wextra -Werror -pedantic -Iinclude -Iexamples target/filedisk.cc target/filedisk*.o $libraries -o target/filedisk-c++ \
+    if g++ -std=c++11 -Wall -Wextra -Werror -pedantic -Iinclude -Iexamples target/filedisk.cc target/filedisk*.o target/staticlib/libkeeper.a -o target/filedisk-c++ \
         && target/filedisk-c++; then
         passed=$((passed + 1))
     else

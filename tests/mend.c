@@ -28,7 +28,8 @@ static int weave(FileDisk *disk, Keeper *keeper, uint32_t slot, uint32_t number,
 static void put(FileDisk *disk, size_t table, size_t entry, uint32_t value)
 {
     const unsigned char bytes[4] = {(unsigned char)value, (unsigned char)(value >> 8), (unsigned char)(value >> 16), (unsigned char)(value >> 24)};
-    if (disk->blocks.write(disk->blocks.self, filedisk_place(disk, table, entry), bytes, sizeof bytes) != 0)
+    const uint64_t at = disk->table_at[table] + disk->width[table] * entry;
+    if (disk->blocks.write(disk->blocks.self, at, bytes, disk->width[table]) != 0)
         exit(failed("a cell cannot be written"));
 }
 

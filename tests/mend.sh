@@ -3,12 +3,10 @@
 set -eu
 cd "$(dirname "$0")/.."
 [ -f target/staticlib/libkeeper.a ] || python3 tools/prove.py --lib keeper
-[ -f target/staticlib/libdisk.a ] || python3 tools/prove.py --lib disk
-libraries="target/staticlib/libkeeper.a target/staticlib/libdisk.a"
 strict="-std=c99 -O1 -Wall -Wextra -Werror -pedantic -Iinclude -Iexamples"
 mkdir -p target/mend
-gcc $strict tools/mend.c examples/filedisk*.c $libraries -o target/mend/mend
-gcc $strict tests/mend.c examples/filedisk*.c $libraries -o target/mend/packs
+gcc $strict tools/mend.c examples/filedisk*.c target/staticlib/libkeeper.a -o target/mend/mend
+gcc $strict tests/mend.c examples/filedisk*.c target/staticlib/libkeeper.a -o target/mend/packs
 folder=$(mktemp -d)
 trap 'rm -rf "$folder"' EXIT
 . tests/same.sh
@@ -35,7 +33,7 @@ same "the list" "$(target/mend/mend "$folder/hurt" "$folder/mended" 2>"$folder/l
 2 102 2 4 the record stands in another entry too, so it is in none"
 same "the line" "$(cat "$folder/line")" "mend: $folder/hurt: 8 changes; the mended pack is $folder/mended"
 same "the old pack" "$(cmp "$folder/hurt" "$folder/before" && echo alike)" "alike"
-highest() { od -An -tu4 -j $(((251 + 17) * 512)) -N 4 "$1" | tr -d ' '; } # home sector 17
+highest() { od -An -tu4 -j 11776 -N 4 "$1" | tr -d ' '; }
 same "the highest number stays" "$(highest "$folder/mended")" "50"
 cp "$folder/mended" "$folder/opened"
 same "the mended pack" "$(target/mend/packs look "$folder/opened")" "design 101 account 1: 10 11 -
@@ -58,7 +56,7 @@ echo "a letter" >"$folder/letter"
 refused "a letter" "$folder/letter" "no disk of the keeper: another program's file, or its header block is damaged"
 : >"$folder/empty"
 refused "an empty file" "$folder/empty" "no disk of the keeper: never formatted, or a cut fell in the format"
-head -c 130000 "$folder/hurt" >"$folder/short"
+head -c 9000 "$folder/hurt" >"$folder/short"
 refused "a short file" "$folder/short" "the device failed: it is shorter than its tables"
 printf 'X' | cat - "$folder/hurt" | head -c 9000 >"$folder/shifted"
 refused "a shifted file" "$folder/shifted" "no disk of the keeper: another program's file, or its header block is damaged"
@@ -71,7 +69,7 @@ same "no folder" "$(target/mend/mend "$folder/hurt" "$folder/none/there" 2>&1 ||
 
 # by make: a name with a blank in it, and no name
 cp "$folder/before" "$folder/with blank"
-made() { make --no-print-directory -s -o target/staticlib/libkeeper.a -o target/staticlib/libdisk.a "$@" 2>&1; }
+made() { make --no-print-directory -s -o target/staticlib/libkeeper.a "$@" 2>&1; }
 same "a blank in the name" "$(made mend PACK="$folder/with blank" | grep changes)" "mend: $folder/with blank: 8 changes; the mended pack is $folder/with blank.mended"
 same "what is made of it" "$(cmp "$folder/mended" "$folder/with blank.mended" && echo alike)" "alike"
 same "no name" "$(made mend | head -n 1)" "make mend PACK=file: which pack is to be mended?"

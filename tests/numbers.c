@@ -56,14 +56,13 @@ static void empty(FileDisk *disk, Keeper *keeper)
     CHECK(filedisk_delete(disk, keeper, 0).refusal == KEEPER_DONE);
 }
 
-/* A create is one store of three sectors, with 7 writes; an import of two pages has 16, 3 for the highest number and for each record, 7 for the slot: each ends
- * the device once. The commit sector is what counts: once it is written, its store lands. */
+/* A create has 5 writes, an import of two pages 10: each ends the device once. The journal's write is what counts: its store lands then. */
 static void test_numbers(FileBlocks blocks, FileDisk *disk, Keeper *keeper, const uint8_t *sheet, size_t bytes)
 {
-    const unsigned most = sheet ? 16 : 7, number = sheet ? 2 : 4, slot = sheet ? 13 : 4;
+    const unsigned most = sheet ? 10 : 5;
     for (unsigned writes = 0; writes <= most; writes++) {
         const int way = cut_at(blocks, disk, keeper, writes, sheet, bytes);
-        CHECK(way == (writes < number ? 0 : writes < slot ? 1 : 2));
+        CHECK(way == (writes == 0 ? 0 : writes < (sheet ? 7 : 3) ? 1 : 2));
         if (way == 2)
             empty(disk, keeper);
     }
@@ -85,13 +84,13 @@ static void test_older(FileBlocks blocks, FileDisk *disk, Keeper *keeper)
         CHECK(keeper_next_number(keeper) == (wanted < INT32_MAX ? wanted + 1 : 0));
         CHECK(filedisk_limit(disk, keeper, 2, 4).refusal == KEEPER_DONE); /* the journal has another store */
     }
-    for (unsigned writes = 0; writes < 9; writes++) { /* the newest store's content, commit sector and header again, its way home; the highest's three */
+    for (unsigned writes = 0; writes < 6; writes++) { /* the header, the journal and its place, the highest's two */
         FileBlocks dying = blocks;
         put_highest(blocks, disk, 0);
         writes_left = writes, whole = blocks, dying.write = takes_some;
         const int answer = filedisk_open(disk, dying, keeper);
-        CHECK(answer == (writes < 7 ? FILEDISK_DEVICE : FILEDISK_GOOD) && disk->dead == (writes < 7) && (writes >= 7 || strstr(disk->line, "device failed")));
-        CHECK(long_at(blocks, at) == (writes < 7 ? 0 : 8));
+        CHECK(answer == (writes < 5 ? FILEDISK_DEVICE : FILEDISK_GOOD) && disk->dead == (writes < 5) && (writes >= 5 || strstr(disk->line, "device failed")));
+        CHECK(long_at(blocks, at) == (writes < 5 ? 0 : 8));
         CHECK(filedisk_open(disk, blocks, keeper) == FILEDISK_GOOD && keeper->highest[0] == 8 && long_at(blocks, at) == 8);
         CHECK(filedisk_limit(disk, keeper, 2, 4).refusal == KEEPER_DONE);
     }

@@ -1,55 +1,49 @@
 #!/usr/bin/env python3
-"""Not proved: what stands in a file disk, by the layout that docs/USING.md tells ("A disk on sectors"), low byte first; written without a look at its code.
+"""Not proved: what stands in a file disk, by the layout that examples/filedisk.h tells, low byte first; written without a look at its code.
 
-    order.py PATH    prints the version, the sizes and all tables, with the newest store in its places, as tests/order.c does
+    order.py PATH    prints the version, the sizes and all tables, with the journal's store in its places, as tests/order.c does
 """
 
 import pathlib
 import struct
 import sys
+import zlib
 
 NAMES = ("records", "numbers", "accounts", "maps", "limits", "parents", "highest")
-SECTOR, AREA, HOME = 512, 125, 251
+BLOCK, JOURNAL = 512, 8192
 
 
-def sectors(data):
-    """The file as sectors of 128 numbers."""
-    assert len(data) % SECTOR == 0
-    return [list(struct.unpack_from("<128I", data, at)) for at in range(0, len(data), SECTOR)]
+def header(data):
+    """Version, sizes, and each table's width and count; the checksum must be right."""
+    magic, version, sizes, tables = struct.unpack_from("<8s3I", data)
+    assert (magic, sizes, tables) == (b"KEEPDISK", 6, len(NAMES)), (magic, sizes, tables)
+    assert struct.unpack_from("<I", data, BLOCK - 4)[0] == zlib.crc32(data[: BLOCK - 4])
+    numbers = struct.unpack_from(f"<{sizes + 2 * tables}I", data, 20)
+    return version, numbers[:sizes], list(zip(numbers[sizes : sizes + tables], numbers[sizes + tables :]))
 
 
-def recovered(all_sectors):
-    """The home sectors, with the store that the commit sector names."""
-    magic, sequence, count, *named = all_sectors[0]
-    assert magic == 0x4A524E4C and count <= AREA and not any(named[count:])
-    home = all_sectors[HOME:]
-    for content, place in enumerate(named[:count]):
-        home[place] = all_sectors[1 + AREA * (sequence % 2) + content]
-    return home
-
-
-def tables(sizes):
-    """Each table's rows and the entries of a row, in their order on the disk."""
-    w, r, s, n, q = sizes
-    return {"records": (r, w), "maps": (s, n), "numbers": (1, s), "accounts": (1, s), "limits": (1, q), "parents": (1, q), "highest": (1, 1)}
+def recovered(data):
+    """The file with the journal's store in its places; the entry must be whole."""
+    data, entry = bytearray(data), data[BLOCK : BLOCK + JOURNAL]
+    total, magic, _, pieces, _, length = struct.unpack_from("<6I", entry)
+    assert magic == 0x4A524E4C and total == zlib.crc32(entry[4:length])
+    start = 24 + 8 * 16
+    for piece in range(pieces):
+        at, count = struct.unpack_from("<2Q", entry, 24 + 16 * piece)
+        data[at : at + count] = entry[start : start + count]
+        start += count
+    return bytes(data)
 
 
 def main(path):
-    home = recovered(sectors(pathlib.Path(path).read_bytes()))
-    magic, version, *sizes = struct.pack("<2I", *home[0][:2]), *home[0][2:8]
-    assert magic == b"KEEPDISK" and not any(home[0][8:])
-    print("version", version, *(f"{letter} {size}" for letter, size in zip("WRSNQ", sizes)))
-    at, found = 1, {}
-    for name, (rows, width) in tables(sizes).items():
-        found[name] = []
-        for _ in range(rows):
-            numbers = [number for sector in home[at : at + -(-width // 128)] for number in sector]
-            assert not any(numbers[width:])
-            found[name] += numbers[:width]
-            at += -(-width // 128)
-    for name in NAMES:
-        print(name, *found[name])
-    assert at == len(home), (at, len(home))
+    data = pathlib.Path(path).read_bytes()
+    version, sizes, tables = header(data)
+    print("version", version, *(f"{letter} {size}" for letter, size in zip("WRFSNQ", sizes) if letter != "F"))
+    data, at = recovered(data), BLOCK + JOURNAL
+    for name, (width, count) in zip(NAMES, tables):
+        print(name, *struct.unpack_from(f"<{count}{'HI'[width == 4]}", data, at))
+        at += -(-width * count // BLOCK) * BLOCK
+    assert at == len(data), (at, len(data))
 
 
 if __name__ == "__main__":

@@ -3,8 +3,6 @@
 set -eu
 cd "$(dirname "$0")/.."
 [ -f target/staticlib/libkeeper.a ] || python3 tools/prove.py --lib keeper
-[ -f target/staticlib/libdisk.a ] || python3 tools/prove.py --lib disk
-libraries="target/staticlib/libkeeper.a target/staticlib/libdisk.a"
 gcc -std=c99 -D_POSIX_C_SOURCE=200809L -O2 -Wall -Wextra -Werror -pedantic -Iinclude -Iexamples -Itests/plug -include tests/plug/count.h \
-    tests/plug/*.c examples/filedisk*.c $libraries -o target/plug
+    tests/plug/*.c examples/filedisk*.c target/staticlib/libkeeper.a -o target/plug
 exec target/plug "${KILLS:-300}" target/plug.disk "${SEED:-1}"

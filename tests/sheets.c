@@ -34,7 +34,7 @@ static int put(FileDisk *disk, size_t table, size_t entry, uint32_t value)
     const FilePiece piece = {table, entry, 1, &value};
     const uint16_t half = (uint16_t)value;
     const FilePiece short_piece = {table, entry, 1, &half};
-    return filedisk_store(disk, !keeper_disk_is_wide(table) ? &short_piece : &piece, 1);
+    return filedisk_store(disk, disk->width[table] == 2 ? &short_piece : &piece, 1);
 }
 
 /* A file, new or there already, and a keeper. */

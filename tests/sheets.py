@@ -185,7 +185,7 @@ class Import(Case):
         self.refused("import", [self.pack, *ask, self.pack], f"{self.pack}: it is no sheet, or is damaged: at byte 0: the sizes, tag 3 and 4 bytes, are to stand first")
         self.refused("import", [self.sheet, *ask, self.sheet], f"{self.sheet}: no disk of the keeper: another program's file, or its header block is damaged")
         short = self.folder / "short"
-        short.write_bytes(self.before[:130000])
+        short.write_bytes(self.before[:9000])
         self.refused("import", [short, *ask, self.sheet], f"{short}: the device failed: it is shorter than its tables", short)
         self.refused("import", [self.pack, *ask, "/dev/zero"], "/dev/zero: it is longer than any sheet: another program's file")
         for words in ([], [self.pack, "x", 2, 7, self.sheet], [self.pack, 1, "", 7, self.sheet], [self.pack, 1, 2, "+7", self.sheet], [self.pack, 1, 2, 7]):
@@ -233,7 +233,7 @@ class Import(Case):
         calls, results, self.skipped = self.folder / "calls", {"old": 0, "new": 0}, 0
         self.run_tool("import-failing", self.pack, 1, 2, 107, self.sheet, CALLS=str(calls))
         counts = dict(line.split() for line in calls.read_text().splitlines())
-        self.assertEqual({call: int(count) for call, count in counts.items() if count != "0"}, {"pwrite": 27, "fsync": 11})
+        self.assertEqual({call: int(count) for call, count in counts.items() if count != "0"}, {"pwrite": 15, "fsync": 12})
         for call in ("pwrite", "fsync"):
             for number in range(1, int(counts[call]) + 1):
                 for how in ("fail", "short", "kill"):
@@ -261,10 +261,10 @@ class Import(Case):
 
     def test_a_store_in_the_journal(self):
         """A pack whose last store is in its journal alone, or half in its place: a refused import and an export leave it so, byte for byte."""
-        for number in range(1, 28):
+        for number in range(1, 16):
             self.pack.write_bytes(self.before)
             self.run_tool("import-failing", self.pack, 1, 2, 107, self.sheet, FAIL=f"pwrite {number} kill")
-            empty = "3" if number >= 24 else "1, 3"  # half of the 24th, the commit sector, has all that it says of the slot's store
+            empty = "3" if number >= 12 else "1, 3"  # half of the block of the twelfth, in the journal, has all of the slot's store
             self.refused("import", [self.pack, 0, 2, 108, self.sheet], f"{self.pack}: slot 0 has design 101: choose an empty one: {empty}")
             kept = self.pack.read_bytes()
             self.assertEqual(self.run_tool("export-checked", self.pack, 2, self.folder / f"new{number}")[0], 0)
@@ -336,7 +336,7 @@ class Show(Case):
 
     def test_by_make(self):
         def make(*words):
-            done = subprocess.run(["make", "--no-print-directory", "-s", "-o", "target/staticlib/libkeeper.a", "-o", "target/staticlib/libdisk.a", *words], cwd=ROOT, capture_output=True, text=True)
+            done = subprocess.run(["make", "--no-print-directory", "-s", "-o", "target/staticlib/libkeeper.a", *words], cwd=ROOT, capture_output=True, text=True)
             return (done.stdout + done.stderr).splitlines()
 
         new, moved = self.folder / "with blank", self.folder / "another pack"

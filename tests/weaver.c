@@ -14,7 +14,7 @@
 
 int weaver_main(int count, char **words); /* examples/weaver.c, compiled with -Dmain=weaver_main */
 
-enum { ROOM = 1 << 18, NO_LIMIT = 0 };
+enum { ROOM = 1 << 16, NO_LIMIT = 0 };
 static const char *path;
 static char said[4096]; /* what the last run printed */
 
@@ -92,10 +92,10 @@ static void test_bits(void)
 {
     unsigned wrong = 0;
     for (unsigned bit = 0; bit < 8 * FILEDISK_BLOCK; bit++) {
-        disk_bytes[FILEDISK_HEADER + bit / 8] ^= (unsigned char)(1u << bit % 8);
+        disk_bytes[bit / 8] ^= (unsigned char)(1u << bit % 8);
         put_file(disk_bytes, disk_count);
         wrong += !refused("show", disk_bytes, disk_count);
-        disk_bytes[FILEDISK_HEADER + bit / 8] ^= (unsigned char)(1u << bit % 8);
+        disk_bytes[bit / 8] ^= (unsigned char)(1u << bit % 8);
     }
     CHECK(wrong == 0);
     put_file(disk_bytes, disk_count);
@@ -105,7 +105,7 @@ static void test_bits(void)
 static void test_lengths(void)
 {
     unsigned wrong = 0;
-    for (size_t length = 0; length < disk_count; length += length < FILEDISK_BLOCK + 2 ? 1 : length < FILEDISK_HEADER - FILEDISK_BLOCK ? 509 : 127) {
+    for (size_t length = 0; length < disk_count; length += length < FILEDISK_BLOCK + 2 ? 1 : 127) {
         put_file(disk_bytes, length);
         wrong += !refused("show", disk_bytes, length) || !refused("weave 0 0 77", disk_bytes, length);
         wrong += length > 0 && !refused("format", disk_bytes, length);
@@ -170,7 +170,7 @@ static void test_words(void)
 static void put_highest(uint32_t value)
 {
     static unsigned char bytes[ROOM];
-    enum { PLACE = FILEDISK_HEADER + (1 + 16 + 2 + 4) * FILEDISK_BLOCK }; /* the header, 16 records, 2 maps, 4 tables are before it */
+    enum { PLACE = FILEDISK_BLOCK + FILEDISK_JOURNAL + KEEPER_TABLE_HIGHEST * FILEDISK_BLOCK }; /* each table before it has a block */
     const size_t count = whole(bytes);
     for (unsigned byte = 0; byte < 4; byte++)
         bytes[PLACE + byte] = (unsigned char)(value >> 8 * byte);
@@ -273,12 +273,12 @@ static void test_side_by_side(void)
 /* ── a full disk ── */
 static void test_full(void)
 {
-    static const rlim_t limits[] = {1, 100, 512, 700, 5000, 64000, 128512, 128600, 129024, 135000}; /* the last: between the records and the maps */
+    static const rlim_t limits[] = {1, 100, 512, 700, 5000, 8704, 9000, 11000}; /* 9,000: within the tables that a weave stores to */
     for (size_t at = 0; at < sizeof limits / sizeof *limits; at++) {
         remove(path);
         CHECK(run_limited(path, "weave 0 0 1", limits[at]) == 1 && strstr(said, "failed in the format"));
         CHECK(run("show") == 1 && said[0] != 0 && run("weave 0 0 1") == 1 && run("format erase") == 0);
-        CHECK(run("weave 0 0 10") == 0 && run_limited(path, "weave 0 0 20", limits[at]) == 1 && said[0] != 0);
+        CHECK(run("weave 0 0 10") == 0 && run_limited(path, "weave 0 0 20", limits[at] < 9000 ? limits[at] : 9000) == 1 && said[0] != 0);
         CHECK(run("show") == 0 && (strstr(said, "page 0: 10 11 12 13\n") || strstr(said, "page 0: 20 21 22 23\n")));
     }
     if (access("/dev/full", W_OK) == 0)
@@ -295,7 +295,7 @@ int main(int count, char **words)
     CHECK(strcmp(said, "design 101 page 0: 30 31 32 33\ndesign 102 page 5: 20 21 22 23\n") == 0);
     CHECK(run("weave 0 0 10") == 0);
     disk_count = whole(disk_bytes);
-    CHECK(disk_count > FILEDISK_HEADER + FILEDISK_BLOCK && disk_count < ROOM);
+    CHECK(disk_count > FILEDISK_BLOCK + FILEDISK_JOURNAL && disk_count < ROOM);
     test_bits();
     test_lengths();
     test_foreign();

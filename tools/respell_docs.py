@@ -37,15 +37,13 @@ def renamed(word, names, now):
 
 
 def turned(span, names, now):
-    """A span with its names turned: a plain word of lower case only after a file of definitions, as Step.carried, since functions have such names."""
+    """A span with its names turned: a plain word of lower case had no other spelling, and functions have such names."""
     if re.search(r"::|\.(rt|rs|py|sh|c|h|txt|md|antt|edit|out|in|svg)(?![\w-])", span) or span.startswith(("make ", "python3 ", "rt ", "git ")):
         return span
 
     def one(match):
         word = match.group()
-        if not re.search("[-A-Z]", word) and not re.search(r"[A-Z]\w*\.$", span[: match.start()]):
-            return word
-        return renamed(word, names, now)
+        return renamed(word, names, now) if re.search("[-A-Z]", word) else word
 
     return TOKEN.sub(one, span.replace("′", "'"))
 

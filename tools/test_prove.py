@@ -151,6 +151,7 @@ class Break(Tools):
             self.assertIn(text, said)
         self.assertEqual(said.count("No edge fails."), 2)
         self.assertEqual(self.asked(), ["high: rt check"])
+        self.assertEqual(list((self.root / "target" / "mutants").glob("*")), [])
         self.assertEqual((self.root / "crates/high/specs/A.antt").read_text(), "one\n")
 
     def test_accepted(self):

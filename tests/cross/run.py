@@ -5,8 +5,8 @@
     run.py TARGET..    these
     run.py --gate      x86-64 by the way of the other processors, and aarch64 if it can be tried here, with short lists
 
-For each: the examples, tests/easy.c, the vectors, a digest of random calls and the stack that each call takes (docs/USING.md has the most that it may
-be); where there is a libdisk.a for it, tests/filedisk.c, and a disk file that all of them write in turn. Programs for x86-64 run with sanitizers.
+For each: the examples, tests/easy.c, tests/filedisk.c, the vectors, a digest of random calls and the stack that each call takes (docs/USING.md has the
+most that it may be); then a disk file that all of them write in turn. Programs for x86-64 run with sanitizers.
 """
 
 import functools
@@ -34,9 +34,6 @@ SOURCES = {
     "digest": ["tests/cross/digest.c"],
     "stack": ["tests/cross/stack.c"],
 }
-# make cross builds no libdisk.a: the file disk is tried where the kit's own one runs
-DISK_LIBRARY = ROOT / "target" / "staticlib" / "libdisk.a"
-ON_DISK = ("filedisk", "weaver")
 STRICT = "-std=c11 -O1 -Wall -Wextra -Werror -pedantic -Iinclude -Iexamples -Itests".split()
 SANITIZED = ["-fsanitize=address,undefined", "-fno-sanitize-recover=all"]
 KIT = "the kit's library"
@@ -69,11 +66,6 @@ BOARDS = {
 counts = {True: 0, False: 0}
 
 
-def has_disk(board):
-    """Whether there is a libdisk.a for a board."""
-    return not BOARDS[board].runner
-
-
 def counted(what, holds, said=""):
     """A check, counted; what was said is shown if it fails."""
     counts[bool(holds)] += 1
@@ -97,8 +89,7 @@ def built(board, name):
     folder = ROOT / "target" / "cross" / "tests" / ("kit" if board == KIT else board)
     folder.mkdir(parents=True, exist_ok=True)
     checks = ["-static"] if name == "stack" else [] if BOARDS[board].runner else SANITIZED
-    libraries = [library(board), DISK_LIBRARY] if name in ON_DISK else [library(board)]
-    words = [*BOARDS[board].compiler, *STRICT, *checks, *SOURCES[name], *libraries, "-o", folder / name]
+    words = [*BOARDS[board].compiler, *STRICT, *checks, *SOURCES[name], library(board), "-o", folder / name]
     subprocess.run([str(word) for word in words], cwd=ROOT, check=True)
     return folder / name
 
@@ -167,10 +158,7 @@ def tried(board, is_short):
         return counted(f"{board}: the archive", False, str(said))
     examples(board)
     alike(board, "easy")
-    if has_disk(board):
-        alike(board, "filedisk", f"target/cross/tests/{board}.disk")
-    else:
-        print(f"{board}: the file disk is not tried, there is no libdisk.a for it")
+    alike(board, "filedisk", f"target/cross/tests/{board}.disk")
     vectors(board)
     alike(board, "digest", SHORT if is_short else CALLS)
     if not is_short and any(target == board for _, target in stack_table()):
@@ -225,7 +213,7 @@ def main(words):
             print(f"{board}: skipped, without {' and '.join(dict.fromkeys(missing(board)))} (Debian: {BOARDS[board].packages})")
     if not is_short:
         stack(KIT)
-    in_turn([board for board in here if has_disk(board)])
+    in_turn(here)
     print(f"{counts[True]} passed, {counts[False]} failed")
     return counts[False] != 0
 

@@ -14,6 +14,7 @@ static const KeeperSizes choices[] = {
     {.words = 40, .records = 20, .frames = 5, .slots = 3, .pages = 8, .accounts = 2, .chip = 1},
     {.words = 256, .records = 30, .frames = 6, .slots = 4, .pages = 10, .accounts = 4, .chip = 9},
 };
+static const size_t grains[] = {4, 64, 512};
 enum { KILLS_A_DISK = 25 };
 
 static uint64_t seed = 1;
@@ -85,7 +86,7 @@ static void tell_books(void *to, const Note *note)
 static unsigned operations(int reset)
 {
     const uint32_t soon = plug_random(&seed, 4);
-    return 1 + plug_random(&seed, reset && soon < 2 ? 5 : soon == 0 ? 40 : 900);
+    return 1 + plug_random(&seed, reset && soon < 2 ? 5 : soon == 0 ? 40 : 600);
 }
 
 static void simulated_disk(int wrong, unsigned kills)
@@ -95,7 +96,7 @@ static void simulated_disk(int wrong, unsigned kills)
     int reset = 0;
     for (unsigned kill = 0; kill < kills; kill++) {
         Without without;
-        const FileBlocks blocks = simulated_on(device, seed, operations(reset), FILEDISK_BLOCK);
+        const FileBlocks blocks = simulated_on(device, seed, operations(reset), grains[plug_random(&seed, 3)]);
         Weaver weaver = weaver_on(&bench, without_on(&without, blocks, wrong), tell_books, bench.books);
         weaver_run(&weaver);
         reset = plug_random(&seed, reset ? 4 : 2) == 0;
@@ -176,14 +177,15 @@ static void killed_disk(int wrong, unsigned kills, const char *path)
     for (unsigned count = 0; count < kills; count++) {
         int ends[2];
         const int by_clock = plug_random(&seed, 3) == 0;
-        const unsigned countdown = by_clock ? UINT32_MAX : 1 + plug_random(&seed, plug_random(&seed, 4) == 0 ? 40 : 600);
+        const unsigned countdown = by_clock ? UINT32_MAX : 1 + plug_random(&seed, plug_random(&seed, 4) == 0 ? 20 : 100);
         const double until = seconds() + (by_clock ? 0.0005 * plug_random(&seed, 60) : 20);
+        const size_t grain = grains[plug_random(&seed, 3)];
         if (pipe(ends) != 0)
             exit(2);
         const pid_t process = fork();
         if (process == 0) {
             close(ends[0]);
-            child(&bench, path, ends[1], countdown, FILEDISK_BLOCK);
+            child(&bench, path, ends[1], countdown, grain);
         }
         close(ends[1]);
         listen_to(bench.books, ends[0], process, until);
@@ -219,7 +221,7 @@ static unsigned long caught(int wrong, int simulated, const char *path)
     totals.quiet = 1;
     while (totals.broken == 0 && totals.kills < (simulated ? 20000 : 2000)) {
         if (simulated)
-            simulated_disk(wrong, wrong == WRONG_OPEN_SYNC ? KILLS_A_DISK : 5);
+            simulated_disk(wrong, wrong == WRONG_HOME_FIRST ? KILLS_A_DISK : 5);
         else
             killed_disk(wrong, 5, path);
     }
@@ -275,7 +277,7 @@ int main(int count, char **words)
     setvbuf(stdout, NULL, _IOLBF, 0);
     for (int simulated = 0; simulated < 2; simulated++)
         right_driver(simulated, (kills + 1) / 2, words[2]);
-    for (int wrong = 1; wrong <= WRONG_OPEN_SYNC; wrong++) { /* those behind it are for tests/resets */
+    for (int wrong = 1; wrong <= WRONG_HOME_FIRST; wrong++) { /* those behind it are for tests/resets */
         /* a killed process loses nothing that it wrote; and of the highest number it takes a thousand kills now and then */
         if (wrong < WRONG_NO_HIGHEST && wrong != WRONG_NO_SYNC)
             wrong_driver(wrong, names[wrong], 0, words[2]);

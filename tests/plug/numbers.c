@@ -1,5 +1,6 @@
 /* Not proved: the weaver's numbers. It takes the next one that the keeper gives, as firmware does, or a new one by the books; and an older board,
  * which does not store the highest, has the pack now and then. */
+#include "filedisk_inside.h"
 #include "weaver.h"
 
 uint32_t new_number(Run *run)
@@ -12,13 +13,13 @@ uint32_t new_number(Run *run)
     return number;
 }
 
-static uint32_t highest_at(const Run *run)
+static uint64_t highest_at(const Run *run)
 {
-    return keeper_disk_place(run->own->keeper->sizes, KEEPER_TABLE_HIGHEST).begins;
+    return run->disk.table_at[KEEPER_TABLE_HIGHEST];
 }
 
 /* The first store of a create or an import is that of the highest number: 1 if this is it. */
-int is_highest(Run *run, uint32_t place)
+int is_highest(Run *run, uint64_t place)
 {
     const int first = run->numbering && run->highest_stores == 0;
     if (first && place != highest_at(run) && run->own->wrong == WRONG_NONE)
@@ -30,9 +31,10 @@ int is_highest(Run *run, uint32_t place)
 /* What a driver leaves out that does not bring restart's store to the device. */
 int is_left_out(const Run *run, uint64_t at, const unsigned char *bytes)
 {
-    if (run->own->wrong != WRONG_HIGHEST_STAYS || !run->opening)
+    enum { PLACE = 24 }; /* of a journal's entry: the place of its first piece */
+    if (run->own->wrong != WRONG_HIGHEST_STAYS || !run->opening || highest_at(run) == 0)
         return 0;
-    return at == FILEDISK_HEADER + (uint64_t)highest_at(run) * FILEDISK_BLOCK || (at == 0 && number_in(bytes, KEEPER_DISK_NAMED) == highest_at(run));
+    return at == highest_at(run) || (at == FILEDISK_BLOCK && filedisk_get(bytes + PLACE, 8) == highest_at(run));
 }
 
 /* The slot alone: so an older board stores a create, and a driver that leaves the highest out. */

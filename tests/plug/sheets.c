@@ -1,4 +1,5 @@
 /* Not proved: the weaver's design sheets. It exports designs at rest, imports what it exported or sheets of its own making, and tells of every page. */
+#include "filedisk_inside.h"
 #include "weaver.h"
 
 enum { MOST_SHEET = KEEPER_SHEET_BYTES(PLUG_MOST_PAGES, PLUG_MOST_WORDS) };
@@ -13,7 +14,7 @@ typedef struct {
 /* ── the stores, watched ── */
 
 /* Where the next record's store of an import is to go, pages rising: to the record that the slot's map names after so many others. */
-static uint32_t next_record(const Run *run)
+static uint64_t next_record(const Run *run)
 {
     const Keeper *keeper = run->own->keeper;
     const uint16_t *map = keeper->maps + run->slot * keeper->sizes.pages;
@@ -21,23 +22,23 @@ static uint32_t next_record(const Run *run)
     for (uint32_t left = run->record_stores; page < keeper->sizes.pages; page++)
         if (map[page] != 0 && left-- == 0)
             break;
-    const DiskPlace records = keeper_disk_place(keeper->sizes, KEEPER_TABLE_RECORDS);
-    return page == keeper->sizes.pages ? 0 : records.begins + (map[page] - 1u) * records.sectors;
+    return page == keeper->sizes.pages ? 0 : run->disk.table_at[KEEPER_TABLE_RECORDS] + 4 * (map[page] - 1u) * keeper->sizes.words;
 }
 
-/* A store lands by the write of its commit sector, not before. One that begins with the numbers is the slot's: it is told before that. The others are of the
- * highest number, first, and of records, in order. */
+/* A write to the journal's start is a store. One with several places is the slot's: it is told before it begins. The others are of the highest number,
+ * first, and of records, in order. */
 static int watched_write(void *self, uint64_t at, const void *from, size_t bytes)
 {
+    enum { PIECES = 12, PLACE = 24 }; /* where an entry of the journal has their number, and the place of the first */
     Run *run = self;
-    const uint32_t home = at == 0 ? number_in(from, KEEPER_DISK_NAMED) : 0;
-    const int store = run->numbering && at == 0, highest = store && is_highest(run, home);
-    if (is_left_out(run, at, from))
+    const unsigned char *entry = from;
+    const int store = run->numbering && at == FILEDISK_BLOCK, highest = store && is_highest(run, filedisk_get(entry + PLACE, 8));
+    if (is_left_out(run, at, entry))
         return 0;
-    if (run->importing && store && home == keeper_disk_place(run->own->keeper->sizes, KEEPER_TABLE_NUMBERS).begins) {
+    if (run->importing && store && filedisk_get(entry + PIECES, 4) > 1) {
         tell(run, NOTE_SLOT, run->slot, run->number, run->account);
     } else if (run->importing && store && !highest) {
-        if (home != next_record(run) && run->own->wrong == WRONG_NONE)
+        if (filedisk_get(entry + PLACE, 8) != next_record(run) && run->own->wrong == WRONG_NONE)
             tell(run, NOTE_REFUSED, run->slot, run->record_stores, 0);
         run->record_stores++;
     }

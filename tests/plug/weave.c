@@ -72,22 +72,6 @@ static void tell_changes(Run *run)
 }
 
 /* ── transfers and maps, right and wrong ── */
-
-/* All writes that are open are one store. */
-static void write_all(Run *run)
-{
-    Keeper *keeper = run->own->keeper;
-    KeeperTransfer open[KEEPER_MOST_FRAMES];
-    size_t count = 0;
-    for (KeeperTransfer t = keeper_next_transfer(keeper, 0); t.way; t = keeper_next_transfer(keeper, t.frame + 1))
-        if (t.way == KEEPER_WRITING)
-            open[count++] = t;
-    if (filedisk_writes(&run->disk, keeper) != 0)
-        return;
-    for (size_t at = 0; at < count; at++)
-        tell(run, NOTE_WRITE_END, open[at].slot, open[at].page, 1);
-}
-
 static void transfer(Run *run, KeeperTransfer t)
 {
     Keeper *keeper = run->own->keeper;
@@ -97,8 +81,6 @@ static void transfer(Run *run, KeeperTransfer t)
         keeper_page_done(keeper, t.frame, 1);
         tell(run, NOTE_WRITE_END, t.slot, t.page, 1);
         filedisk_store(&run->disk, &piece, 1);
-    } else if (t.way == KEEPER_WRITING && chance(run, 2) == 0) {
-        write_all(run);
     } else if (filedisk_transfer(&run->disk, keeper, t) == 0 && t.way == KEEPER_WRITING) {
         tell(run, NOTE_WRITE_END, t.slot, t.page, 1);
     }
@@ -376,7 +358,7 @@ static int opens(Run *run)
     run->opening = 1;
     int answer = filedisk_open(&run->disk, own->blocks, own->keeper);
     run->opening = 0;
-    if (answer == FILEDISK_NO_DISK && !own->formatted) {
+    if ((answer == FILEDISK_NO_DISK || answer == FILEDISK_DAMAGED) && !own->formatted) { /* a cut in a format can leave half a header */
         uint16_t parents[KEEPER_MOST_ACCOUNTS];
         for (size_t account = 0; account < KEEPER_MOST_ACCOUNTS; account++)
             parents[account] = plug_parent(account);

@@ -10,7 +10,7 @@ typedef struct {
     FileDisk disk;
     KeeperFrame frames[KEEPER_MOST_FRAMES];
     uint8_t updating[PLUG_MOST_SLOTS];
-    FileBlocks device;     /* the device itself, under the one that watches the commit sector */
+    FileBlocks device;     /* the device itself, under the one that watches the journal */
     int opening;           /* an open is under way */
     int importing;         /* the stores of an import are under way: */
     uint32_t slot, number, account;
@@ -30,15 +30,9 @@ void must_be_done(Run *run, KeeperAnswer answer, uint32_t a, uint32_t b);
 /* A number for a design: the next one, or one above all that were told. */
 uint32_t new_number(Run *run);
 
-/* A number of a sector, by the word that it is. */
-static inline uint32_t number_in(const unsigned char *sector, size_t word)
-{
-    return sector[4 * word] | (uint32_t)sector[4 * word + 1] << 8 | (uint32_t)sector[4 * word + 2] << 16 | (uint32_t)sector[4 * word + 3] << 24;
-}
-
-/* Whether a store's first home sector is that of the highest number; it must be, for the first store of a create or an import. And whether a wrong driver
+/* Whether a store's first place is that of the highest number; it must be, for the first store of a create or an import. And whether a wrong driver
  * leaves these bytes out. */
-int is_highest(Run *run, uint32_t home);
+int is_highest(Run *run, uint64_t place);
 int is_left_out(const Run *run, uint64_t at, const unsigned char *bytes);
 
 /* A create without the store of the highest number; and an older board, which makes one: whether that design is to go once the pack is back. */

@@ -2,56 +2,49 @@
  * wrong order. */
 #include "without.h"
 
-/* The byte from which on the second area is. */
-enum { SECOND_AREA = (1 + DISK_MOST) * FILEDISK_BLOCK };
-
-static int in_area(uint64_t at)
+static int in_journal(uint64_t at)
 {
-    return at >= FILEDISK_BLOCK && at < FILEDISK_HEADER;
+    return at >= FILEDISK_BLOCK && at < FILEDISK_BLOCK + FILEDISK_JOURNAL;
 }
 
-/* Of a wrong driver that has one area. */
-static uint64_t place_of(const Without *device, uint64_t at)
-{
-    return device->wrong == WRONG_ONE_AREA && at >= SECOND_AREA && at < FILEDISK_HEADER ? at - SECOND_AREA + FILEDISK_BLOCK : at;
-}
-
-/* A commit sector that names something: an empty one is a format's. */
-static int is_commit(uint64_t at, const unsigned char *bytes)
-{
-    static const unsigned char nothing[4];
-    return at == 0 && memcmp(bytes + 8, nothing, sizeof nothing) != 0;
-}
-
-/* A single byte, the device's last, is read by an open alone, whose next writes are those of what is there already, up to its sync. */
+/* The header and the journal are read by an open alone, whose next writes to them are those that make them safe, or empty the journal. */
 static int read_of(void *self, uint64_t at, void *to, size_t bytes)
 {
     Without *device = self;
-    device->opening = bytes == 1 || device->opening;
-    return device->inner.read(device->inner.self, place_of(device, at), to, bytes);
+    device->heading = at == 0 || device->heading;
+    device->opening = in_journal(at);
+    return device->inner.read(device->inner.self, at, to, bytes);
 }
 
 static int write_of(void *self, uint64_t at, const void *from, size_t bytes)
 {
+    static const unsigned char nothing[8];
     Without *device = self;
-    device->contents = device->contents || (in_area(at) && !device->opening);
-    if (device->opening && at == FILEDISK_HEADER && device->wrong == WRONG_HEADER_STAYS)
+    const int opening = device->opening && in_journal(at), empties = bytes >= sizeof nothing && memcmp(from, nothing, sizeof nothing) == 0;
+    const int heading = device->heading && at == 0 && !empties;
+    if (in_journal(at))
+        device->opening = 0;
+    if (at == 0)
+        device->heading = 0;
+    if (heading && device->wrong == WRONG_HEADER_STAYS)
         return 0;
-    if (device->opening && (at == 0 || in_area(at)) && device->wrong == WRONG_SYNC_ALONE)
+    if (device->wrong == WRONG_NO_JOURNAL && in_journal(at))
         return 0;
-    if (device->wrong == WRONG_NO_JOURNAL && (is_commit(at, from) || in_area(at)))
+    if (opening && device->wrong == (empties ? WRONG_TORN_STAYS : WRONG_HOME_FIRST)) {
+        device->skip = 1;
         return 0;
-    return device->inner.write(device->inner.self, place_of(device, at), from, bytes);
+    }
+    if (opening && device->wrong == WRONG_SYNC_ALONE && !empties)
+        return 0;
+    return device->inner.write(device->inner.self, at, from, bytes);
 }
 
 static int sync_of(void *self)
 {
     Without *device = self;
-    const int opening = device->opening, contents = device->contents;
-    device->opening = device->contents = 0;
-    if (device->wrong == WRONG_NO_SYNC || (opening && device->wrong == WRONG_OPEN_SYNC) || (contents && device->wrong == WRONG_NO_FIRST_SYNC))
-        return 0;
-    return device->inner.sync(device->inner.self);
+    const int skip = device->skip || device->wrong == WRONG_NO_SYNC;
+    device->skip = 0;
+    return skip ? 0 : device->inner.sync(device->inner.self);
 }
 
 FileBlocks without_on(Without *device, FileBlocks inner, int wrong)

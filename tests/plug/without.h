@@ -16,18 +16,17 @@ enum {
     WRONG_SLOT_IN_TWO = 8, /* .. or its number and account before its map */
     WRONG_NO_HIGHEST = 9,  /* the store of the highest number is left out of a create */
     WRONG_HIGHEST_STAYS = 10, /* .. or of an open */
-    WRONG_OPEN_SYNC = 11,  /* open brings the newest store home before it is safe in the journal */
-    WRONG_SYNC_ALONE = 12, /* .. or syncs, and does not write the commit sector and its contents again */
-    WRONG_ONE_AREA = 13,   /* every store's contents go to the same area */
+    WRONG_HOME_FIRST = 11, /* open brings the journal's store to its places before it is safe in the journal */
+    WRONG_SYNC_ALONE = 12, /* .. or syncs the journal, and does not write it again */
+    WRONG_TORN_STAYS = 13, /* open leaves a journal that is not whole as it is */
     WRONG_HEADER_STAYS = 14, /* open does not write the header again */
-    WRONG_NO_FIRST_SYNC = 15, /* a store's commit sector is written before its contents are safe */
-    WRONG_COUNT = 16
+    WRONG_COUNT = 15
 };
 
 /* A device that passes over what a driver leaves out that has no journal, no sync, or an open that is wrong. */
 typedef struct {
     FileBlocks inner;
-    int wrong, opening, contents;
+    int wrong, heading, opening, skip;
 } Without;
 FileBlocks without_on(Without *device, FileBlocks inner, int wrong);
 

@@ -1,19 +1,24 @@
-/* Not proved: the device of the test of resets. What was not synced lands at a cut in any mix, sector by sector; at a reset it stays in the cache. */
+/* Not proved: the device of the test of resets. What was not synced lands at a cut in any mix, grain by grain; at a reset it stays in the cache. */
 #include <stdlib.h>
 #include "resets.h"
 
-Device *device_new(size_t bytes, unsigned (*choose)(unsigned))
+Device *device_new(size_t bytes, size_t grain, unsigned (*choose)(unsigned))
 {
     Device *device = calloc(1, sizeof *device);
     device->bytes = bytes;
+    device->grain = grain;
     device->safe = calloc(1, bytes);
     device->seen = calloc(1, bytes);
     device->choose = choose;
+    for (size_t at = 0; at < MOST_PENDING; at++)
+        device->after[at] = malloc(bytes);
     return device;
 }
 
 void device_free(Device *device)
 {
+    for (size_t at = 0; at < MOST_PENDING; at++)
+        free(device->after[at]);
     free(device->safe);
     free(device->seen);
     free(device);
@@ -26,50 +31,51 @@ void device_load(Device *device, const unsigned char *safe)
     device->count = 0;
 }
 
-/* One sector of what is pending: it is as it was, or as after one of the writes to it. */
-static void land_sector(Device *device, size_t first)
+/* One grain of what is pending: it is as it was, or as after one of the writes that change it. */
+static void land_grain(Device *device, uint64_t grain)
 {
-    const unsigned char *ways[MOST_PENDING + 1] = {device->safe + device->at[first]};
+    const uint64_t at = grain * device->grain, end = at + device->grain < device->bytes ? at + device->grain : device->bytes;
+    const unsigned char *ways[MOST_PENDING + 1] = {device->safe + at};
     unsigned count = 1;
-    for (size_t write = first; write < device->count; write++)
-        if (device->at[write] == device->at[first] && memcmp(ways[count - 1], device->after[write], FILEDISK_BLOCK) != 0)
-            ways[count++] = device->after[write];
+    for (size_t write = 0; write < device->count; write++)
+        if (device->at[write] < end && at < device->end[write] && memcmp(ways[count - 1], device->after[write] + at, (size_t)(end - at)) != 0)
+            ways[count++] = device->after[write] + at;
     const unsigned pick = count > 1 ? device->choose(count) : 0;
     if (pick > 0)
-        memcpy(device->safe + device->at[first], ways[pick], FILEDISK_BLOCK);
-}
-
-static int is_first(const Device *device, size_t write)
-{
-    size_t before = 0;
-    while (before < write && device->at[before] != device->at[write])
-        before++;
-    return before == write;
+        memcpy(device->safe + at, ways[pick], (size_t)(end - at));
 }
 
 /* Any mix of what is pending lands; nothing is pending then. */
 static void land(Device *device)
 {
-    for (size_t write = 0; write < device->count; write++)
-        if (is_first(device, write))
-            land_sector(device, write);
+    uint64_t low = device->bytes, high = 0;
+    for (size_t write = 0; write < device->count; write++) {
+        low = device->at[write] < low ? device->at[write] : low;
+        high = device->end[write] > high ? device->end[write] : high;
+    }
+    for (uint64_t grain = low / device->grain; grain * device->grain < high; grain++)
+        land_grain(device, grain);
     device->count = 0;
 }
 
-/* A write to a sector is in the cache. */
-static void pend(Device *device, uint64_t at)
+/* A write to these bytes is in the cache. */
+static void pend(Device *device, uint64_t at, size_t bytes)
 {
     if (device->count == MOST_PENDING)
         abort(); /* more writes without a sync than the driver makes */
-    memcpy(device->after[device->count], device->seen + at, FILEDISK_BLOCK);
-    device->at[device->count++] = at;
+    memcpy(device->after[device->count], device->seen, device->bytes);
+    device->at[device->count] = at;
+    device->end[device->count++] = at + bytes;
 }
 
-/* What is pending is safe. */
+/* What is pending is safe, whole grains of it. */
 static void make_safe(Device *device)
 {
-    for (size_t write = 0; write < device->count; write++)
-        memcpy(device->safe + device->at[write], device->seen + device->at[write], FILEDISK_BLOCK);
+    for (size_t write = 0; write < device->count; write++) {
+        const uint64_t at = device->at[write] / device->grain * device->grain;
+        const uint64_t next = (device->end[write] + device->grain - 1) / device->grain * device->grain, end = next < device->bytes ? next : device->bytes;
+        memcpy(device->safe + at, device->seen + at, (size_t)(end - at));
+    }
     device->count = 0;
 }
 
@@ -93,15 +99,20 @@ static int device_read(void *self, uint64_t at, void *to, size_t bytes)
     return 0;
 }
 
-/* At a reset the write has reached the cache or not; at a cut it is for the landing to choose. */
+/* At a reset some grains of the write have reached the cache; at a cut it is for the landing to choose. */
 static int device_write(void *self, uint64_t at, const void *from, size_t bytes)
 {
     Device *device = self;
-    if (device->ended || at > device->bytes || bytes > device->bytes - at || at % FILEDISK_BLOCK != 0 || bytes != FILEDISK_BLOCK)
+    if (device->ended || at > device->bytes || bytes > device->bytes - at)
         return -1;
-    if (!ends(device) || device->kind != RESET || device->choose(2))
-        memcpy(device->seen + at, from, bytes);
-    pend(device, at);
+    const int in_part = ends(device) && device->kind == RESET;
+    for (uint64_t piece = at, end; piece < at + bytes; piece = end) {
+        end = (piece / device->grain + 1) * device->grain;
+        end = end < at + bytes ? end : at + bytes;
+        if (!in_part || device->choose(2))
+            memcpy(device->seen + piece, (const unsigned char *)from + (piece - at), (size_t)(end - piece));
+    }
+    pend(device, at, bytes);
     return device->ended ? -1 : 0;
 }
 

@@ -5,10 +5,9 @@
 
 enum { OTHER = 3, OTHER_PAGES = 1, NEW = 5, NEW_PAGES = 2, NEW_SLOT = 1, ACCOUNT = 1, MOST_WORDS = 256 };
 
-/* The operations of an import: a store of one sector for the highest number, of two for each record, of three for the slot, each with its contents, a sync,
- * the commit sector, a sync and its way home; and one more, so that the end comes at rest. An open writes three contents, the commit sector and the header
- * again, syncs, and writes three sectors home. */
-enum { IMPORT_OPERATIONS = 5 + NEW_PAGES * 7 + 9 + 1, OPEN_OPERATIONS = 9 };
+/* The most operations of an import: for the highest number and each record a write and a sync of the journal and of its place, for the slot the same
+ * with three places; and one more, so that the end comes at rest. An open writes the header, the journal and three places, and syncs twice. */
+enum { IMPORT_OPERATIONS = (1 + NEW_PAGES) * 4 + 6 + 1, OPEN_OPERATIONS = 7 };
 
 /* No two words of two designs are alike. */
 static uint32_t word_of(uint32_t number, size_t page, size_t word)
@@ -88,7 +87,7 @@ static int import_path(Board *board, int record, unsigned ends)
 Found paths_of_import(int wrong, unsigned ends)
 {
     Board board;
-    board_new(&board, WRONG_NONE, path_choose);
+    board_new(&board, WRONG_NONE, FILEDISK_BLOCK, path_choose);
     if (board_open(&board, 0) != FILEDISK_GOOD || filedisk_limit(&board.disk, &board.keeper, 0, OTHER_PAGES + NEW_PAGES).refusal != KEEPER_DONE
         || import(&board, 0, OTHER, OTHER_PAGES).refusal != KEEPER_DONE || import_found(&board) != 0)
         abort();

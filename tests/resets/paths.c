@@ -32,12 +32,12 @@ static int next_path(void)
 enum { WORDS = 256, BEHIND = 7 };
 static const KeeperSizes sizes = {.words = WORDS, .records = 3, .frames = 2, .slots = 2, .pages = 2, .accounts = 2, .chip = 2};
 
-void board_new(Board *board, int wrong, unsigned (*chooses)(unsigned))
+void board_new(Board *board, int wrong, size_t grain, unsigned (*chooses)(unsigned))
 {
     const size_t bytes = keeper_workspace(sizes);
     memset(board, 0, sizeof *board);
     keeper_place(&board->keeper, sizes, malloc(bytes), bytes);
-    board->device = device_new((size_t)keeper_disk_sectors(sizes) * FILEDISK_BLOCK, chooses);
+    board->device = device_new(FILEDISK_BLOCK + FILEDISK_JOURNAL + 12 * FILEDISK_BLOCK, grain, chooses);
     board->wrong = wrong;
     if (filedisk_format(&board->disk, device_on(board->device, 0), &board->keeper, NULL) != FILEDISK_GOOD || board->disk.end != board->device->bytes)
         abort();
@@ -56,7 +56,7 @@ int board_open(Board *board, unsigned countdown)
 
 /* ── the stores ── */
 
-/* A record of 1,024 bytes, two sectors: the first word, and the same words behind it each time. */
+/* A record of 1,024 bytes, three sectors of the journal: the first word, and the same words behind it each time. */
 static int store_record(Board *board, uint32_t first)
 {
     uint32_t words[WORDS];
@@ -66,7 +66,7 @@ static int store_record(Board *board, uint32_t first)
     return filedisk_store(&board->disk, &piece, 1);
 }
 
-/* A slot: its number and its account, two sectors. */
+/* A slot: its number and its account, in two sectors. */
 static int store_slot(Board *board)
 {
     const uint32_t number = 5;
@@ -93,10 +93,10 @@ static int slot_found(const Board *board)
 
 /* ── one store ── */
 
-/* The operations of a store of two sectors: two writes, a sync, the commit sector, a sync, two writes. An open writes the newest store's two contents, the
- * commit sector and the header again, syncs, and writes two sectors home. A format writes the header's sector and syncs, the journal's, the header's again
- * and syncs, the tables and the commit sector and syncs, and the header, and syncs; its open syncs once more. */
-enum { STORE_OPERATIONS = 7, OPEN_OPERATIONS = 7, FORMAT_OPERATIONS = 2 + 251 + 2 + 14 + 1 + 2 + 1 };
+/* The most operations of a store: a write and a sync of the journal, two writes and a sync of its places; of one with one place, as that of the highest
+ * number, one less. An open writes the header first, and that of the highest last. A format writes and syncs the header, the journal block by block,
+ * seven tables, and the header. */
+enum { STORE_OPERATIONS = 5, HIGHEST_OPERATIONS = 4, OPEN_OPERATIONS = 1 + STORE_OPERATIONS + HIGHEST_OPERATIONS, FORMAT_OPERATIONS = 2 + 17 + 8 + 2 };
 
 int opens_agree(Board *board, int known, unsigned ends, unsigned operations, int (*found_by)(const Board *))
 {
@@ -141,7 +141,7 @@ Found all_paths(Board *board, int (*path)(Board *, int, unsigned), int record, u
 Found paths_of_store(int wrong, int record, unsigned ends)
 {
     Board board;
-    board_new(&board, wrong, path_choose);
+    board_new(&board, wrong, FILEDISK_BLOCK, path_choose);
     const Found found = all_paths(&board, one_path, record, ends);
     board_free(&board);
     return found;
@@ -171,7 +171,7 @@ static int two_path(Board *board, int record, unsigned ends)
 Found paths_of_two(int wrong)
 {
     Board board;
-    board_new(&board, wrong, path_choose);
+    board_new(&board, wrong, FILEDISK_BLOCK, path_choose);
     const Found found = all_paths(&board, two_path, 1, 0);
     board_free(&board);
     return found;
@@ -200,7 +200,7 @@ Found paths_of_format(int wrong)
 {
     Board board;
     enum { NO_RECORD = 9 }; /* what is found where there is no disk */
-    board_new(&board, WRONG_NONE, path_choose);
+    board_new(&board, WRONG_NONE, FILEDISK_BLOCK, path_choose);
     if (board_open(&board, 0) != FILEDISK_GOOD || store_record(&board, 1) != 0)
         abort();
     board.wrong = wrong;

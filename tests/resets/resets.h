@@ -5,14 +5,14 @@
 
 #include "without.h"
 
-enum { MOST_PENDING = 320, RESET = 0, CUT = 1 };
+enum { MOST_PENDING = 16, RESET = 0, CUT = 1 };
 
-/* A device of bytes with a cache. A sector of FILEDISK_BLOCK bytes lands as one; it is written by one write, whole. */
+/* A device of bytes with a cache. `grain` bytes at a multiple of it land as one. */
 typedef struct {
-    size_t bytes;
+    size_t bytes, grain;
     unsigned char *safe, *seen;                 /* what is on it; what a read shows, with what its cache has */
-    unsigned char after[MOST_PENDING][FILEDISK_BLOCK]; /* the sector after each write that is not synced, the oldest first */
-    uint64_t at[MOST_PENDING];
+    unsigned char *after[MOST_PENDING];         /* the whole device after each write that is not synced, one on the other */
+    uint64_t at[MOST_PENDING], end[MOST_PENDING];
     size_t count;                               /* of these */
     unsigned countdown;                         /* operations until the end, 0 for none */
     int ended, kind;                            /* whether it has come; a reset or a cut */
@@ -20,7 +20,7 @@ typedef struct {
     unsigned (*choose)(unsigned below);
 } Device;
 
-Device *device_new(size_t bytes, unsigned (*choose)(unsigned));
+Device *device_new(size_t bytes, size_t grain, unsigned (*choose)(unsigned));
 void device_free(Device *device);
 void device_load(Device *device, const unsigned char *safe); /* nothing is in its cache then */
 FileBlocks device_on(Device *device, unsigned countdown);    /* power on; the end comes at that operation */
@@ -34,7 +34,7 @@ typedef struct {
     Without without;
     int wrong;
 } Board;
-void board_new(Board *board, int wrong, unsigned (*choose)(unsigned));
+void board_new(Board *board, int wrong, size_t grain, unsigned (*choose)(unsigned));
 void board_free(Board *board);
 int board_open(Board *board, unsigned countdown); /* filedisk_open's answer */
 
@@ -55,11 +55,11 @@ Found paths_of_two(int wrong);
 Found paths_of_format(int wrong);
 Found paths_of_import(int wrong, unsigned ends);
 
-/* The same of a create, and of opens of an older pack that has no highest number. */
+/* The same of a create, whose stores are two, and of opens of an older pack that has no highest number. */
 Found paths_of_create(int wrong, unsigned ends);
 Found paths_of_older(int wrong, unsigned ends);
 
-/* So many stores, torn by chance: whether each is found whole or not at all, and stays so. */
-Found torn_stores(int wrong, unsigned long stores, uint64_t seed);
+/* So many stores, torn by chance at that grain: whether each is found whole or not at all, and stays so. */
+Found torn_stores(int wrong, size_t grain, unsigned long stores, uint64_t seed);
 
 #endif

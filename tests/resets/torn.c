@@ -54,16 +54,16 @@ static State some_store(Board *board, State next)
     return next;
 }
 
-Found torn_stores(int wrong, unsigned long stores, uint64_t seed)
+Found torn_stores(int wrong, size_t grain, unsigned long stores, uint64_t seed)
 {
     Board board;
     Found found = {0, 0};
     State now = {{0, 0}, {0, 0}};
     state = seed;
-    board_new(&board, wrong, by_chance);
+    board_new(&board, wrong, grain, by_chance);
     for (; found.paths < stores; found.paths++) {
-        /* the end comes before the commit sector is safe, so most stores are torn; now and then it comes later, or not at all */
-        board.disk.blocks = without_on(&board.without, device_on(board.device, by_chance(8) ? 1 + by_chance(5) : by_chance(9)), wrong);
+        /* the end comes in the journal's write or its sync, so most stores are torn; now and then it comes later, or not at all */
+        board.disk.blocks = without_on(&board.without, device_on(board.device, by_chance(8) ? 1 + by_chance(2) : by_chance(6)), wrong);
         const State next = some_store(&board, now);
         device_end(board.device);
         if (board_open(&board, 0) == FILEDISK_GOOD && (is_at(&board, &now) || is_at(&board, &next))) {

@@ -66,14 +66,14 @@ read_again z b before after s q n sheet t e p hp has_p spare up rest free j hj =
     let i = page_of z s p in
     let pos = g.fit.sizes.pages in
     let slot = (import_asked z (from z b before) s q n sheet e).slot in
-    let on_List = (stays_imported z b before after s q n sheet t e p hp spare).listed has_p in
+    let on_list = (stays_imported z b before after s q n sheet t e p hp spare).listed has_p in
     let k : Listed z w.state s p = record {
       good = (let c = g.copies up in (all_fit_holds z w.state g.fit c.fit, rules z w.state (g.ruled up) c.rules));
       slot = slot;
       page = hp;
-      filled = λ o. on_List (g.rules.empty_map_holds i (page_below z pos s p slot hp) (ap (files w.state).number (slot_of_page z pos s p hp) ∙ o));
+      filled = λ o. on_list (g.rules.empty_map_holds i (page_below z pos s p slot hp) (ap (files w.state).number (slot_of_page z pos s p hp) ∙ o));
       resting = rest;
-      listed = on_List;
+      listed = on_list;
       frame = free;
     } in
     let r = readable z w.state s p k j hj in

@@ -146,7 +146,7 @@ module _ (z : Sizes) (pos : 0 < z.pages) (i d : ℕ) (x : ℕ → ℕ) where
       if_elim Known (eqb good 1) _ _ (λ u. keep l (finish_write f l) (ap (λ (g : ℕ → ℕ). g slot) b.design) b.pack (ap (λ (g : ℕ → ℕ → ℕ). g i) b.text) b.stored (λ v. rw b.updating at v) b.update
       (each_finish Its f l t k.finished) k) (λ u. keep l _ refl refl refl refl (λ v. v) refl k.finished k)
   note_known l (L.map_end s good) t k = if_elim Known (eqb good 1) _ _ (λ u. one_update s l t k)
-      (λ u. keep l _ refl refl refl refl (λ v. elim (split_put l.pending.updating s false slot) [ inl y ↦ absurd (subst T y.1 v) | inr y ↦ subst T y.1 v ]) refl k.finished k)
+      (λ u. keep l (strike_update s l) refl refl refl refl (λ v. elim (split_put l.pending.updating s false slot) [ inl y ↦ absurd (subst T y.1 v) | inr y ↦ subst T y.1 v ]) refl k.finished k)
   note_known l (L.import_begun n) t k = keep l _ refl refl refl refl (λ u. u) refl k.finished k
   note_known l (L.imported_page p r words) t k = keep l _ refl refl refl refl (λ u. u) refl (each_note Its z l (L.imported_page p r words) (λ e. absurd (t e)) k.finished) k
   note_known l (L.imported_slot s h v) t k = record {

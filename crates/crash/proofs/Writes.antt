@@ -96,7 +96,7 @@ last_in r (x ∷ xs) n = go (eqb x.record' r) refl n (last_in r xs)
   where
     go : (b : Bool) → eqb x.record' r ≡ b → 0 < (if (eqb x.record' r) x (last_into r xs)).serial → (0 < (last_into r xs).serial → In (last_into r xs) xs) → In (if (eqb x.record' r) x (last_into r xs)) (x ∷ xs)
     go true e n f = rw e (inl refl)
-    go false e n f = rw e (inr (f (rw e at n)))
+    go false e n f = subst (λ (b : Bool). In (if b x (last_into r xs)) (x ∷ xs)) (sym e) (inr (f (rw e at n)))
 
 pub last_into_holds : (r : ℕ) (l : List Write) → 0 < (last_into r l).serial → (last_into r l).record' ≡ r
 unfolding last_into no_write

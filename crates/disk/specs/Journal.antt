@@ -2,11 +2,8 @@
 use Rattle.std.specs.Prelude.{List, ℕ, ltb, leb, length}
 use Rattle.tables.specs.Base.{if}
 use Rattle.journal.specs.declared.Ask.{Ask}
-use Rattle.journal.specs.declared.Ask.TheVariants as Ask
 use Rattle.journal.specs.declared.Look.{Look}
-use Rattle.journal.specs.declared.Look.TheVariants as Look
 use Rattle.journal.specs.declared.Recovery.{Recovery}
-use Rattle.journal.specs.declared.Recovery.TheVariants as Recovery
 use Rattle.journal.specs.Device.{Content}
 use Rattle.journal.specs.Layout.{most_homes, area_at, home_at, commit_words}
 use Rattle.disk.specs.declared.stores.Step.{Step}

@@ -40,7 +40,7 @@ equal (x ∷ xs) (y ∷ ys) = eqb x y && equal xs ys
 abbrev twice : State
 twice = record { disk = record { records = 0 ∷ 0 ∷ 0 ∷ 0 ∷ 0 ∷ 0 ∷ 0 ∷ 0 ∷ []; numbers = 7 ∷ 0 ∷ []; accounts = 0 ∷ 0 ∷ []; maps = 1 ∷ 1 ∷ 0 ∷ 0 ∷ 0 ∷ 0 ∷ []; limits = 0 ∷ []; parents = 0 ∷ []; highest = 0 ∷ [] }; memory = junk small }
 
--- (edges 1 to 4 and 6 for all sizes and states: `edges-all` of crates/invariant/proofs/EdgesAll.antt)
+-- (edges 1 to 4 and 6 for all sizes and states: `edges_all` of crates/invariant/proofs/EdgesAll.antt)
 pub record Edges : Type 0 where
   -- 1. R = 0 gives 1; 1 and 4,096 pass; 4,097 gives 1.
   e1_none : says (sized 0 1) (restart ∷ []) ≡ 1 ∷ 0 ∷ []

@@ -106,7 +106,7 @@ pub record Refused : Type 0 where
   unstored_right : judged unstored ≡ 0 ∷ []
   released_right : judged released ≡ 0 ∷ []
   reread_right : judged reread ≡ 0 ∷ []
-  -- The disk rules. An entry past R is refused with the rule on what a design at rest, or an active one, lists (Implied.map-fit). A restart asks the disk rules only.
+  -- The disk rules. An entry past R is refused with the rule on what a design at rest, or an active one, lists (Implied.map_fit_holds). A restart asks the disk rules only.
   empty_account : judged (on_disk (set_accounts (1 ∷ 0 ∷ [])) empty) ≡ 2 ∷ 1 ∷ []
   empty_map : judged (on_disk (set_numbers (0 ∷ 0 ∷ [])) resting) ≡ 2 ∷ 2 ∷ []
   map_fit_resting : judged (agree (on_disk (set_maps (entries 5 0)) filled)) ≡ 2 ∷ 3 ∷ 17 ∷ []
@@ -124,7 +124,7 @@ pub record Refused : Type 0 where
   number_once_found : found (on_disk (set_numbers (7 ∷ 7 ∷ [])) filled) ≡ 2 ∷ 5 ∷ []
   account_fit_found : found (on_disk (set_accounts (2 ∷ 0 ∷ [])) filled) ≡ 2 ∷ 6 ∷ []
   parent_lower_found : found (on_disk (set_parents (0 ∷ 1 ∷ [])) filled) ≡ 2 ∷ 7 ∷ []
-  -- The ranges. An address past R is refused with the rule on what a page holds (address-fit), an image entry past R with the rule on what an image lists (image-fit).
+  -- The ranges. An address past R is refused with the rule on what a page holds (address_fit_holds), an image entry past R with the rule on what an image lists (image_fit_holds).
   address_fit : judged (on_held (set_addresses (entries 5 0)) active) ≡ 2 ∷ 8 ∷ 15 ∷ []
   image_fit : judged (on_slots (set_images (entries 1 5)) begun) ≡ 2 ∷ 9 ∷ 20 ∷ []
   state_fit : judged (agree (on_held (set_states (6 ∷ 0 ∷ 0 ∷ 0 ∷ [])) filled)) ≡ 2 ∷ 10 ∷ []
@@ -166,7 +166,7 @@ pub record Refused : Type 0 where
   in_one_place_wired : judged (on_core (on_frame 0 (set_wired 1)) served) ≡ 2 ∷ 30 ∷ []
   in_one_place_both : judged (on_core (set_removal_list (1 ∷ 0 ∷ [])) empty) ≡ 2 ∷ 30 ∷ []
   in_one_place_none : judged (on_core (set_removal_list (0 ∷ 0 ∷ [])) served) ≡ 2 ∷ 30 ∷ []
-  -- An inactive slot has no frame: one of the two says no too from which this follows (frame-active).
+  -- An inactive slot has no frame: one of the two says no too from which this follows (frame_active_holds).
   frame_active_bare : judged (seated filled) ≡ 2 ∷ 31 ∷ 33 ∷ []
   frame_active_held : judged (agree (on_held (λ h. set_addresses (entries 1 0) (set_states (2 ∷ 0 ∷ 0 ∷ 0 ∷ []) h)) (seated filled))) ≡ 2 ∷ 25 ∷ 31 ∷ []
   framed_once : judged (on_core (λ c. set_free_queue (0 ∷ 0 ∷ []) (set_removal_list (1 ∷ 2 ∷ []) (on_frame 1 (λ g. fresh 0) c))) served) ≡ 2 ∷ 32 ∷ []

@@ -1,5 +1,6 @@
 // The fields of the event program's input: a tag, a length and values, all high byte first.
 #![tactic(auto)]
+
 ghost use Rattle.std.specs.Prelude.{◌≡◌, ◌+◌, ◌≤◌, ◌<◌, length};
 ghost use Rattle.fields.specs.Fields.{number, width, total, is_tag, request_at, field_at};
 

@@ -75,13 +75,13 @@ module _ (z : Sizes) (st : State) (f : Fit z st) (r : Ruled z st) (s k : ℕ) wh
   passes p = leb k p && test (framed z (frames st) (page_of z s p))
 
   -- its frame
-  abbrev frame_at_holds : ℕ → ℕ
-  frame_at_holds p = frame_of z (frames st) (page_of z s p)
+  abbrev its_frame : ℕ → ℕ
+  its_frame p = frame_of z (frames st) (page_of z s p)
 
   abbrev cut_pages : List ℕ
   cut_pages = those z.pages passes 0
 
-  in_frame : (p : ℕ) → 0 < times cut_pages p → (p < z.pages) × (k ≤ p) × (frame_at_holds p < z.frames) × (((frames st).frame (frame_at_holds p)).page ≡ suc (page_of z s p))
+  in_frame : (p : ℕ) → 0 < times cut_pages p → (p < z.pages) × (k ≤ p) × (its_frame p < z.frames) × (((frames st).frame (its_frame p)).page ≡ suc (page_of z s p))
   in_frame p h =
       let e = those_elim z.pages passes 0 p h in
       let w = frame_of_holds z (frames st) (page_of z s p) (sound (framed z (frames st) (page_of z s p)) (and_right (leb k p) (test (framed z (frames st) (page_of z s p))) e.2)) in
@@ -97,7 +97,7 @@ module _ (z : Sizes) (st : State) (f : Fit z st) (r : Ruled z st) (s k : ℕ) wh
   -- ── how often a frame stands among the cut ones ──
   cut_once : (x : ℕ) → x < z.frames → Holds (cut_frame z st s k x) → times (cut_frames z st s k) x ≡ 1
   unfolding cut_frames
-  cut_once x l (i, e, (o, d)) = ap (times (map frame_at_holds cut_pages)) (sym its) ∙ times_map frame_at_holds cut_pages p alone ∙ times_those z.pages passes 0 p (omega arith) (omega (arith, small)) ∙ if_true (passes p) 1 0 inside
+  cut_once x l (i, e, (o, d)) = ap (times (map its_frame cut_pages)) (sym its) ∙ times_map its_frame cut_pages p alone ∙ times_those z.pages passes 0 p (omega arith) (omega (arith, small)) ∙ if_true (passes p) 1 0 inside
     where
       p : ℕ
       p = i % z.pages
@@ -114,10 +114,10 @@ module _ (z : Sizes) (st : State) (f : Fit z st) (r : Ruled z st) (s k : ℕ) wh
       inside : T (passes p)
       inside = and_intro (leb k p) (test (framed z (frames st) (page_of z s p))) (le→leb k p (omega (arith, d))) (complete (framed z (frames st) (page_of z s p)) there)
 
-      its : frame_at_holds p ≡ x
-      its = let w = frame_of_holds z (frames st) (page_of z s p) there in r.frames.once (frame_at_holds p) w.0 x l i (w.1 ∙ ap suc same_page) e
+      its : its_frame p ≡ x
+      its = let w = frame_of_holds z (frames st) (page_of z s p) there in r.frames.once (its_frame p) w.0 x l i (w.1 ∙ ap suc same_page) e
 
-      alone : (y : ℕ) → 0 < times cut_pages y → frame_at_holds y ≡ frame_at_holds p → y ≡ p
+      alone : (y : ℕ) → 0 < times cut_pages y → its_frame y ≡ its_frame p → y ≡ p
       alone y h q =
           let w = in_frame y h in
           let t : page_of z s y ≡ page_of z s p = suc_inj (sym w.3 ∙ ap (λ (a : ℕ). ((frames st).frame a).page) (q ∙ its) ∙ e ∙ ap suc (sym same_page)) in
@@ -125,11 +125,11 @@ module _ (z : Sizes) (st : State) (f : Fit z st) (r : Ruled z st) (s k : ℕ) wh
 
   cut_none : (x : ℕ) → ¬ (Holds (cut_frame z st s k x)) → times (cut_frames z st s k) x ≡ 0
   unfolding cut_frames
-  cut_none x d = times_map_none frame_at_holds cut_pages x (λ p h e. let w = in_frame p h in d (page_of z s p, ap (λ (a : ℕ). ((frames st).frame a).page) (sym e) ∙ w.3, page_from p w.0 w.1))
+  cut_none x d = times_map_none its_frame cut_pages x (λ p h e. let w = in_frame p h in d (page_of z s p, ap (λ (a : ℕ). ((frames st).frame a).page) (sym e) ∙ w.3, page_from p w.0 w.1))
 
   cut_within : Within z.frames (cut_frames z st s k)
   unfolding cut_frames
-  cut_within x h = elim (dec_lt x z.frames) [ yes l ↦ l | no d ↦ absurd (omega (arith, h, times_map_none frame_at_holds cut_pages x (λ p b e. d (rw e at (in_frame p b).2)))) ]
+  cut_within x h = elim (dec_lt x z.frames) [ yes l ↦ l | no d ↦ absurd (omega (arith, h, times_map_none its_frame cut_pages x (λ p b e. d (rw e at (in_frame p b).2)))) ]
 
   -- ── the queues ──
   -- a cut frame has a page, and so is not free

@@ -149,11 +149,11 @@ module _ (z : Sizes) where
 
             -- in no frame: more than one turn to wait
             more : (¬ Holds (framed z (frames st) (next_page z st))) → 2 ≤ n
-            more i = elim near [ here p ↦ absurd (i (p.0, p.1, p.2.0)) | room p ↦ omega arith | far ↦ omega arith ]
+            more i = elim near as (λ m _. 2 ≤ m) [ here p ↦ absurd (i (p.0, p.1, p.2.0)) | room p ↦ omega arith | far ↦ omega arith ]
 
             -- and no frame free: three
             most : (¬ Holds (framed z (frames st) (next_page z st))) → (¬ (0 < size st.memory.core.free_queue)) → 3 ≤ n
-            most i e = elim near [
+            most i e = elim near as (λ m _. 3 ≤ m) [
               | here p ↦ absurd (i (p.0, p.1, p.2.0))
               | room p ↦ elim p [ inl s ↦ absurd (e s) | inr y ↦ absurd (omega (arith, y.2, c y.0 y.1)) ]
               | far ↦ omega arith

@@ -1,5 +1,6 @@
 // A journal that makes stores whole on a device whose sectors land in any mix: what is to be done next, and where things are.
 #![tactic(auto)]
+
 ghost use Rattle.std.specs.Prelude.{◌≡◌, ◌+◌, ◌<◌, ◌≤◌, length};
 ghost use Rattle.tables.specs.Base.{at};
 ghost use Rattle.tables.specs.Rule.{test};

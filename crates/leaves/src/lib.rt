@@ -1,5 +1,6 @@
 // The parts that the events of the keeper are built from: each changes or reads one table, by one definition.
 #![tactic(auto)]
+
 pub mod addresses; // the address of a page
 pub mod asks; // the questions that begin every event about a slot
 pub mod cells; // one entry

@@ -1,9 +1,9 @@
 -- Laws of numbers in decimal: read back, they are the number; no zero stands in front of a number above 0; how long they are.
-use Rattle.std.specs.Prelude.{◌≡◌, refl, Bool, true, false, List, [], ◌∷◌, ◌++◌, ◌⊎◌, ℕ, zero, suc, ◌+◌, ◌-◌, ◌*◌, ◌/◌, ◌%◌, ◌^◌, ◌<◌, ◌≤◌, ltb, length}
-use Rattle.std.proofs.Common.{ap, sym, ◌∙◌, inl, inr, pow-suc, add-zero, suc-add, arith, length-append, lt-ltb, le-ltb}
+use Rattle.std.specs.Prelude.{◌≡◌, refl, List, [], ◌∷◌, ◌++◌, ◌⊎◌, ℕ, zero, suc, ◌+◌, ◌-◌, ◌*◌, ◌/◌, ◌%◌, ◌^◌, ◌<◌, ◌≤◌, length}
+use Rattle.std.proofs.Common.{ap, sym, ◌∙◌, inl, inr, pow-suc, suc-add, arith, length-append, lt-ltb, le-ltb}
 use Rattle.std.proofs.Math.Decide.{dec_lt}
 use Rattle.std.proofs.Math.ListN.{get_or-append}
-use Rattle.tables.specs.Base.{at, if}
+use Rattle.tables.specs.Base.{at}
 use Rattle.lines.specs.Decimal.{digit, digits, decimal, read}
 
 -- ── the two cases of the definition ──

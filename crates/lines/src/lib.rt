@@ -1,5 +1,6 @@
 // The lines that the event program prints, made in a buffer.
 #![tactic(auto)]
+
 ghost use Rattle.std.specs.Prelude.{[], ◌∷◌, ◌≡◌, ◌+◌, ◌≤◌, ◌<◌, ◌%◌, length};
 ghost use Rattle.lines.specs.Decimal.{decimal as Decimal·decimal};
 ghost use Rattle.lines.specs.Lines.{Wrote, hex_digit, header as Lines·header, between, answers, line_of, bad_field};

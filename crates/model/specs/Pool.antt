@@ -11,7 +11,7 @@ unfoldable pub taken : Sizes → ℕ → Pool → Pool
 taken z zero p = p
 taken z (suc r) p = record { hand = suc r % z.records; free = p.free - 1 }
 
--- Deposit of records: so many are free more; the hand stays. The count stands still at the most that 32 bits hold, which question 2 shuts out: it is at most R (`deposited-counts`).
+-- Deposit of records: so many are free more; the hand stays. The count stands still at the most that 32 bits hold, which question 2 shuts out: it is at most R (`deposited_counts`).
 unfoldable pub deposited : ℕ → Pool → Pool
 deposited zero p = p
 deposited (suc n) p = record { hand = p.hand; free = p.free + suc n - (p.free + suc n - 4294967295) }

@@ -4,7 +4,7 @@ use crate::frame::{Frame, Pool};
 
 // Of an event. taken: the record taken out of the pool + 1, or 0 for none. deposited: how many records were given back. nulled: the record of the
 // modified page of zeros that a claim took + 1, or 0 for none.
-#[derive(Drop)]
+#[derive(Clone, Copy)]
 pub struct Worked {
     pub taken: u32,
     pub deposited: u32,
@@ -13,7 +13,7 @@ pub struct Worked {
 }
 
 // Of a request in one call.
-#[derive(Drop)]
+#[derive(Clone, Copy)]
 pub struct Applied {
     pub frames: [Frame; 64],
     pub taken: u32,
@@ -22,7 +22,7 @@ pub struct Applied {
 }
 
 // Of a list of requests, and of a restart, which set the pool anew.
-#[derive(Drop)]
+#[derive(Clone, Copy)]
 pub struct Pooled {
     pub frames: [Frame; 64],
     pub pool: Pool,
@@ -31,7 +31,7 @@ pub struct Pooled {
 
 // Of a page look, for a caller that cannot be handed a reference: which part of the frames' words it is.
 #[repr(C)]
-#[derive(Drop)]
+#[derive(Clone, Copy)]
 pub struct Part {
     pub refusal: u32,
     pub start: usize,

@@ -1,7 +1,7 @@
 // The events that a restarted keeper carries out, in five families, and what it answers.
 
 // Events about a design.
-#[derive(Drop)]
+#[derive(Clone, Copy)]
 pub enum Design {
     Create {
         slot: usize,
@@ -20,7 +20,7 @@ pub enum Design {
 }
 
 // Events about an account. Move shifts pages of limit between an account and its parent.
-#[derive(Drop)]
+#[derive(Clone, Copy)]
 pub enum Account {
     Limit {
         account: usize,
@@ -34,7 +34,7 @@ pub enum Account {
 }
 
 // Events about one page.
-#[derive(Drop)]
+#[derive(Clone, Copy)]
 pub enum Page {
     Fault {
         slot: usize,
@@ -62,7 +62,7 @@ pub enum Page {
 }
 
 // Events that free frames and records, or that move pages and maps to the disk.
-#[derive(Drop)]
+#[derive(Clone, Copy)]
 pub enum Writeback {
     Claim,
     Truncate { slot: usize, count: usize },
@@ -72,13 +72,13 @@ pub enum Writeback {
 }
 
 // Events of the waiting line.
-#[derive(Drop)]
+#[derive(Clone, Copy)]
 pub enum Waiting {
     Join { slot: usize, page: usize },
     Turn,
 }
 
-#[derive(Drop)]
+#[derive(Clone, Copy)]
 pub enum Event {
     Design(Design),
     Account(Account),
@@ -89,7 +89,7 @@ pub enum Event {
 
 // refusal: 0, or the number of the first question that fails; result: 0 on every refusal.
 #[repr(C)]
-#[derive(Drop)]
+#[derive(Clone, Copy)]
 pub struct Answer {
     pub refusal: u32,
     pub result: u32,

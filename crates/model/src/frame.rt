@@ -45,7 +45,7 @@ pub fn no_frames() -> [Frame; 64]
 
 // The hand, where the search for a free record starts for a page without a neighbour, and the count of free records.
 #[repr(C)]
-#[derive(Drop)]
+#[derive(Clone, Copy)]
 pub struct Pool {
     pub hand: u32,
     pub free: u32,

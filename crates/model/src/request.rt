@@ -7,7 +7,7 @@ use crate::event::{Account, Design, Event, Page, Waiting, Writeback};
 // kind: the event program's tag, or from 17 up one that it does not have; then the event's values, in order. What a kind has
 // no use for is ignored.
 #[repr(C)]
-#[derive(Drop)]
+#[derive(Clone, Copy)]
 pub struct Request {
     pub kind: u32,
     pub first: u32,
@@ -16,7 +16,7 @@ pub struct Request {
     pub fourth: u32,
 }
 
-#[derive(Drop)]
+#[derive(Clone, Copy)]
 pub enum Decoded {
     Known(Event),
     Unknown,

@@ -4,7 +4,7 @@ ghost use Rattle.tables.specs.Rule.{test};
 ghost use Rattle.model.specs.Sizes.{up_to, sizes_of, sized, sized_number, sizes_fit, sizes_answer};
 
 #[repr(C)]
-#[derive(Drop)]
+#[derive(Clone, Copy)]
 pub struct Sizes {
     pub words: usize,
     pub records: usize,
@@ -19,7 +19,7 @@ pub struct Sizes {
 pub const LINE: usize = 32;
 
 // What comes of making sizes: all seven are within their limits, or one is not.
-#[derive(Drop)]
+#[derive(Clone, Copy)]
 pub enum Sized {
     Within(Sizes),
     Outside,

@@ -3,3 +3,4 @@ pub mod Text
 pub mod Unseen
 pub mod ChipUnseen
 pub mod Used
+pub mod UsedMore

@@ -14,7 +14,7 @@ use Rattle.model.specs.Import as Import
 use Rattle.model.specs.Import.{sheet_of, has}
 use Rattle.model.specs.Ledger.{Fed, created, wrote, truncated, imported_slot}
 use Rattle.model.specs.Acts.{Act, World, legal, run, start}
-use Rattle.edges.specs.Lists.{limit, create, delete, activate, deactivate, fault, read, write, wire, unwire, claim, truncate, update, page_done, map_done, join, turn, look as looks, restart, cut, small, junk, said}
+use Rattle.edges.specs.Lists.{limit, create, activate, fault, write, claim, truncate, page_done, restart, cut, small, junk, said}
 use Rattle.edges.specs.Sheets.{sheet, import}
 use Rattle.woven.specs.Woven.{overlaid, woven, Since, heard, act_by, run_by, legal_by, along, alike}
 use Rattle.woven.specs.Without.{itself, without, Pack, from_start, SameSeen}
@@ -33,17 +33,17 @@ kept = record {
   rules = sound (disk_rules small (record { disk = pack; memory = junk small })) tt;
 }
 
--- page 0 of a new design is written and goes to its record; a second design comes in by a sheet, into the slot of one that was deleted
+-- page 0 of a new design is written and goes to its record; a second design comes in by a sheet
 abbrev stored : List Act
-stored = restart ∷ limit 0 4 ∷ create 1 0 4 ∷ delete 1 ∷ create 0 0 5 ∷ activate 0 ∷ fault 0 0 ∷ write 0 0 1 7 ∷ claim ∷ page_done 0 1 ∷ import 1 9 sheet ∷ []
+stored = restart ∷ limit 0 4 ∷ create 0 0 5 ∷ activate 0 ∷ fault 0 0 ∷ write 0 0 1 7 ∷ claim ∷ page_done 0 1 ∷ import 1 9 sheet ∷ []
 
 -- with the chip the page is in service at once
 abbrev acts : List Act
 acts = stored ++ fault 0 0 ∷ truncate 0 1 ∷ []
 
--- without it the page is read; a restart and a cut before are another history of a like disk. What is not woven may differ: the design is saved, fails to be saved, is put to rest and woken, its page is asked for and served
+-- without it the page is read; a restart and a cut before are another history of a like disk
 abbrev acts' : List Act
-acts' = restart ∷ cut [] [] ∷ stored ++ update 0 ∷ map_done 0 0 ∷ update 0 ∷ map_done 0 1 ∷ deactivate 0 ∷ activate 0 ∷ join 0 0 ∷ turn ∷ page_done 1 1 ∷ turn ∷ wire 0 0 ∷ unwire 0 0 ∷ looks 0 0 ∷ read 0 0 1 ∷ truncate 0 1 ∷ []
+acts' = restart ∷ cut [] [] ∷ stored ++ fault 0 0 ∷ page_done 1 1 ∷ truncate 0 1 ∷ []
 
 abbrev begin : World
 begin = start small pack (junk small)
@@ -62,7 +62,7 @@ since' = along small (without small) begin (from_start pack) acts'
 
 -- what was woven in both, newest first
 abbrev list : List Fed
-list = truncated 0 1 ∷ imported_slot 1 (has (sheet_of sheet)) (Import.said (sheet_of sheet)) ∷ wrote 0 0 1 7 ∷ created 0 5 ∷ created 1 4 ∷ []
+list = truncated 0 1 ∷ imported_slot 1 (has (sheet_of sheet)) (Import.said (sheet_of sheet)) ∷ wrote 0 0 1 7 ∷ created 0 5 ∷ []
 
 same_list : since.list ≡ list
 unfolding said act_by along heard

@@ -9,7 +9,7 @@ use borrow.Author.Tests.{lt-ltb, le-ltb}
 use Rattle.tables.specs.Rule.{test}
 use Rattle.model.specs.declared.sizes.Sizes.{Sizes}
 use Rattle.layout.specs.Rows.{per_row}
-use Rattle.layout.specs.Laid.{Table, records, maps, numbers, accounts, limits, parents, highest, place, table, width, rows, sectors_of, before, begins, room}
+use Rattle.layout.specs.Laid.{Table, records, maps, numbers, accounts, limits, parents, highest, place, table, width, rows, sectors_of, before, room}
 use Rattle.disk.specs.declared.places.Place.{Place}
 use Rattle.disk.specs.Header.{disk_fits}
 use Rattle.disk.specs.Places.{room_of, place_of}

@@ -1,4 +1,4 @@
--- Question 23 of paper 01, "Good map done: no leaving record in the image?", is not asked: no-leaving-imaged of Implied. Its number stays unused: no call answers it.
+-- Question 23 of paper 01, "Good map done: no leaving record in the image?", is not asked: no_leaving_imaged of Implied. Its number stays unused: no call answers it.
 use Rattle.std.specs.Prelude.{◌≡◌, refl, Bool, true, false, ◌||◌, List, ℕ, T, eqb}
 use Rattle.std.proofs.Common.{ap, sym, ◌∙◌, arith}
 use Rattle.tables.specs.Base.{if}
@@ -23,7 +23,7 @@ use Rattle.model.specs.Questions.{Turning, nobody, serves, goes_back, faults, cl
 use Rattle.model.specs.Requests.{decoded}
 use Rattle.model.specs.Step.{asked, answer}
 use Rattle.model.specs.ApplyAll.{answer_of, request_at, after}
-use Rattle.model.specs.Laws.EveryCall.{Call, stepping, applying, restarting, formatting, looking, outcome_of, decoded_questions, asks, refused_unchanged}
+use Rattle.model.specs.Laws.EveryCall.{Call, stepping, applying, restarting, formatting, looking, importing, exporting, outcome_of, decoded_questions, asks, refused_unchanged}
 use Rattle.model.specs.Laws.Fit.{fit}
 use Rattle.model.specs.Laws.Implied.{no_leaving_imaged}
 
@@ -113,6 +113,8 @@ asks_23 (applying z st r) t = decoded_23 z st (decoded r) t
 asks_23 (restarting z st) t = t
 asks_23 (formatting z w d) t = t
 asks_23 (looking z st s p) t = t
+asks_23 (importing z st s q n b) t = elim t [ ]
+asks_23 (exporting z st s b) t = elim t [ ]
 
 pub never_23 : (c : Call) → ¬ ((outcome_of c).answer.refusal ≡ 23)
 never_23 c e = not_asked 23 (asks c) (λ h. omega (arith, h)) (asks_23 c) (sym (refused_unchanged c).first ∙ e)

@@ -1,0 +1,10 @@
+use Prim.Native.Nat.{◌-◌, ◌≤◌}
+use Rattle.tables.specs.StoreLoops.{Turned}
+use Rattle.leaves.proofs.Queues.{from, next}
+use Rattle.leaves.proofs.queue.close_gap.Given as goal
+
+abbrev pub invariant-loop-k : goal.invariant-loop-k
+invariant-loop-k l = (l.j ≤ l.k) × (l.k ≤ l.last) × Turned l.initial.q (from l.j) (next l.initial.q) l.k l.q
+
+abbrev pub decreases-loop-k : goal.decreases-loop-k
+decreases-loop-k l = l.last - l.k

@@ -1,0 +1,35 @@
+-- `all_zero` meets its contract: the words passed, sixteen a turn, are 0; those that are left decide.
+use mathlib.Core.Path.{◌≡◌, ap}
+use mathlib.Core.List.{List}
+use Prim.Native.Nat.{ℕ, ◌+◌, ◌-◌, ◌*◌, ◌≤◌}
+use native.Mathlib.Omega.{arith}
+use Rattle.tables.specs.Base.{at}
+use Rattle.tables.specs.Rule.{same}
+use Rattle.tables.specs.Turn.{none, again_run, fails_run, done_run}
+use Rattle.leaves.proofs.words.all_zero.Goals as goal
+
+-- word i of those from word w on
+nth : (words : List ℕ) (start w i : ℕ) → same (at words (start + w + i)) 0 ≡ same (at words (start + (w + i))) 0
+nth words start w i = ap (λ (m : ℕ). same (at words m) 0) (omega arith)
+
+pub loop-w-init : goal.loop-w-init
+loop-w-init c = (omega arith, none _)
+
+pub zeros-requires : goal.zeros-requires
+zeros-requires c =
+    let left : (c.loop-w.w + 16 ≤ c.args.size) = omega (arith, c.loop-w.invariant.0, c.loop-w-test.true) in
+    omega (arith, left, c.requires)
+
+pub returns-else-zeros : goal.returns-else-zeros
+returns-else-zeros c =
+    let left : (c.loop-w.w + 16 ≤ c.args.size) = omega (arith, c.loop-w.invariant.0, c.loop-w-test.true) in
+    fails_run c.loop-w.w 16 _ _ (nth c.args.words.now (c.args.part * c.args.size) c.loop-w.w) c.args.size left c.zeros.ensures c.if-zeros.false
+
+pub loop-w-preserved : goal.loop-w-preserved
+loop-w-preserved c =
+    let left : (c.loop-w.w + 16 ≤ c.args.size) = omega (arith, c.loop-w.invariant.0, c.loop-w-test.true) in
+    (left, again_run c.loop-w.w 16 _ _ (nth c.args.words.now (c.args.part * c.args.size) c.loop-w.w) c.loop-w.invariant.1 c.zeros.ensures c.if-zeros.true)
+
+pub returns : goal.returns
+returns c =
+    done_run c.loop-w.w (c.args.size - c.loop-w.w) _ _ (nth c.args.words.now (c.args.part * c.args.size) c.loop-w.w) c.loop-w.invariant.1 c.args.size (omega (arith, c.loop-w.invariant.0)) c.zeros-2.ensures

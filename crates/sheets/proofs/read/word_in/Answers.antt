@@ -1,0 +1,38 @@
+-- `word_in` meets its contract.
+use native.Mathlib.Omega.{arith}
+use Rattle.sheets.proofs.Cases.{place_by}
+use Rattle.sheets.specs.Sheet.{number, place_of, word_in}
+use Prim.Native.Nat.{ℕ, ◌+◌, ◌*◌}
+use mathlib.Core.Path.{◌≡◌, ap, ◌∙◌}
+use Rattle.sheets.proofs.read.word_in.Goals as goal
+
+pub overflow_mul-from-2 : goal.overflow_mul-from-2
+overflow_mul-from-2 c =
+    let starts : 14 + c.args.k * (5 + 4 * c.args.w) ≡ place_of c.args.s.now c.args.k = place_by c.args.s.now c.args.w c.args.k c.requires.0 in
+    omega (arith, starts, c.requires.4)
+
+pub overflow_add-from-2 : goal.overflow_add-from-2
+overflow_add-from-2 c =
+    let starts : 14 + c.args.k * (5 + 4 * c.args.w) ≡ place_of c.args.s.now c.args.k = place_by c.args.s.now c.args.w c.args.k c.requires.0 in
+    omega (arith, starts, c.requires.4)
+
+pub overflow_add-from-3 : goal.overflow_add-from-3
+overflow_add-from-3 c =
+    let starts : 14 + c.args.k * (5 + 4 * c.args.w) ≡ place_of c.args.s.now c.args.k = place_by c.args.s.now c.args.w c.args.k c.requires.0 in
+    omega (arith, starts, c.requires.4)
+
+pub overflow_add-from-4 : goal.overflow_add-from-4
+overflow_add-from-4 c =
+    let starts : 14 + c.args.k * (5 + 4 * c.args.w) ≡ place_of c.args.s.now c.args.k = place_by c.args.s.now c.args.w c.args.k c.requires.0 in
+    omega (arith, starts, c.requires.4)
+
+pub number_at-requires : goal.number_at-requires
+number_at-requires c =
+    let starts : 14 + c.args.k * (5 + 4 * c.args.w) ≡ place_of c.args.s.now c.args.k = place_by c.args.s.now c.args.w c.args.k c.requires.0 in
+    (omega arith, omega (arith, starts, c.requires.4))
+
+pub returns : goal.returns
+unfolding word_in
+returns c =
+    let starts : 14 + c.args.k * (5 + 4 * c.args.w) ≡ place_of c.args.s.now c.args.k = place_by c.args.s.now c.args.w c.args.k c.requires.0 in
+    c.number_at.ensures ∙ ap (λ (i : ℕ). number 4 0 c.args.s.now (i + 5 + 4 * c.args.j)) starts
