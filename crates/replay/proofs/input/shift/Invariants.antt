@@ -1,5 +1,5 @@
 -- `shift`: after each turn one more byte stands at the front.
-use Rattle.std.proofs.Common.{◌-◌, ◌≡◌, ◌≤◌, length}
+use Rattle.std.proofs.Common.{◌-◌, ◌≡◌, ◌≤◌}
 use Rattle.replay.proofs.Front.{front}
 use Rattle.replay.proofs.input.shift.Given as goal
 
