@@ -1,5 +1,6 @@
 // The events of the waiting line, over all tables: joining it, and a turn, which treats the first request.
 #![tactic(auto)]
+
 ghost use Rattle.std.specs.Prelude.{◌≡◌};
 ghost use Rattle.model.specs.declared.event.Event.TheVariants as Event;
 ghost use Rattle.model.specs.Lent.{lined_of};

@@ -42,7 +42,7 @@ fn meet(frame: Frame, line: &mut [u16]) -> u32
 // Whatever the fault said but 20: accepted, the request stays first; any number sends it away and is the result.
 fn settle(done: Worked, waiting: &mut [u16]) -> Worked
     requires { (m : ℕ) × Holds (queue_of (length waiting.old) m waiting.old) }
-    ensures* done { λ r. ⌜ r ≡ record { taken = done.taken; deposited = done.deposited; nulled = done.nulled; answer = record { refusal = 0; result = done.answer.refusal } } ⌝ }
+    ensures done { result ≡ record { taken = done.taken; deposited = done.deposited; nulled = done.nulled; answer = record { refusal = 0; result = done.answer.refusal } } }
     ensures waiting { waiting.new ≡ if (eqb done.answer.refusal 0) waiting.old (pop waiting.old) }
 {
     let answer = done.answer;
@@ -63,7 +63,7 @@ fn settle(done: Worked, waiting: &mut [u16]) -> Worked
 
 // A refused claim refuses the turn; the looks of another are not handed on.
 fn claimed(done: ClaimDone) -> Worked
-    ensures* { λ r. ⌜ r ≡ record { taken = 0; deposited = 0; nulled = done.nulled; answer = record { refusal = done.answer.refusal; result = 0 } } ⌝ }
+    ensures { result ≡ record { taken = 0; deposited = 0; nulled = done.nulled; answer = record { refusal = done.answer.refusal; result = 0 } } }
 {
     let nulled = done.nulled;
     let answer = done.answer;
@@ -80,7 +80,7 @@ fn claimed(done: ClaimDone) -> Worked
 
 // A turn that leaves the pool as it was.
 fn told(res: u32) -> Worked
-    ensures* { λ r. ⌜ r ≡ record { taken = 0; deposited = 0; nulled = 0; answer = record { refusal = 0; result = res } } ⌝ }
+    ensures { result ≡ record { taken = 0; deposited = 0; nulled = 0; answer = record { refusal = 0; result = res } } }
 {
     Worked {
         taken: 0,
