@@ -1,5 +1,6 @@
 // The calls, over everything that is lent: questions 1 and 2 are asked once, then the work is done.
 #![tactic(auto)]
+
 ghost use Rattle.std.specs.Prelude.{◌≡◌, length, replicate};
 ghost use Rattle.model.specs.Lent.{disk_of, all_of};
 ghost use Rattle.model.specs.Calls.{frames_of};
