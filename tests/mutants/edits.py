@@ -1,13 +1,12 @@
-"""The edits of tests/mutants: their lines, and the copy of the repository that each is made in.
+"""The edits of tests/mutants: their lines, and the copy of the crates that each is made in.
 
 An edit's first line, '# ..', says what is wrong. Then:
 
     crate: NAME     the crate whose check must refuse it
     refused: TEXT   the fact that refuses it
-    at: PATH        the file of the first error, from crates/ on; of a crate of definitions alone, this file and the definitions that
-                    it needs of its crate are checked, and of a crate of code the module of the function whose proof it is, or its laws,
-                    and what these need (functions.py)
-    fact: NAME      of such a file, the fact whose lines the first error is in; its other facts are not checked (evidence.py)
+    at: PATH        where an error must be, from crates/ on: a file, or, as NAME/proofs/module/function, that function
+    fact: NAME      of such a file, the fact in whose lines it must be
+    breaks: TEXT    the sentence of docs/SPEC.md that it breaks
     file: PATH      holds for the pairs after it
     old: TEXT       stands in the file once
     new: TEXT       what stands there instead
@@ -18,12 +17,10 @@ import pathlib
 import re
 import shutil
 
-import evidence
-import functions
-
 HERE = pathlib.Path(__file__).resolve().parent
 ROOT = HERE.parent.parent
 ONCE = ("crate", "refused", "at", "fact", "breaks")
+PARTS = ("src", "specs", "proofs")
 
 
 class Bad(Exception):
@@ -34,7 +31,6 @@ class Edit:
     def __init__(self, name):
         self.name, self.what, self.pairs = name, "", []
         self.crate = self.refused = self.at = self.fact = self.breaks = None
-        self.lines = set()  # those of the fact, once the copy is made
         try:
             lines = (HERE / f"{name}.edit").read_text(encoding="utf-8").splitlines()
         except OSError:
@@ -66,64 +62,42 @@ class Edit:
                 self.pairs.append((file, old, value))
                 old = None
 
-    proved = False  # what the prover must say
+    def function(self):
+        """The path of the function that it is refused at, '' if it is none. Functions that call one another have one proof, '+NAME'."""
+        parts = (self.at or "").split("/")
+        known = parts[1:2] == ["proofs"] and "." not in parts[-1]
+        return "::".join(part for part in parts[2:] if part[0] != "+") if known else ""
 
-    def alone(self):
-        """Whether its crate has definitions alone, of which one file is named."""
-        return bool(self.at and self.at.startswith(f"{self.crate}/specs/")) and not (ROOT / "crates" / self.crate / "proofs").exists()
+    def fits(self, file, line, lines):
+        """Whether an error is where the edit says; `lines` are those of its fact."""
+        if not self.at or self.function():
+            return file.startswith((self.at or self.crate) + "/")
+        return file == self.at and (lines is None or line in lines)
 
     def module(self):
-        return pathlib.PurePath(self.at).stem
-
-    def code(self):
-        """The module of code that is checked, '' where the whole crate is."""
-        return functions.module_of(ROOT / "crates" / self.crate, self.at) if self.at else ""
-
-    def kept(self):
-        """Of which module which facts are checked, where its crate has definitions alone: None for all."""
-        return {self.module(): {self.fact} if self.fact else None}
-
-    def fits(self, place):
-        """Whether the first error is where the edit says."""
-        file, _, rest = place.partition(":")
-        return not self.at or file == self.at and (not self.fact or int(rest.partition(":")[0] or 0) in self.lines)
-
-    def place(self):
-        return self.at + (f", {self.fact}" if self.fact else "")
+        """The module of definitions that it is refused in, where its crate has definitions alone and no function; else ''."""
+        crate = ROOT / "crates" / self.crate
+        alone = not any(re.search(r"\bfn \w", path.read_text(encoding="utf-8")) for path in (crate / "src").rglob("*.rt"))
+        return pathlib.PurePath(self.at).stem if alone and (self.at or "").startswith(f"{self.crate}/specs/") else ""
 
     def crates(self):
         """The crates that it changes."""
         return {pathlib.PurePath(file).parts[1] for file, _, _ in self.pairs}
 
-
-class Unedited(Edit):
-    """A crate with no more in it than edits leave of it, and no edit: it must be proved."""
-
-    proved = True
-
-    def __init__(self, crate, kept, code):
-        self.name = "_".join(["unedited", crate, *([code] if code else [])])
-        self.crate, self.pairs, self.facts, self.module_of_code = crate, [], kept, code
-
-    def alone(self):
-        return not self.module_of_code
-
-    def kept(self):
-        return self.facts
-
-    def code(self):
-        return self.module_of_code
-
-
-def unedited(edits):
-    """For each module of code that edits leave of a crate, and for the facts that they leave of one, that crate without an edit."""
-    facts, modules = {}, sorted({(edit.crate, edit.code()) for edit in edits if edit.code()})
-    for edit in edits:
-        if edit.alone():
-            kept = facts.setdefault(edit.crate, {})
-            before = kept.get(edit.module(), set())
-            kept[edit.module()] = None if edit.fact is None or before is None else before | {edit.fact}
-    return [Unedited(crate, kept, "") for crate, kept in facts.items()] + [Unedited(crate, None, code) for crate, code in modules]
+    def lines(self, root):
+        """The lines of its fact, in the copy: those of the name, and what is below and further in."""
+        found, inside = set(), None
+        for number, line in enumerate((root / "crates" / self.at).read_text(encoding="utf-8").split("\n"), 1):
+            deep = len(line) - len(line.lstrip())
+            if re.match(rf"\s*(pub )?{re.escape(self.fact)} [:=]", line):
+                inside = deep
+            elif inside is not None and line.strip() and deep <= inside and not line.startswith("unfolding "):
+                inside = None
+            if inside is not None:
+                found.add(number)
+        if not found:
+            raise Bad(f"there is no fact {self.fact} in {self.at}")
+        return found
 
 
 def names():
@@ -133,44 +107,7 @@ def names():
 def dependencies():
     """What each crate of crates.txt depends on."""
     rows = (line.split("#")[0].partition(":") for line in (ROOT / "crates.txt").read_text().splitlines())
-    return {name.strip(): words.split() for name, colon, words in rows if colon}
-
-
-def touched(changed):
-    """The crates that are proved anew once some are changed: these, and all that depend on them."""
-    found, needs = set(changed), dependencies()
-    while True:
-        more = {name for name, words in needs.items() if found & set(words)} - found
-        if not more:
-            return found
-        found |= more
-
-
-def taken(edit):
-    """The crates whose libraries its check takes over; a program has none."""
-    return {crate for crate in {edit.crate, *below(edit.crate)} & set(dependencies()) if not is_program(crate)}
-
-
-def lent(edit):
-    """Those of them that the edit does not touch."""
-    return taken(edit) - {edit.crate, *between(edit)}
-
-
-def missing(edit):
-    """Those of which the libraries are not proved."""
-    return sorted(crate for crate in taken(edit) if not (ROOT / "target" / "stamp" / crate).is_file())
-
-
-def apply(edit, to):
-    for file, old, new in edit.pairs:
-        path = to / file
-        try:
-            text = path.read_text(encoding="utf-8")
-        except OSError:
-            raise Bad("there is no file " + file) from None
-        if text.count(old) != 1:
-            raise Bad("the old text does not stand once in " + file)
-        path.write_text(text.replace(old, new), encoding="utf-8")
+    return {name.split()[0]: words.split() for name, colon, words in rows if colon}
 
 
 def below(crate):
@@ -186,88 +123,84 @@ def below(crate):
 
 def between(edit):
     """The crates below the edit's own that it touches, so that they are checked with it."""
-    return sorted(below(edit.crate) & touched(edit.crates()))
+    return sorted(name for name in below(edit.crate) & set(dependencies()) if {name, *below(name)} & edit.crates())
 
 
-def lend_checked(edit, to):
-    """The modules of the crates to check that were checked as they were proved, where the incremental check looks for them."""
-    folders = list((ROOT / "target" / "inc").glob("*/antt-checked-*"))
-    if not folders:
-        return
-    into = to / "target" / "inc" / edit.crate / folders[0].name
-    for crate in (edit.crate, *between(edit)):
-        checked = ROOT / "target" / "rlib" / f"{crate}.rlib" / "toolchain" / "checked"
-        kept = [folder for folder in folders if folder.parent.name == crate]
-        if checked.is_dir() or kept:
-            shutil.copytree(checked if checked.is_dir() else kept[0], into, dirs_exist_ok=True)
+def root_of(crate):
+    """The root file of a crate."""
+    main = crate / "src" / "main.rt"
+    return main if main.is_file() else crate / "src" / "lib.rt"
 
 
-def command(crate, sources, at, to, cut=False):
-    """What checks a crate in a folder `at`: the checker as rt dev calls it, but with the crates below that an edit touches as source, so
-    that no more of them is checked again than the edit touches, and, of a crate that is cut, with the libraries that are left in it
-    alone. What it checks is kept in `to`."""
-    kit, proved = pathlib.Path(shutil.which("rt") or "rt").resolve().parent.parent, ROOT / "target" / "rlib"
-    own = kit / "on" / os.uname().machine
-    words = [own / "bin" / "rattle", "check", "--crate-name", crate, functions.root_of(at / "crates" / crate), "--extern", f"std={own}/rlib/std.rlib"]
-    names = named(crate, sources)
-    for name in functions.used(at / "crates" / crate, names) if cut and not sources else names:
-        library = proved if name in dependencies() else own / "rlib"
-        words += ["--lib", f"{name}={functions.root_of(at / 'crates' / name)}"] if name in sources else ["--extern", f"{name}={library}/{name}.rlib"]
-    words += ["-L", f"dependency={proved}", "-L", f"dependency={own}/rlib", "--antt-project", kit / "logic" / "antt-project.json"]
-    return [*map(str, words), "--logic-built", str(own / "logic-built"), "--incremental", str(to / "target" / "inc" / crate)]
+def apply(edit, to):
+    for file, old, new in edit.pairs:
+        path = to / file
+        try:
+            text = path.read_text(encoding="utf-8")
+        except OSError:
+            raise Bad("there is no file " + file) from None
+        if text.count(old) != 1:
+            raise Bad("the old text does not stand once in " + file)
+        path.write_text(text.replace(old, new), encoding="utf-8")
 
 
-def named(crate, sources):
-    """What a crate depends on, and what those that are checked as source with it need besides."""
-    needs = dependencies()
-    return dict.fromkeys(name for one in (crate, *sources) for name in needs[one])
-
-
-def is_program(crate):
-    return functions.root_of(ROOT / "crates" / crate).name == "main.rt"
-
-
-def needed(crate, modules):
-    """Modules of a crate of definitions alone, and what they need of it: their texts by name."""
-    found, todo = {}, set(modules)
+def keep_needed(crate, module):
+    """Leaves out of a crate of definitions alone the modules that one of them does not need."""
+    found, todo = set(), {module}
     while todo:
         name = todo.pop()
         if not (crate / "specs" / f"{name}.antt").is_file():
             raise Bad(f"there is no module {name} in {crate.name}")
-        found[name] = (crate / "specs" / f"{name}.antt").read_text(encoding="utf-8")
-        todo |= set(re.findall(rf"^use Rattle·{crate.name}·specs\.specs\.(\w+)", found[name], re.M)) - set(found)
-    return found
-
-
-def keep_facts(crate, kept):
-    """Of a crate of definitions alone, modules with these facts, all if None, and the definitions that they need of their crate. Gives
-    the lines of each fact that is named."""
-    before, lib = needed(crate, kept), crate / "specs" / "Lib.antt"
-    after, lines = evidence.trimmed(before, kept)
-    for module, facts in kept.items():
-        for fact in facts or ():
-            if (module, fact) not in lines:
-                raise Bad(f"there is no fact {fact} by itself in {crate.name}/specs/{module}.antt")
+        found.add(name)
+        text = (crate / "specs" / f"{name}.antt").read_text(encoding="utf-8")
+        todo |= set(re.findall(rf"^use Rattle\.{crate.name}\.specs\.(\w+)", text, re.M)) - found
+    lib = crate / "specs" / "Lib.antt"
     told = lib.read_text(encoding="utf-8").splitlines(keepends=True)
-    lib.write_text("".join(line for line in told if not line.startswith("pub mod ") or line.split()[2] in before), encoding="utf-8")
+    lib.write_text("".join(line for line in told if not line.startswith("pub mod ") or line.split()[2] in found), encoding="utf-8")
     for path in (crate / "specs").glob("*.antt"):
-        if path.stem in before:
-            path.write_text(after[path.stem], encoding="utf-8")
-        elif path != lib:
+        if path != lib and path.stem not in found:
             path.unlink()
-    return lines
+
+
+def linked(one, other):
+    """What was checked is linked: a check replaces such a file, and changes none."""
+    if one.endswith(".oantt"):
+        try:
+            return os.link(one, other)
+        except OSError:
+            pass
+    return shutil.copy2(one, other)
 
 
 def make(edit, to):
-    """A copy of the crates to check with the edit made, over what is proved."""
-    shutil.rmtree(to, ignore_errors=True)
-    os.makedirs(to / "crates")
+    """A copy of the crates to check with the edit made, and what was kept of them as they were proved."""
     for crate in {edit.crate, *between(edit), *edit.crates()}:
-        shutil.copytree(ROOT / "crates" / crate, to / "crates" / crate)
+        for part in PARTS:
+            if (ROOT / "crates" / crate / part).is_dir():
+                shutil.copytree(ROOT / "crates" / crate / part, to / "crates" / crate / part)
+        kept = ROOT / "crates" / crate / "out" / "incremental"
+        if kept.is_dir():
+            shutil.copytree(kept, to / "kept", copy_function=linked, dirs_exist_ok=True)
     apply(edit, to)
-    if edit.alone():
-        lines = keep_facts(to / "crates" / edit.crate, edit.kept())
-        edit.lines = set() if edit.proved else lines.get((edit.module(), edit.fact), set())
-    elif edit.code():
-        functions.keep(to / "crates" / edit.crate, edit.code())
-    lend_checked(edit, to)
+    if edit.module():
+        keep_needed(to / "crates" / edit.crate, edit.module())
+
+
+def command(edit, to, kit):
+    """What checks the copy: the checker as rt asks it, but with the crates below that the edit touches as source, so that no more of them
+    is checked again than the edit's crate needs."""
+    needs, sources = dependencies(), between(edit)
+    used = dict.fromkeys(name for one in (edit.crate, *sources) for name in needs[one])
+    words = [kit / "bin" / "rattle", "check", "--crate-name", edit.crate, root_of(to / "crates" / edit.crate).relative_to(to)]
+    for name in dict.fromkeys(["std", *(["core"] if sources else []), *used]):
+        built = ROOT / "crates" / name / "out" / "rlib" if name in needs else kit / "rlibs"
+        if name in sources:
+            uses = ",".join(["core", "std", *needs[name]])
+            words += ["--lib", f"{name}:{uses}={root_of(to / 'crates' / name).relative_to(to)}"]
+        else:
+            words += ["--extern", f"{name}={built / name}.rlib"]
+    for name in sorted(below(edit.crate) & set(needs) - set(sources)):
+        words += ["-L", f"dependency={ROOT / 'crates' / name / 'out' / 'rlib'}"]
+    words += ["-L", f"dependency={kit / 'rlibs'}", "--antt-project", kit / "rattle" / "logic" / "antt-project.json"]
+    words += ["--logic-built", kit / "logic_built", "--jobs", "1", "--incremental", "kept"]
+    return [*map(str, words), *(["--only", edit.function()] if edit.function() else [])]

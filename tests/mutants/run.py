@@ -1,18 +1,18 @@
 #!/usr/bin/env python3
 """Wrong definitions that a theorem must refuse, and wrong programs that a contract must.
 
-    run.py [NAME ..]      tries the edits tests/mutants/NAME.edit, all of them if none is named, two at a time
-    run.py --beside FILE  all of them while 'rt ci' proves the crates, which it does as long as FILE is there: each once the crates that it
-                          takes over are proved, one at a time, and two once FILE is gone
+    run.py [NAME ..]      tries the edits tests/mutants/NAME.edit, all of them if none is named
+    run.py --minutes M    begins no more of them after so many minutes; which are the first changes with each commit
     run.py --list         each edit: its crate, its name, what is wrong, the fact that refuses it
 
-Each edit is made in a copy of its crates, and its crate is checked there, with the crates below that it touches, over the modules that
-were checked as they were proved: only what the edit touches is checked again. It counts as refused if the prover says that it is not
-proved, and if the first error is where the edit says (`at:`, `fact:`). A tool that crashes, runs out of memory or takes more than
-MUTANT_SECONDS (1,800, if not set) has refused nothing: the edit has failed then. Where facts or functions of a crate are left out, what
-is left must be proved without an edit. Each copy is removed once its edit is judged. The last line counts.
+Each edit is made in a copy of its crates, and its crate is checked there, begun with what 'rt check' kept of the crate as it is, which has
+to be proved: only what the edit touches is checked again. It counts as refused if the prover says that it is not proved, the edited text
+can be read, and the first error that is more than a missing name is where the edit says (`at:`, `fact:`). A tool that crashes, runs out of
+memory or takes more than MUTANT_SECONDS (900, if not set) has refused nothing: the edit has failed then. RT_JOBS says how many are tried at
+a time. The last line counts.
 """
 
+import collections
 import concurrent.futures
 import contextlib
 import itertools
@@ -30,11 +30,20 @@ import time
 import edits
 from edits import Bad, Edit
 
-TARGET = edits.ROOT / "target"
 MEMORY = pathlib.Path("/dev/shm")
-SECONDS = int(os.environ.get("MUTANT_SECONDS", "1800"))
-JOBS = int(os.environ.get("RT_JOBS", "2"))
-running, ended, warming, warmed = set(), threading.Event(), threading.Lock(), set()
+SECONDS = int(os.environ.get("MUTANT_SECONDS", "900"))
+JOBS = int(os.environ.get("RT_JOBS", str(os.cpu_count() or 1)))
+ERROR = re.compile(r"^(?:\./)?crates/([^\s:]+)(?::(\d+):\d+)?: error: (?:(`[^`]*`): )?(.*)", re.M)
+GOAL = re.compile(r"^note: (?:\./)?crates/([^\s:]+):(\d+):\d+: it is not proved that", re.M)
+QUOTED = re.compile(r"`[^`]*`")
+UNREAD = re.compile(r"is not in scope|has no field|is no name|operand is missing|expected the end|cannot continue")
+# a name that is missing, and what cannot be checked for it
+NAMES = re.compile(r"is not in scope|has no field|has no +that can be named|is no name|declarations? that depends? on|this file exports no")
+running, ended, proving, proved = set(), threading.Event(), collections.defaultdict(threading.Lock), {}
+
+
+def kit():
+    return pathlib.Path(shutil.which("rt") or "rt").resolve().parent.parent
 
 
 def kill(tool):
@@ -44,31 +53,27 @@ def kill(tool):
             os.killpg(tool.pid, signal.SIGKILL)
 
 
-def room(beside):
-    """The folder of the copies: in memory, where there are 8 GB of it, since a copy is thousands of small files; else in target/, which
-    rt ci makes anew at its start."""
+def room():
+    """The folder of the copies: in memory, where there are 4 GB of it, since a check writes thousands of small files."""
     with contextlib.suppress(OSError):
         space = os.statvfs(MEMORY)
-        if space.f_bavail * space.f_frsize >= 8 << 30 and os.access(MEMORY, os.W_OK):
+        if space.f_bavail * space.f_frsize >= 4 << 30 and os.access(MEMORY, os.W_OK):
             return pathlib.Path(tempfile.mkdtemp(prefix="mutants-", dir=MEMORY))
-    while beside and beside.exists() and not (TARGET / "stamp").exists():
-        time.sleep(0.1)
-    TARGET.mkdir(exist_ok=True)
-    return pathlib.Path(tempfile.mkdtemp(prefix="mutants-", dir=TARGET))
+    return pathlib.Path(tempfile.mkdtemp(prefix="mutants-"))
 
 
-def check(command, folder, log, **more):
+def check(command, folder, log, seconds, **more):
     """What a check ends with, and what it prints."""
     with open(log, "wb") as out:
-        # a group of its own, so that what it has started ends with it, in the same session, so that it is nice to what else runs there
+        # a group of its own, so that what it has started ends with it
         tool = subprocess.Popen(command, cwd=folder, stdout=out, stderr=subprocess.STDOUT, process_group=0, env={**os.environ, **more})
         running.add(tool)
         if ended.is_set():  # ended from outside between the start and here
             kill(tool)
         try:
-            status = tool.wait(SECONDS)
+            status = tool.wait(seconds)
         except subprocess.TimeoutExpired:
-            raise Bad(f"no verdict: the check took more than {SECONDS} s") from None
+            raise Bad(f"no verdict: the check took more than {seconds} s") from None
         finally:
             kill(tool)
             tool.wait()
@@ -76,36 +81,62 @@ def check(command, folder, log, **more):
     return status, log.read_text(encoding="utf-8", errors="replace")
 
 
-def refused_by(edit, status, text):
-    """The crate that is refused, and where first, or '' if it is not; a tool that failed gave no verdict."""
+def prove(crate, work):
+    """Sees that a crate is proved as it is, once: rt keeps what it checked, and builds the libraries below it."""
+    with proving[crate]:
+        if crate not in proved:
+            proved[crate] = not check(["rt", "check"], edits.ROOT / "crates" / crate, work / f"{crate}.log", None)[0]
+    if not proved[crate]:
+        raise Bad(f"no verdict: {crate} is not proved without the edit")
+
+
+def errors(text):
+    """The errors of a check: each file and line, whether it has a name, and what is said without what is quoted."""
+    for file, line, name, said in (found.groups() for found in ERROR.finditer(text)):
+        yield file, int(line or 0), bool(name), QUOTED.sub("", said)
+
+
+def unread(edit, text):
+    """The file and line of the first error by which the edited text cannot be read, or ''."""
+    changed = {file.removeprefix("crates/") for file, _, _ in edit.pairs}
+    for file, line, named, said in errors(text):
+        own = file in changed or file.split("/")[1] in ("src", "specs")
+        if own and (UNREAD.search(said) or not named and not NAMES.search(said)):
+            return f"{file}:{line}"
+    return ""
+
+
+def refused_at(edit, status, text, to):
+    """Where the edit is refused, and whether that is where it must be; '' if it is not. A tool that failed gave no verdict."""
     if status == 0:
-        return ""
+        return "", False
     if status != 1:
         raise Bad(f"no verdict: the check ended with exit {status}")
-    if not re.search(r"^logic=not-proved", text, re.M):
+    if not re.search(r"^(logic=not-proved|only=\d+ proved=\d+)", text, re.M):
         raise Bad("no verdict: the edit did not reach the prover")
-    first = re.search(r"crates/(\S+?): (?:error:|it is not proved)", text)
-    return edit.crate + (", at " + first.group(1) if first else "")
+    if unread(edit, text):
+        raise Bad(f"no verdict: the edited text cannot be read at {unread(edit, text)}")
+    places = [(file, line) for file, line, _, said in errors(text) if not NAMES.search(said)]
+    goals = [(file, int(line)) for file, line in GOAL.findall(text)] if open_at(edit, text) else []
+    if not places and not goals:
+        raise Bad("no verdict: only proofs that name what is gone")
+    lines = edit.lines(to) if edit.fact else None
+    fit = [place for place in places if edit.fits(*place, lines)] + goals
+    return "{}:{}".format(*(fit or places)[0]), bool(fit)
 
 
-def verdict(edit, place):
-    """Whether what the prover says is what it must say, and this in words."""
-    if edit.proved:
-        return not place, f"FAILED, refused by {place}" if place else "proved without an edit"
-    if not place:
-        return False, "FAILED, accepted: everything is proved with this edit"
-    if not edit.fits(place.partition(", at ")[2]):
-        return False, f"FAILED, refused by {place}, not at {edit.place()}"
-    return True, "refused by " + place
+def open_at(edit, text):
+    """Whether the edit's function, or one of the crate's where it names none, has a goal that is not proved."""
+    name = edit.function() or ("" if edit.at else r"\S+")
+    return bool(name and re.search(rf"^fn {edit.crate}::{name}: (not proved|no proof)(?!.*it calls)", text, re.M))
 
 
 def tried(edit, to):
-    """What the prover says of a copy with the edit made: the crate that is refused and where, or ''; and its words."""
+    """What the prover says of a copy with the edit made: where it is refused, or ''; whether that is where it must be; and its words."""
+    os.makedirs(to / "lent")  # where the checker puts what it reads of libraries
     edits.make(edit, to)
-    (to / "lent").mkdir()  # where the checker puts what it reads of libraries
-    words = edits.command(edit.crate, edits.between(edit), to, to, bool(edit.code()))
-    status, text = check(words, to, to / "check.log", TMPDIR=str(to / "lent"))
-    return refused_by(edit, status, text), text
+    status, text = check(edits.command(edit, to, kit()), to, to / "check.log", SECONDS, TMPDIR=str(to / "lent"))
+    return *refused_at(edit, status, text, to), text
 
 
 def judge(edit, work):
@@ -114,66 +145,51 @@ def judge(edit, work):
     try:
         if ended.is_set():
             raise Bad("ended from outside")
-        warm(edit)
-        place, _ = tried(edit, to)
-        return *verdict(edit, place), time.monotonic() - start
+        prove(edit.crate, work)
+        start = time.monotonic()
+        place, well, _ = tried(edit, to)
+        said = f"refused at {place}" if well else f"FAILED, refused at {place}, not at {edit.at or edit.crate} {edit.fact or ''}".rstrip()
+        return well, said if place else "FAILED, accepted: everything is proved with this edit", time.monotonic() - start
     except (Bad, OSError) as bad:
         return False, f"FAILED, {bad}", time.monotonic() - start
     finally:
         shutil.rmtree(to, ignore_errors=True)
 
 
-def warm(edit):
-    """What the copies take over and no library holds: the name of the folder of checked modules, and the modules of a program that is
-    checked whole."""
-    first = next(iter(edits.dependencies()))
-    with warming:
-        for name in (first, *([edit.crate] if edits.is_program(edit.crate) and not edit.code() else [])):
-            if name not in warmed:
-                status, _ = check(edits.command(name, (), edits.ROOT, edits.ROOT), edits.ROOT, TARGET / "mutants.log")
-                if status:
-                    raise Bad(f"no verdict: the check of {name} without an edit ended with exit {status}")
-                warmed.add(name)
-
-
-def prove(crates):
-    """What is taken over is proved as it is now: rt proves again what has changed, and takes the stamp of what is not proved."""
-    if crates:
-        TARGET.mkdir(exist_ok=True)
-        check(["rt", "check", *sorted(crates)], edits.ROOT, TARGET / "mutants.log")
-
-
 def found(names):
-    """The edits of these names, those of the first crates first; and for a name of none why."""
-    known, bad, order = [], [], list(edits.dependencies())
+    """The edits of these names, and for a name of none why. First one of each crate, the lowest crate first, then the next of each."""
+    known, bad, order = collections.defaultdict(list), [], list(edits.dependencies())
     for name in names:
         try:
-            known.append(Edit(name))
+            edit = Edit(name)
+            known[edit.crate].append(edit)
         except Bad as why:
             bad.append((name, (False, f"FAILED, {why}", 0)))
-    known += edits.unedited(known)
-    return sorted(known, key=lambda edit: order.index(edit.crate) if edit.crate in order else len(order)), bad
+    rounds = [(number, order.index(crate), edit) for crate, some in known.items() for number, edit in enumerate(turned(some))]
+    return [edit for _, _, edit in sorted(rounds, key=lambda row: row[:2])], bad
 
 
-def judged(todo, beside, work):
-    """Each edit with what it comes to, as it is judged: of those whose crates are proved the first."""
+def turned(some):
+    """The edits of a crate, begun with another one at each commit."""
+    ran = subprocess.run(["git", "rev-list", "--count", "HEAD"], cwd=edits.ROOT, capture_output=True, text=True)
+    by = int(ran.stdout) * 5 % len(some) if ran.stdout.strip() else 0
+    return some[by:] + some[:by]
+
+
+def judged(todo, work, until):
+    """Each edit with what it comes to, as it is judged, as long as there is time to begin one."""
     todo, jobs = list(todo), {}
     with concurrent.futures.ThreadPoolExecutor(JOBS) as pool:
         while todo or jobs:
-            proving = bool(beside and beside.exists() and not ended.is_set())
-            ready = [edit for edit in todo if not edits.missing(edit)]
-            for edit in (ready if proving else ready or todo)[: (1 if proving else JOBS) - len(jobs)]:
-                todo.remove(edit)
-                jobs[pool.submit(judge if not edits.missing(edit) else unproved, edit, work)] = edit
-            done, _ = concurrent.futures.wait(jobs, 0.5, concurrent.futures.FIRST_COMPLETED)
-            if not jobs:
-                time.sleep(0.5)
+            while todo and len(jobs) < JOBS:
+                edit = todo.pop(0)
+                jobs[pool.submit(judge, edit, work)] = edit
+            done, _ = concurrent.futures.wait(jobs, None, concurrent.futures.FIRST_COMPLETED)
             for job in done:
                 yield jobs.pop(job).name, job.result()
-
-
-def unproved(edit, _):
-    return False, f"FAILED, no verdict: not proved before the edit: {' '.join(edits.missing(edit))}", 0
+            if todo and time.monotonic() > until:
+                print(f"the time is over: {len(todo)} edits are not tried", flush=True)
+                todo = []
 
 
 def end(*_):
@@ -193,16 +209,13 @@ def main(words):
         listing()
         return 0
     signal.signal(signal.SIGTERM, end)
-    beside = pathlib.Path(words[1]) if words[:1] == ["--beside"] else None
-    todo, bad = found(edits.names() if beside or not words else words)
-    if beside:
-        os.nice(10)  # the crates come first
-    else:
-        prove(set().union(*(edits.taken(edit) for edit in todo)))
+    timed = words[:1] == ["--minutes"]
+    until = time.monotonic() + 60 * float(words[1]) if timed else float("inf")
+    todo, bad = found(edits.names() if timed or not words else words)
     passed = count = 0
-    work = room(beside)
+    work = room()
     try:
-        for name, (ok, said, seconds) in itertools.chain(bad, judged(todo, beside, work)):
+        for name, (ok, said, seconds) in itertools.chain(bad, judged(todo, work, until)):
             passed, count = passed + ok, count + 1
             print(f"mutant {name}: {said} ({seconds:.0f} s)", flush=True)
     finally:

@@ -5,15 +5,15 @@ use Prim.Native.Nat.{ℕ, zero, suc, ◌+◌, ◌-◌, ◌*◌, ◌/◌, ◌%◌
 use native.Mathlib.Omega.{arith}
 use native.Mathlib.Numerals.{add-one}
 use lib.Dec.{eqb}
-use lib.ListN.{length, set, length-set}
+use lib.ListN.{length, set}
 use Rattle.tables.specs.Base.{at}
-use Rattle.tables.specs.Laws.{count_bound, length_tab}
+use Rattle.tables.specs.Laws.{count_bound}
 use Rattle.tables.specs.Rule.{same}
 use Rattle.tables.specs.Store.{store, length_store}
 use Rattle.tables.specs.StoreLoops.{part_fits}
 use Rattle.model.specs.declared.sizes.Sizes.{Sizes}
 use Rattle.model.specs.Lines.{FREE, FILED}
-use Rattle.model.specs.State.{State, free_count, free_word, map_words}
+use Rattle.model.specs.State.{State, free_count}
 use Rattle.model.specs.Parts.{picked, set_part}
 use Rattle.leaves.specs.FreeMap.{free_map_table}
 use Rattle.sheets.specs.Sheet.{words_in, place_of, page_in, word_in}
@@ -52,32 +52,10 @@ module _ (z : Sizes) (s hand : ℕ) (b : List ℕ) (c : ℕ) (records₀ states�
   long_records zero = g.records_long
   long_records (suc k) = length_store (records_after z st s (sheet_of b) k records₀) _ _ ∙ long_records k
 
-  pub long_entries : (k : ℕ) → length (entries_after z st s (sheet_of b) k entries₀) ≡ length entries₀
-  unfolding entries_after
-  long_entries zero = refl
-  long_entries (suc k) = length-set (entries_after z st s (sheet_of b) k entries₀) _ _ ∙ long_entries k
-
   last_small : (k : ℕ) → (taking z st s k).last < 65536
   unfolding taking
   last_small zero = omega arith
   last_small (suc k) = omega (arith, T.next_last z st s g.sizes.records g.states_long g.owners_long g.hand_below k, taken_below z st s g.sizes.records g.states_long g.owners_long g.hand_below k, g.sizes.records_most)
-
-  -- lengths stay
-  module _ (k : ℕ) {records states owners map entries : List ℕ} {last : ℕ} (a : At k records states owners map entries last) where
-    pub same_records : length records ≡ length records₀
-    same_records = ap length a.records_are ∙ long_records k ∙ sym g.records_long
-
-    pub same_states : length states ≡ length states₀
-    same_states = ap length a.states_are ∙ T.states_long z st s g.sizes.records g.states_long g.owners_long g.hand_below k ∙ sym g.states_long
-
-    pub same_owners : length owners ≡ length owners₀
-    same_owners = ap length a.owners_are ∙ T.owners_are_long z st s g.sizes.records g.states_long g.owners_long g.hand_below k ∙ sym g.owners_long
-
-    pub same_map : length map ≡ length map₀
-    same_map = ap length a.map_tells ∙ length_tab (map_words z) (free_word z (at states)) 0 ∙ sym (ap length g.told ∙ length_tab (map_words z) (free_word z (at states₀)) 0)
-
-    pub same_entries : length entries ≡ length entries₀
-    same_entries = ap length a.entries_are ∙ long_entries k
 
   -- ── what the calls ask ──
   module _ (k : ℕ) (h : k < c) {records states owners map entries : List ℕ} {last : ℕ} (a : At k records states owners map entries last) where

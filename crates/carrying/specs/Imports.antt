@@ -11,7 +11,6 @@ use Rattle.model.specs.State.{free_count, all_pages}
 use Rattle.model.specs.Parts.{of_slot}
 use Rattle.model.specs.Payer.{payer}
 use Rattle.model.specs.Pool.{taken}
-use Rattle.model.specs.Lent.{Table}
 use Rattle.model.specs.Questions.{import_questions}
 use Rattle.model.specs.Step.{Outcome, outcome}
 use Rattle.model.specs.Import.{sheet_of, taking, entry}
@@ -45,14 +44,14 @@ tables_of pool records numbers accounts maps highest states owners free_map used
   used = used;
 }
 
--- ── by bare names: as they were passed, and as they are left ──
-abbrev pub entered_tables : Pool → Table → Table → Table → Table → Table → Table → Table → Table → Table → Tables
+-- ── as they were passed, and as they are left ──
+abbrev pub entered_tables : Pool → List ℕ → List ℕ → List ℕ → List ℕ → List ℕ → List ℕ → List ℕ → List ℕ → List ℕ → Tables
 entered_tables pool records numbers accounts maps highest states owners free_map used =
-    tables_of pool records.entry.now numbers.entry.now accounts.entry.now maps.entry.now highest.entry.now states.entry.now owners.entry.now free_map.entry.now used.entry.now
+    tables_of pool records numbers accounts maps highest states owners free_map used
 
-abbrev pub left_tables : Pool → Table → Table → Table → Table → Table → Table → Table → Table → Table → Tables
+abbrev pub left_tables : Pool → List ℕ → List ℕ → List ℕ → List ℕ → List ℕ → List ℕ → List ℕ → List ℕ → List ℕ → Tables
 left_tables pool records numbers accounts maps highest states owners free_map used =
-    tables_of pool records.exit.now numbers.exit.now accounts.exit.now maps.exit.now highest.exit.now states.exit.now owners.exit.now free_map.exit.now used.exit.now
+    tables_of pool records numbers accounts maps highest states owners free_map used
 
 abbrev pub answered : Answer → Tables → Outcome Tables
 answered answer left = record { answer = answer; left = left }

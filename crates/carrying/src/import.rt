@@ -133,9 +133,9 @@ pub fn import(
     used: &mut [u16],
 ) -> Imported
     requires { Importing sizes pool records.old maps.old states.old owners.old free_map.old }
-    ensures { answered result.answer (left_tables result.pool records numbers accounts maps highest states owners free_map used)
+    ensures { answered result.answer (left_tables result.pool records.new numbers.new accounts.new maps.new highest.new states.new owners.new free_map.new used.new)
         ≡ import_of sizes slot account number sheet.now limits.now parents.now
-        (entered_tables pool records numbers accounts maps highest states owners free_map used) }
+        (entered_tables pool records.old numbers.old accounts.old maps.old highest.old states.old owners.old free_map.old used.old) }
 {
     let asked = ask_import(
         sizes, slot, account, number, sheet, pool.free, numbers, limits, parents, highest, used,

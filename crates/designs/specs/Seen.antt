@@ -3,7 +3,7 @@ use Rattle.std.specs.Prelude.{List, [], ℕ}
 use Rattle.model.specs.declared.frame.Frame.{Frame}
 use Rattle.model.specs.State.{State}
 use Rattle.model.specs.Setters.{on_disk, on_core, on_held, on_slots, set_numbers, set_accounts, set_maps, set_highest, set_frames, set_addresses, set_states, set_owners, set_active, set_updating}
-use Rattle.model.specs.Lent.{Table, no_state}
+use Rattle.model.specs.Lent.{no_state}
 
 -- of a create: numbers, accounts, the highest number
 abbrev pub seen_create : List ℕ → List ℕ → List ℕ → State
@@ -20,21 +20,21 @@ seen_turns frames numbers maps addresses states owners active updating =
     on_disk (λ d. set_numbers numbers (set_maps maps d)) (on_core (set_frames frames) (on_held (λ h. set_addresses addresses (set_states states (set_owners owners h)))
     (on_slots (λ a. set_active active (set_updating updating a)) no_state)))
 
--- ── as they were passed, by bare names: what the contracts speak of ──
+-- ── as they were passed: what the contracts speak of ──
 -- to a create,
-abbrev pub entered_create : Table → Table → Table → State
-entered_create numbers accounts highest = seen_create numbers.entry.now accounts.entry.now highest.entry.now
+abbrev pub entered_create : List ℕ → List ℕ → List ℕ → State
+entered_create numbers accounts highest = seen_create numbers accounts highest
 
 -- a delete,
-abbrev pub entered_delete : Table → Table → Table → Table → State
-entered_delete numbers accounts maps active = seen_files numbers.entry.now accounts.entry.now maps.entry.now active.entry.now
+abbrev pub entered_delete : List ℕ → List ℕ → List ℕ → List ℕ → State
+entered_delete numbers accounts maps active = seen_files numbers accounts maps active
 
 -- an activate
-abbrev pub entered_activate : Table → Table → Table → Table → Table → Table → State
+abbrev pub entered_activate : List ℕ → List ℕ → List ℕ → List ℕ → List ℕ → List ℕ → State
 entered_activate numbers maps addresses states owners active =
-    seen_turns [] numbers.entry.now maps.entry.now addresses.entry.now states.entry.now owners.entry.now active.entry.now []
+    seen_turns [] numbers maps addresses states owners active []
 
 -- and a deactivate
-abbrev pub entered_deactivate : List Frame → Table → Table → Table → Table → Table → Table → Table → State
+abbrev pub entered_deactivate : List Frame → List ℕ → List ℕ → List ℕ → List ℕ → List ℕ → List ℕ → List ℕ → State
 entered_deactivate frames numbers maps addresses states owners active updating =
-    seen_turns frames numbers.entry.now maps.entry.now addresses.entry.now states.entry.now owners.entry.now active.entry.now updating.entry.now
+    seen_turns frames numbers maps addresses states owners active updating

@@ -25,10 +25,10 @@ pub fn activate(
     active: &mut [u8],
 ) -> Answer
     requires { Turning sizes maps.now addresses.old states.old owners.now }
-    ensures answer { result ≡ (own sizes (entered_activate numbers maps addresses states owners active) (Event.Design (Design.Activate slot))).answer }
-    ensures addresses { addresses.new ≡ (own sizes (entered_activate numbers maps addresses states owners active) (Event.Design (Design.Activate slot))).left.memory.held.addresses }
-    ensures states { states.new ≡ (own sizes (entered_activate numbers maps addresses states owners active) (Event.Design (Design.Activate slot))).left.memory.held.states }
-    ensures active { active.new ≡ (own sizes (entered_activate numbers maps addresses states owners active) (Event.Design (Design.Activate slot))).left.memory.slots.active }
+    ensures answer { result ≡ (own sizes (entered_activate numbers.now maps.now addresses.old states.old owners.now active.old) (Event.Design (Design.Activate slot))).answer }
+    ensures addresses { addresses.new ≡ (own sizes (entered_activate numbers.now maps.now addresses.old states.old owners.now active.old) (Event.Design (Design.Activate slot))).left.memory.held.addresses }
+    ensures states { states.new ≡ (own sizes (entered_activate numbers.now maps.now addresses.old states.old owners.now active.old) (Event.Design (Design.Activate slot))).left.memory.held.states }
+    ensures active { active.new ≡ (own sizes (entered_activate numbers.now maps.now addresses.old states.old owners.now active.old) (Event.Design (Design.Activate slot))).left.memory.slots.active }
 {
     let refusal = ask_activate(sizes, slot, numbers, active);
     if refusal != 0 {

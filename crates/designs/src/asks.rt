@@ -136,7 +136,7 @@ pub fn ask_deactivate(
     updating: &[u8],
 ) -> u32
     requires { Within sizes × (length states.now ≤ length owners.now) }
-    ensures { result ≡ first_no (questions sizes (entered_deactivate (frames_entered sizes frames) numbers maps addresses states owners active updating) (Event.Design (Design.Deactivate slot))) }
+    ensures { result ≡ first_no (questions sizes (entered_deactivate (frames_entered sizes frames) numbers.now maps.now addresses.now states.now owners.now active.now updating.now) (Event.Design (Design.Deactivate slot))) }
 {
     let no = ask_idle(slot < sizes.slots, slot, numbers, active, updating);
     if no != 0 {

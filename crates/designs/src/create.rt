@@ -21,10 +21,10 @@ pub fn create(
     highest: &mut [u32],
 ) -> Answer
     requires { Within sizes }
-    ensures answer { result ≡ (own sizes (entered_create numbers accounts highest) (Event.Design (Design.Create slot account number))).answer }
-    ensures numbers { numbers.new ≡ (own sizes (entered_create numbers accounts highest) (Event.Design (Design.Create slot account number))).left.disk.numbers }
-    ensures accounts { accounts.new ≡ (own sizes (entered_create numbers accounts highest) (Event.Design (Design.Create slot account number))).left.disk.accounts }
-    ensures highest { highest.new ≡ (own sizes (entered_create numbers accounts highest) (Event.Design (Design.Create slot account number))).left.disk.highest }
+    ensures answer { result ≡ (own sizes (entered_create numbers.old accounts.old highest.old) (Event.Design (Design.Create slot account number))).answer }
+    ensures numbers { numbers.new ≡ (own sizes (entered_create numbers.old accounts.old highest.old) (Event.Design (Design.Create slot account number))).left.disk.numbers }
+    ensures accounts { accounts.new ≡ (own sizes (entered_create numbers.old accounts.old highest.old) (Event.Design (Design.Create slot account number))).left.disk.accounts }
+    ensures highest { highest.new ≡ (own sizes (entered_create numbers.old accounts.old highest.old) (Event.Design (Design.Create slot account number))).left.disk.highest }
 {
     let refusal = ask_create(sizes, slot, account, number, numbers, highest);
     if refusal != 0 {

@@ -28,10 +28,10 @@ pub fn deactivate(
     updating: &[u8],
 ) -> Answer
     requires { Turning sizes maps.now addresses.old states.old owners.now }
-    ensures answer { result ≡ (own sizes (entered_deactivate (frames_entered sizes frames) numbers maps addresses states owners active updating) (Event.Design (Design.Deactivate slot))).answer }
-    ensures addresses { addresses.new ≡ (own sizes (entered_deactivate (frames_entered sizes frames) numbers maps addresses states owners active updating) (Event.Design (Design.Deactivate slot))).left.memory.held.addresses }
-    ensures states { states.new ≡ (own sizes (entered_deactivate (frames_entered sizes frames) numbers maps addresses states owners active updating) (Event.Design (Design.Deactivate slot))).left.memory.held.states }
-    ensures active { active.new ≡ (own sizes (entered_deactivate (frames_entered sizes frames) numbers maps addresses states owners active updating) (Event.Design (Design.Deactivate slot))).left.memory.slots.active }
+    ensures answer { result ≡ (own sizes (entered_deactivate (frames_entered sizes frames) numbers.now maps.now addresses.old states.old owners.now active.old updating.now) (Event.Design (Design.Deactivate slot))).answer }
+    ensures addresses { addresses.new ≡ (own sizes (entered_deactivate (frames_entered sizes frames) numbers.now maps.now addresses.old states.old owners.now active.old updating.now) (Event.Design (Design.Deactivate slot))).left.memory.held.addresses }
+    ensures states { states.new ≡ (own sizes (entered_deactivate (frames_entered sizes frames) numbers.now maps.now addresses.old states.old owners.now active.old updating.now) (Event.Design (Design.Deactivate slot))).left.memory.held.states }
+    ensures active { active.new ≡ (own sizes (entered_deactivate (frames_entered sizes frames) numbers.now maps.now addresses.old states.old owners.now active.old updating.now) (Event.Design (Design.Deactivate slot))).left.memory.slots.active }
 {
     let refusal = ask_deactivate(
         sizes, slot, frames, numbers, maps, addresses, states, owners, active, updating,

@@ -20,9 +20,9 @@ pub fn delete(
     active: &[u8],
 ) -> Answer
     requires { Within sizes }
-    ensures answer { result ≡ (own sizes (entered_delete numbers accounts maps active) (Event.Design (Design.Delete slot))).answer }
-    ensures numbers { numbers.new ≡ (own sizes (entered_delete numbers accounts maps active) (Event.Design (Design.Delete slot))).left.disk.numbers }
-    ensures accounts { accounts.new ≡ (own sizes (entered_delete numbers accounts maps active) (Event.Design (Design.Delete slot))).left.disk.accounts }
+    ensures answer { result ≡ (own sizes (entered_delete numbers.old accounts.old maps.now active.now) (Event.Design (Design.Delete slot))).answer }
+    ensures numbers { numbers.new ≡ (own sizes (entered_delete numbers.old accounts.old maps.now active.now) (Event.Design (Design.Delete slot))).left.disk.numbers }
+    ensures accounts { accounts.new ≡ (own sizes (entered_delete numbers.old accounts.old maps.now active.now) (Event.Design (Design.Delete slot))).left.disk.accounts }
 {
     let refusal = ask_delete(sizes, slot, numbers, maps, active);
     if refusal != 0 {

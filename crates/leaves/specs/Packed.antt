@@ -29,6 +29,10 @@ unpacked ws = map unpack ws
 abbrev pub in_four : List ℕ → ℕ → ℕ → Rule
 in_four ws e f = some 4 (λ k. same (at ws (f + k) % 65536) e)
 
+-- the frames in use of a table
+abbrev pub frames_in : Sizes → List ℕ → List Frame
+frames_in z ws = take z.frames (unpacked ws)
+
 -- ── by bare names: the frames in use, as they were passed and as they were left ──
 abbrev pub frames_given : Sizes → Ref → List Frame
 frames_given z frames = take z.frames (unpacked frames.now)

@@ -19,7 +19,6 @@ use Rattle.model.specs.declared.frame.Frame.{Frame}
 use Rattle.model.specs.declared.frame.Pool.{Pool}
 use Rattle.model.specs.declared.event.Answer.{Answer}
 use Rattle.model.specs.declared.event.Event.{Event}
-use Rattle.model.specs.declared.event.Event.TheVariants as Event
 use Rattle.model.specs.declared.event.Page.TheVariants as Page
 use Rattle.model.specs.Lines.{NULLED}
 use Rattle.model.specs.State.{State, files, page_of, slot_of, live}

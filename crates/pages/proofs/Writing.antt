@@ -10,7 +10,7 @@ use lib.ListN.{take, set}
 use Rattle.tables.specs.Base.{if, at}
 use Rattle.tables.specs.Questions.{Questions, first_no, yes_all}
 use Rattle.tables.specs.Also.{◌also◌, also_yes, also_no}
-use Rattle.tables.specs.Rule.{Rule, Holds, same, below, ◌or◌, test, sound, complete, told, untold, alike}
+use Rattle.tables.specs.Rule.{Rule, same, below, ◌or◌, test, sound, complete, alike}
 use Rattle.model.specs.declared.sizes.Sizes.{Sizes}
 use Rattle.model.specs.declared.frame.Frame.{Frame}
 use Rattle.model.specs.State.{State, files, frames, frame_at, page_of, charged, payer}
@@ -29,7 +29,7 @@ use Rattle.pages.specs.Needs.{Seats}
 use Rattle.pages.specs.Seen.{seen_write}
 use Rattle.pages.specs.Writes.{writing, is_charged, charge_asked, charged1, used_then, used_left}
 use Rattle.pages.proofs.ItsFrame.{its_found, its_changed, its_page, its_told}
-use Rattle.pages.proofs.Served.{Call, served_answer, word_test, word_range, word_test_holds}
+use Rattle.pages.proofs.Served.{served_answer, word_test, word_range, word_test_holds}
 
 -- what a write is passed
 pub record WriteCall : Type 0 where

@@ -11,7 +11,6 @@ use Rattle.model.specs.declared.event.Event.TheVariants as Event
 use Rattle.model.specs.declared.event.Page.TheVariants as Page
 use Rattle.model.specs.Lines.{LIVE}
 use Rattle.model.specs.State.{State, files, page_of, framed}
-use Rattle.model.specs.Lent.{Table}
 use Rattle.model.specs.Parts.{pick}
 use Rattle.model.specs.Questions.{questions}
 use Rattle.model.specs.Laws.Own.{own}
@@ -52,8 +51,8 @@ module _ (z : Sizes) (st : State) (s p : ℕ) where
   ended = (own z st (Event.Page (Page.Fault s p))).left
 
 -- .. as the contracts name it, by the addresses and states on entry
-abbrev pub chosen : Sizes → Pool → Table → Table → ℕ → ℕ
-chosen z pool addresses states i = pick z (at addresses.entry.now) (at states.entry.now) pool.hand i
+abbrev pub chosen : Sizes → Pool → List ℕ → List ℕ → ℕ → ℕ
+chosen z pool addresses states i = pick z (at addresses) (at states) pool.hand i
 
 -- a record free no more
 abbrev pub cleared : List ℕ → ℕ → List ℕ

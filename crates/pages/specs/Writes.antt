@@ -1,11 +1,10 @@
 -- What a write asks and counts: a page's first write is charged to the account that pays for its slot.
-use Rattle.std.specs.Prelude.{List, ℕ, suc, ◌+◌, set}
+use Rattle.std.specs.Prelude.{List, ℕ, ◌+◌, set}
 use Rattle.tables.specs.Base.{if, at}
 use Rattle.tables.specs.Questions.{Questions, none, ask, first_no}
-use Rattle.tables.specs.Rule.{Rule, same, below, ◌or◌, test}
+use Rattle.tables.specs.Rule.{Rule, same, ◌or◌, test}
 use Rattle.model.specs.declared.sizes.Sizes.{Sizes}
 use Rattle.model.specs.declared.event.Event.{Event}
-use Rattle.model.specs.declared.event.Event.TheVariants as Event
 use Rattle.model.specs.declared.event.Page.TheVariants as Page
 use Rattle.model.specs.State.{State, files, frames, page_of, charged, payer}
 use Rattle.model.specs.Questions.{questions, payable}

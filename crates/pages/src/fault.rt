@@ -9,7 +9,7 @@ ghost use Rattle.model.specs.Pool.{taken};
 ghost use Rattle.model.specs.Laws.Own.{own};
 ghost use Rattle.pages.specs.Seen.{entered_fault};
 ghost use Rattle.leaves.specs.Asks.{slot_asked};
-ghost use Rattle.leaves.specs.Packed.{frames_given, frames_entered, frames_left};
+ghost use Rattle.leaves.specs.Packed.{frames_in, frames_given, frames_entered};
 ghost use Rattle.pages.specs.Needs.{Seats, Pooled, Queued};
 ghost use Rattle.pages.specs.Faults.{away_asked, supply_asked, free_left, map_left};
 
@@ -68,20 +68,20 @@ pub fn fault(
     free_map: &mut [u32],
     active: &[u8],
 ) -> Worked
-    requires { Seats sizes (frames_given sizes frames) × Queued sizes free_queue.old removal_list.old × (length words.old ≡ sizes.frames * sizes.words) × Pooled sizes pool states.old free_map.old }
-    ensures answer { result.answer ≡ (own sizes (entered_fault (frames_entered sizes frames) pool numbers words free_queue removal_list addresses states owners free_map active) (Event.Page (Page.Fault slot page))).answer }
+    requires { Seats sizes (frames_in sizes frames.old) × Queued sizes free_queue.old removal_list.old × (length words.old ≡ sizes.frames * sizes.words) × Pooled sizes pool states.old free_map.old }
+    ensures answer { result.answer ≡ (own sizes (entered_fault (frames_in sizes frames.old) pool numbers.now words.old free_queue.old removal_list.old addresses.old states.old owners.old free_map.old active.now) (Event.Page (Page.Fault slot page))).answer }
     ensures deposited { result.deposited ≡ 0 }
     ensures nulled { result.nulled ≡ 0 }
-    ensures frames { frames_left sizes frames ≡ (own sizes (entered_fault (frames_entered sizes frames) pool numbers words free_queue removal_list addresses states owners free_map active) (Event.Page (Page.Fault slot page))).left.memory.core.frames }
-    ensures words { words.new ≡ (own sizes (entered_fault (frames_entered sizes frames) pool numbers words free_queue removal_list addresses states owners free_map active) (Event.Page (Page.Fault slot page))).left.memory.core.words }
-    ensures free_queue { free_queue.new ≡ (own sizes (entered_fault (frames_entered sizes frames) pool numbers words free_queue removal_list addresses states owners free_map active) (Event.Page (Page.Fault slot page))).left.memory.core.free_queue }
-    ensures removal_list { removal_list.new ≡ (own sizes (entered_fault (frames_entered sizes frames) pool numbers words free_queue removal_list addresses states owners free_map active) (Event.Page (Page.Fault slot page))).left.memory.core.removal_list }
-    ensures addresses { addresses.new ≡ (own sizes (entered_fault (frames_entered sizes frames) pool numbers words free_queue removal_list addresses states owners free_map active) (Event.Page (Page.Fault slot page))).left.memory.held.addresses }
-    ensures states { states.new ≡ (own sizes (entered_fault (frames_entered sizes frames) pool numbers words free_queue removal_list addresses states owners free_map active) (Event.Page (Page.Fault slot page))).left.memory.held.states }
-    ensures owners { owners.new ≡ (own sizes (entered_fault (frames_entered sizes frames) pool numbers words free_queue removal_list addresses states owners free_map active) (Event.Page (Page.Fault slot page))).left.memory.held.owners }
-    ensures free_map { free_map.new ≡ map_left sizes (entered_fault (frames_entered sizes frames) pool numbers words free_queue removal_list addresses states owners free_map active) slot page }
-    ensures hand { (taken sizes result.taken pool).hand ≡ (own sizes (entered_fault (frames_entered sizes frames) pool numbers words free_queue removal_list addresses states owners free_map active) (Event.Page (Page.Fault slot page))).left.memory.held.pool.hand }
-    ensures free { (taken sizes result.taken pool).free ≡ free_left sizes (entered_fault (frames_entered sizes frames) pool numbers words free_queue removal_list addresses states owners free_map active) slot page }
+    ensures frames { frames_in sizes frames.new ≡ (own sizes (entered_fault (frames_in sizes frames.old) pool numbers.now words.old free_queue.old removal_list.old addresses.old states.old owners.old free_map.old active.now) (Event.Page (Page.Fault slot page))).left.memory.core.frames }
+    ensures words { words.new ≡ (own sizes (entered_fault (frames_in sizes frames.old) pool numbers.now words.old free_queue.old removal_list.old addresses.old states.old owners.old free_map.old active.now) (Event.Page (Page.Fault slot page))).left.memory.core.words }
+    ensures free_queue { free_queue.new ≡ (own sizes (entered_fault (frames_in sizes frames.old) pool numbers.now words.old free_queue.old removal_list.old addresses.old states.old owners.old free_map.old active.now) (Event.Page (Page.Fault slot page))).left.memory.core.free_queue }
+    ensures removal_list { removal_list.new ≡ (own sizes (entered_fault (frames_in sizes frames.old) pool numbers.now words.old free_queue.old removal_list.old addresses.old states.old owners.old free_map.old active.now) (Event.Page (Page.Fault slot page))).left.memory.core.removal_list }
+    ensures addresses { addresses.new ≡ (own sizes (entered_fault (frames_in sizes frames.old) pool numbers.now words.old free_queue.old removal_list.old addresses.old states.old owners.old free_map.old active.now) (Event.Page (Page.Fault slot page))).left.memory.held.addresses }
+    ensures states { states.new ≡ (own sizes (entered_fault (frames_in sizes frames.old) pool numbers.now words.old free_queue.old removal_list.old addresses.old states.old owners.old free_map.old active.now) (Event.Page (Page.Fault slot page))).left.memory.held.states }
+    ensures owners { owners.new ≡ (own sizes (entered_fault (frames_in sizes frames.old) pool numbers.now words.old free_queue.old removal_list.old addresses.old states.old owners.old free_map.old active.now) (Event.Page (Page.Fault slot page))).left.memory.held.owners }
+    ensures free_map { free_map.new ≡ map_left sizes (entered_fault (frames_in sizes frames.old) pool numbers.now words.old free_queue.old removal_list.old addresses.old states.old owners.old free_map.old active.now) slot page }
+    ensures hand { (taken sizes result.taken pool).hand ≡ (own sizes (entered_fault (frames_in sizes frames.old) pool numbers.now words.old free_queue.old removal_list.old addresses.old states.old owners.old free_map.old active.now) (Event.Page (Page.Fault slot page))).left.memory.held.pool.hand }
+    ensures free { (taken sizes result.taken pool).free ≡ free_left sizes (entered_fault (frames_in sizes frames.old) pool numbers.now words.old free_queue.old removal_list.old addresses.old states.old owners.old free_map.old active.now) slot page }
 {
     let in_range = (slot < sizes.slots) & (page < sizes.pages);
     let refusal = ask_fault(

@@ -3,7 +3,7 @@ ghost use Rattle.std.specs.Prelude.{◌≡◌};
 ghost use Rattle.model.specs.declared.event.Event.TheVariants as Event;
 ghost use Rattle.model.specs.declared.event.Page.TheVariants as Page;
 ghost use Rattle.model.specs.Laws.Own.{own};
-ghost use Rattle.leaves.specs.Packed.{frames_given, frames_entered, frames_left};
+ghost use Rattle.leaves.specs.Packed.{frames_in};
 ghost use Rattle.pages.specs.Seen.{entered_words};
 ghost use Rattle.pages.specs.Needs.{Seats};
 
@@ -23,9 +23,9 @@ pub fn read(
     active: &[u8],
     words: &[u32],
 ) -> Answer
-    requires { Seats sizes (frames_given sizes frames) }
-    ensures answer { result ≡ (own sizes (entered_words (frames_entered sizes frames) numbers words active) (Event.Page (Page.Read slot page word))).answer }
-    ensures frames { frames_left sizes frames ≡ (own sizes (entered_words (frames_entered sizes frames) numbers words active) (Event.Page (Page.Read slot page word))).left.memory.core.frames }
+    requires { Seats sizes (frames_in sizes frames.old) }
+    ensures answer { result ≡ (own sizes (entered_words (frames_in sizes frames.old) numbers.now words.now active.now) (Event.Page (Page.Read slot page word))).answer }
+    ensures frames { frames_in sizes frames.new ≡ (own sizes (entered_words (frames_in sizes frames.old) numbers.now words.now active.now) (Event.Page (Page.Read slot page word))).left.memory.core.frames }
 {
     let in_range = (slot < sizes.slots) & ((page < sizes.pages) & (word < sizes.words));
     let seat = ask_served(true, sizes, in_range, slot, page, frames, numbers, active);

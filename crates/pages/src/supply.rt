@@ -91,11 +91,11 @@ pub fn hold(
     free_map: &mut [u32],
 ) -> u32
     requires { Within sizes × (slot < 256) × (page < 65535) × Pooled sizes pool states.old free_map.old × ((way ≡ 0) → 0 < pool.free) }
-    ensures taken { result ≡ if (eqb way 0) (suc (chosen sizes pool addresses states page)) 0 }
-    ensures addresses { addresses.new ≡ if (eqb way 0) (set addresses.old page (suc (chosen sizes pool addresses states page))) addresses.old }
-    ensures states { states.new ≡ if (eqb way 0) (set states.old (chosen sizes pool addresses states page) NULLED) states.old }
-    ensures owners { owners.new ≡ if (eqb way 0) (set owners.old (chosen sizes pool addresses states page) slot) owners.old }
-    ensures map { free_map.new ≡ if (eqb way 0) (cleared free_map.old (chosen sizes pool addresses states page)) free_map.old }
+    ensures taken { result ≡ if (eqb way 0) (suc (chosen sizes pool addresses.old states.old page)) 0 }
+    ensures addresses { addresses.new ≡ if (eqb way 0) (set addresses.old page (suc (chosen sizes pool addresses.old states.old page))) addresses.old }
+    ensures states { states.new ≡ if (eqb way 0) (set states.old (chosen sizes pool addresses.old states.old page) NULLED) states.old }
+    ensures owners { owners.new ≡ if (eqb way 0) (set owners.old (chosen sizes pool addresses.old states.old page) slot) owners.old }
+    ensures map { free_map.new ≡ if (eqb way 0) (cleared free_map.old (chosen sizes pool addresses.old states.old page)) free_map.old }
 {
     if way != 0 {
         return 0;

@@ -3,7 +3,7 @@ ghost use Rattle.std.specs.Prelude.{◌≡◌};
 ghost use Rattle.model.specs.declared.event.Event.TheVariants as Event;
 ghost use Rattle.model.specs.declared.event.Page.TheVariants as Page;
 ghost use Rattle.model.specs.Laws.Own.{own};
-ghost use Rattle.leaves.specs.Packed.{frames_given, frames_entered, frames_left};
+ghost use Rattle.leaves.specs.Packed.{frames_in};
 ghost use Rattle.pages.specs.Seen.{entered_list};
 ghost use Rattle.pages.specs.Needs.{Seats, RemovalList};
 
@@ -23,10 +23,10 @@ pub fn wire(
     active: &[u8],
     removal_list: &mut [u16],
 ) -> Answer
-    requires { Seats sizes (frames_given sizes frames) × RemovalList sizes (frames_given sizes frames) removal_list.old }
-    ensures answer { result ≡ (own sizes (entered_list (frames_entered sizes frames) numbers removal_list active) (Event.Page (Page.Wire slot page))).answer }
-    ensures frames { frames_left sizes frames ≡ (own sizes (entered_list (frames_entered sizes frames) numbers removal_list active) (Event.Page (Page.Wire slot page))).left.memory.core.frames }
-    ensures list { removal_list.new ≡ (own sizes (entered_list (frames_entered sizes frames) numbers removal_list active) (Event.Page (Page.Wire slot page))).left.memory.core.removal_list }
+    requires { Seats sizes (frames_in sizes frames.old) × RemovalList sizes (frames_in sizes frames.old) removal_list.old }
+    ensures answer { result ≡ (own sizes (entered_list (frames_in sizes frames.old) numbers.now removal_list.old active.now) (Event.Page (Page.Wire slot page))).answer }
+    ensures frames { frames_in sizes frames.new ≡ (own sizes (entered_list (frames_in sizes frames.old) numbers.now removal_list.old active.now) (Event.Page (Page.Wire slot page))).left.memory.core.frames }
+    ensures list { removal_list.new ≡ (own sizes (entered_list (frames_in sizes frames.old) numbers.now removal_list.old active.now) (Event.Page (Page.Wire slot page))).left.memory.core.removal_list }
 {
     let in_range = (slot < sizes.slots) & (page < sizes.pages);
     let seat = ask_served(false, sizes, in_range, slot, page, frames, numbers, active);

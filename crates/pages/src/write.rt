@@ -1,7 +1,7 @@
 // Write: one word of a page in a frame takes a value; the frame's used and modified switches go on. A page's first write is charged.
 ghost use Rattle.std.specs.Prelude.{◌≡◌};
 ghost use Rattle.model.specs.Laws.Own.{own};
-ghost use Rattle.leaves.specs.Packed.{frames_given, frames_entered, frames_left};
+ghost use Rattle.leaves.specs.Packed.{frames_in};
 ghost use Rattle.pages.specs.Seen.{entered_write};
 ghost use Rattle.pages.specs.Needs.{Seats};
 ghost use Rattle.pages.specs.Writes.{writing, used_left};
@@ -31,11 +31,11 @@ pub fn write(
     active: &[u8],
     used: &mut [u16],
 ) -> Answer
-    requires { Seats sizes (frames_given sizes frames) }
-    ensures answer { result ≡ (own sizes (entered_write (frames_entered sizes frames) numbers accounts limits parents words addresses states active used) (writing slot page word value)).answer }
-    ensures frames { frames_left sizes frames ≡ (own sizes (entered_write (frames_entered sizes frames) numbers accounts limits parents words addresses states active used) (writing slot page word value)).left.memory.core.frames }
-    ensures words { words.new ≡ (own sizes (entered_write (frames_entered sizes frames) numbers accounts limits parents words addresses states active used) (writing slot page word value)).left.memory.core.words }
-    ensures used { used.new ≡ used_left sizes (entered_write (frames_entered sizes frames) numbers accounts limits parents words addresses states active used) slot page word value }
+    requires { Seats sizes (frames_in sizes frames.old) }
+    ensures answer { result ≡ (own sizes (entered_write (frames_in sizes frames.old) numbers.now accounts.now limits.now parents.now words.old addresses.now states.now active.now used.old) (writing slot page word value)).answer }
+    ensures frames { frames_in sizes frames.new ≡ (own sizes (entered_write (frames_in sizes frames.old) numbers.now accounts.now limits.now parents.now words.old addresses.now states.now active.now used.old) (writing slot page word value)).left.memory.core.frames }
+    ensures words { words.new ≡ (own sizes (entered_write (frames_in sizes frames.old) numbers.now accounts.now limits.now parents.now words.old addresses.now states.now active.now used.old) (writing slot page word value)).left.memory.core.words }
+    ensures used { used.new ≡ used_left sizes (entered_write (frames_in sizes frames.old) numbers.now accounts.now limits.now parents.now words.old addresses.now states.now active.now used.old) slot page word value }
 {
     let in_range = (slot < sizes.slots) & ((page < sizes.pages) & (word < sizes.words));
     let seat = ask_served(false, sizes, in_range, slot, page, frames, numbers, active);

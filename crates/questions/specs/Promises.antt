@@ -11,6 +11,7 @@ use Rattle.model.specs.Lent.{Ref, Table, disk_of, memory_of}
 use Rattle.model.specs.Rules.{fit}
 use Rattle.model.specs.Laws.Woven.{woven_page}
 use Rattle.rules.specs.Passes.{distinct, marked, used_table, framed_table, count_room}
+use Rattle.rules.specs.Promises.{MutRef, MutTable}
 use Rattle.questions.specs.Groups.{file_passes, frame_passes, FilesLong, FramesLong}
 
 -- ── a part of what is lent, as it was passed ──
@@ -23,7 +24,7 @@ memory_entered frames pool words free_queue removal_list addresses states owners
     active.entry.now updating.entry.now images.entry.now used.entry.now
 
 -- ── the group of pages, records and slots (`accounts`: who pays for each slot): the disk rules are kept, listed records are marked, and counts start from zeros ──
-abbrev pub FilesGiven : Sizes → (totals listed numbers accounts maps addresses states owners active updating images : Ref) → Type 0
+abbrev pub FilesGiven : Sizes → (totals : MutRef) (listed numbers accounts maps addresses states owners active updating images : Ref) → Type 0
 FilesGiven z totals listed numbers accounts maps addresses states owners active updating images =
     FilesLong z numbers.now accounts.now maps.now addresses.now states.now owners.now active.now updating.now images.now
     × Holds (fit (length maps.now) z.records (at maps.now))
@@ -35,12 +36,12 @@ abbrev pub files_entered : Sizes → (numbers maps addresses states owners activ
 files_entered z numbers maps addresses states owners active updating images =
     file_passes z.slots z.pages z.records numbers.entry.now maps.entry.now addresses.entry.now states.entry.now owners.entry.now active.entry.now updating.entry.now images.entry.now
 
-abbrev pub files_counted : Sizes → (totals accounts active maps addresses states : Table) → Rule
+abbrev pub files_counted : Sizes → (totals : MutTable) (accounts active maps addresses states : Table) → Rule
 files_counted z totals accounts active maps addresses states =
     used_table z.slots z.pages accounts.entry.now active.entry.now maps.entry.now addresses.entry.now states.entry.now totals.exit.now
 
 -- ── the group of frames and queues: addresses and accounts are in range, and the counts have room ──
-abbrev pub FramesGiven : Sizes → (totals accounts records words free_queue removal_list addresses states active : Ref) → Type 0
+abbrev pub FramesGiven : Sizes → (totals : MutRef) (accounts records words free_queue removal_list addresses states active : Ref) → Type 0
 FramesGiven z totals accounts records words free_queue removal_list addresses states active =
     FramesLong z accounts.now records.now words.now free_queue.now removal_list.now addresses.now states.now active.now
     × Holds (distinct (length addresses.now) z.records (at addresses.now))
@@ -52,6 +53,6 @@ frames_entered z frames records words free_queue removal_list addresses states a
     frame_passes z.frames z.words z.pages (z.slots * z.pages) (frame_at frames) records.entry.now words.entry.now free_queue.entry.now removal_list.entry.now
     addresses.entry.now states.entry.now active.entry.now
 
-abbrev pub frames_counted : Sizes → List Frame → (totals accounts addresses states : Table) → Rule
+abbrev pub frames_counted : Sizes → List Frame → (totals : MutTable) (accounts addresses states : Table) → Rule
 frames_counted z frames totals accounts addresses states =
     framed_table z.frames z.pages (λ f. woven_page (frame_at frames f)) accounts.entry.now addresses.entry.now states.entry.now totals.entry.now totals.exit.now

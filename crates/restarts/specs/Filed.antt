@@ -1,7 +1,7 @@
 -- The states and owners that a pass over the maps gives: after k entries, the records that these list are filed under their slots.
 use Rattle.std.specs.Prelude.{◌≡◌, refl, Bool, true, false, List, ℕ, suc, ◌+◌, ◌-◌, ◌/◌, ◌<◌, T, eqb, set}
 use Rattle.std.proofs.Common.{ap, sym, ◌∙◌, add-one, arith, eqb→eq}
-use Rattle.std.proofs.Math.Bool.{or_false}
+use Rattle.std.proofs.Math.Bool.{or-false}
 use borrow.Author.Tests.{ne_eqb}
 use Rattle.tables.specs.Base.{if, any, find, tab}
 use Rattle.tables.specs.Laws.{any_elim, any_intro, found, eq→T, if_true}
@@ -47,7 +47,7 @@ module _ (map : ℕ → ℕ) (k r : ℕ) where
   -- ── a record that entry k does not list ──
   listed_other : ¬ (map k ≡ suc r) → listed k map r ≡ listed (k + 1) map r
   unfolding any
-  listed_other d = rw (add-one k, ne_eqb (map k) (suc r) d) (sym (or_false (any k lists)))
+  listed_other d = rw (add-one k, ne_eqb (map k) (suc r) d) (sym (or-false (any k lists)))
 
   lister_other : T (listed k map r) → lister k map r ≡ lister (k + 1) map r
   lister_other t =

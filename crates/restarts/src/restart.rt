@@ -49,7 +49,7 @@ pub fn restart_records(
     free_map: &mut [u32],
     used: &mut [u16],
 ) -> usize
-    requires { RecordsGiven sizes accounts maps limits parents states owners free_map used }
+    requires { RecordsGiven sizes accounts.now maps.now limits.now parents.now states.old owners.old free_map.old used.old }
     ensures states { states.new ≡ (restarted_from sizes accounts maps limits parents).held.states }
     ensures owners { owners.new ≡ (restarted_from sizes accounts maps limits parents).held.owners }
     ensures free { free_map.new ≡ (restarted_from sizes accounts maps limits parents).held.free_map }
@@ -83,8 +83,8 @@ pub fn restart_tables(
     images: &mut [u16],
     used: &mut [u16],
 ) -> Pooled
-    requires { TablesGiven sizes accounts maps limits parents words free_queue removal_list addresses states owners free_map active updating images used }
-    ensures* answer { λ r. ⌜ r.answer ≡ record { refusal = 0; result = 0 } ⌝ }
+    requires { TablesGiven sizes accounts.now maps.now limits.now parents.now words.old free_queue.old removal_list.old addresses.old states.old owners.old free_map.old active.old updating.old images.old used.old }
+    ensures answer { result.answer ≡ record { refusal = 0; result = 0 } }
     ensures frames { take sizes.frames result.frames ≡ (restarted_from sizes accounts maps limits parents).core.frames }
     ensures words { words.new ≡ (restarted_from sizes accounts maps limits parents).core.words }
     ensures queue { free_queue.new ≡ (restarted_from sizes accounts maps limits parents).core.free_queue }

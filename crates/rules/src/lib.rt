@@ -1,5 +1,6 @@
 // The rules of question 2, one function a rule, and the passes over the tables that ask them.
 #![tactic(auto)]
+
 pub mod marks; // nothing named twice, and whether it is named
 pub mod slots; // slots on the disk and in memory
 pub mod pages; // a page's entries in the stored map, held, and in the image

@@ -1,0 +1,54 @@
+-- `ask_held` meets its contract: each pass tells its question.
+use mathlib.Core.Path.{sym, ◌∙◌}
+use native.Mathlib.Omega.{arith}
+use lib.ListN.{take}
+use Rattle.tables.specs.Questions.{yes_all}
+use Rattle.tables.specs.Rule.{Rule, Holds}
+use Rattle.tables.specs.Turn.{said_yes, said_no}
+use Rattle.model.specs.Laws.Own.{first_yes, first_no_holds}
+use Rattle.model.specs.Laws.Bounds.{slot_most}
+use Rattle.leaves.specs.Packed.{unpacked}
+use Rattle.designs.specs.Asks.{unframed, true_map, settled}
+use Rattle.designs.proofs.Tests.{unframed_taken}
+use Rattle.designs.proofs.asks.ask_held.Goals as goal
+
+pub none_framed-requires : goal.none_framed-requires
+none_framed-requires c = omega (arith, slot_most c.args.sizes c.requires.0 c.args.slot c.requires.1)
+
+pub returns-else-none_framed : goal.returns-else-none_framed
+returns-else-none_framed c =
+    let out : Rule = let a = c.args in unframed a.sizes.frames (take a.sizes.frames (unpacked a.frames.now)) a.sizes.pages a.slot in
+    let a = c.args in
+    let u = c.none_framed.ensures ∙ unframed_taken a.sizes.frames (unpacked a.frames.now) a.sizes.pages a.slot in
+    sym (first_no_holds 11 _ _ (said_no out u c.if-none_framed.false))
+
+pub map_true-requires : goal.map_true-requires
+map_true-requires c = omega (arith, slot_most c.args.sizes c.requires.0 c.args.slot c.requires.1)
+
+pub returns-else-map_true : goal.returns-else-map_true
+returns-else-map_true c =
+    let out : Rule = let a = c.args in unframed a.sizes.frames (take a.sizes.frames (unpacked a.frames.now)) a.sizes.pages a.slot in
+    let true-map : Rule = let a = c.args in true_map a.maps.now a.addresses.now a.states.now a.sizes.pages a.slot in
+    let none_in : Holds out =
+    let a = c.args in
+    said_yes out (c.none_framed.ensures ∙ unframed_taken a.sizes.frames (unpacked a.frames.now) a.sizes.pages a.slot) c.if-none_framed.true in
+    sym (first_yes 11 _ _ none_in ∙ first_no_holds 12 _ _ (λ h. said_no true-map c.map_true.ensures c.if-map_true.false h.0))
+
+pub returns-else-records_settled : goal.returns-else-records_settled
+returns-else-records_settled c =
+    let out : Rule = let a = c.args in unframed a.sizes.frames (take a.sizes.frames (unpacked a.frames.now)) a.sizes.pages a.slot in
+    let at_rest : Rule = let a = c.args in settled a.sizes.records a.states.now a.owners.now a.slot in
+    let none_in : Holds out =
+    let a = c.args in
+    said_yes out (c.none_framed.ensures ∙ unframed_taken a.sizes.frames (unpacked a.frames.now) a.sizes.pages a.slot) c.if-none_framed.true in
+    sym (first_yes 11 _ _ none_in ∙ first_no_holds 12 _ _ (λ h. said_no at_rest c.records_settled.ensures c.if-records_settled.false h.1))
+
+pub returns : goal.returns
+returns c =
+    let out : Rule = let a = c.args in unframed a.sizes.frames (take a.sizes.frames (unpacked a.frames.now)) a.sizes.pages a.slot in
+    let true-map : Rule = let a = c.args in true_map a.maps.now a.addresses.now a.states.now a.sizes.pages a.slot in
+    let at_rest : Rule = let a = c.args in settled a.sizes.records a.states.now a.owners.now a.slot in
+    let none_in : Holds out =
+    let a = c.args in
+    said_yes out (c.none_framed.ensures ∙ unframed_taken a.sizes.frames (unpacked a.frames.now) a.sizes.pages a.slot) c.if-none_framed.true in
+    sym (yes_all _ (none_in, ((said_yes true-map c.map_true.ensures c.if-map_true.true, said_yes at_rest c.records_settled.ensures c.if-records_settled.true), tt)))

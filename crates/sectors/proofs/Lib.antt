@@ -1,0 +1,2 @@
+-- What is proved of the look-ups.
+pub mod Laws
