@@ -6,6 +6,7 @@ An edit's first line, '# ..', says what is wrong. Then:
     refused: TEXT   the fact that refuses it
     at: PATH        where an error must be, from crates/ on: a file, or, as NAME/proofs/module/function, that function
     fact: NAME      of such a file, the fact in whose lines it must be
+    names: OLD NEW  what the prover calls by the text that is changed: in that function's proof OLD becomes NEW
     breaks: TEXT    the sentence of docs/SPEC.md that it breaks
     file: PATH      holds for the pairs after it
     old: TEXT       stands in the file once
@@ -19,7 +20,7 @@ import shutil
 
 HERE = pathlib.Path(__file__).resolve().parent
 ROOT = HERE.parent.parent
-ONCE = ("crate", "refused", "at", "fact", "breaks")
+ONCE = ("crate", "refused", "at", "fact", "names", "breaks")
 PARTS = ("src", "specs", "proofs")
 
 
@@ -30,7 +31,7 @@ class Bad(Exception):
 class Edit:
     def __init__(self, name):
         self.name, self.what, self.pairs = name, "", []
-        self.crate = self.refused = self.at = self.fact = self.breaks = None
+        self.crate = self.refused = self.at = self.fact = self.names = self.breaks = None
         try:
             lines = (HERE / f"{name}.edit").read_text(encoding="utf-8").splitlines()
         except OSError:
@@ -142,6 +143,10 @@ def apply(edit, to):
         if text.count(old) != 1:
             raise Bad("the old text does not stand once in " + file)
         path.write_text(text.replace(old, new), encoding="utf-8")
+    if edit.names:
+        old, new = edit.names.split()
+        for path in (to / "crates" / edit.at).glob("*.antt"):
+            path.write_text(path.read_text(encoding="utf-8").replace(old, new), encoding="utf-8")
 
 
 def keep_needed(crate, module):

@@ -194,6 +194,15 @@ class Copied(Small):
         look = "grep -q two crates/small/src/lib.rt && [ -z \"$(cat crates/base/src/lib.rt)\" ] || exit 9\n"
         self.passed(look + self.says(REFUSED, 1))
 
+    def test_names_of_a_proof_follow(self):
+        """What the prover calls by the text that is changed, in the proof of the edit's function alone."""
+        for name in ("f", "g"):
+            self.put(f"crates/small/proofs/high/{name}/Answers.antt", "use M.{then-one, else-one}\n")
+        self.at("at: small/proofs/high/f\nnames: -one -two\n")
+        look = "[ \"$(cat crates/small/proofs/high/f/Answers.antt)\" = 'use M.{then-two, else-two}' ] || exit 9\n"
+        look += "grep -q then-one crates/small/proofs/high/g/Answers.antt || exit 9\n"
+        self.passed(look + self.says("crates/small/proofs/high/f/Answers.antt:1:1: error: `returns`: no\nonly=1 proved=0\n", 1))
+
     def test_of_definitions_alone_what_is_needed(self):
         """Of a crate without functions no more is checked than the module that refuses, and what it needs of its crate."""
         for name, text in {"Lib": "-- all\npub mod A\npub mod B\npub mod C\n", "A": "", "B": "use Rattle.shown.specs.A.{a}\n", "C": ""}.items():
@@ -236,6 +245,8 @@ class Kept(unittest.TestCase):
                 self.assertTrue(edit.crates() <= {edit.crate, *edits.below(edit.crate)})
                 self.assertTrue(not edit.at or edit.function() or (edits.ROOT / "crates" / edit.at).is_file())
                 self.assertTrue(not edit.fact or edit.lines(edits.ROOT))
+                proof = "".join(path.read_text(encoding="utf-8") for path in (edits.ROOT / "crates" / (edit.at or edit.crate)).glob("*.antt"))
+                self.assertTrue(not edit.names or edit.names.split()[0] in proof)
 
     def test_functions(self):
         """The function that an edit names is in the code of its crate."""
