@@ -11,6 +11,8 @@
 LIST = examples/two-mills.txt
 LIBRARY = target/staticlib/libkeeper.a
 DISK_LIBRARY = target/staticlib/libdisk.a
+SECTORS_LIBRARY = target/staticlib/libsectors.a
+STARTS = crates/starts/out/starts
 KILLS = 2000
 TRACE = examples/traces/weaving.txt
 # what the tools of packs are built over: the file disk, or, by DRIVER=examples/sectordisk, the one on sectors
@@ -20,7 +22,7 @@ FILEDISK = $(wildcard $(DRIVER)/filedisk*.c)
 # by the environment, so that a name may have blanks in it
 export PACK OLD NEW SLOT ACCOUNT NUMBER SHEET
 MODULE = target/cross/module.bc
-SOURCES = crates.txt $(shell find crates -name '*.rt' -o -name '*.antt')
+SOURCES = crates.txt $(shell find crates -name out -prune -o \( -name '*.rt' -o -name '*.antt' \) -print)
 
 test:
 	bash .ci/run
@@ -28,7 +30,7 @@ test:
 replay:
 	@python3 tools/prove.py replay
 	@python3 tools/events.py encode $(LIST) > target/example.in
-	@target/bin/replay < target/example.in > target/example.out
+	@crates/replay/out/replay < target/example.in > target/example.out
 	@echo && python3 tools/events.py show $(LIST) target/example.out
 
 break:
@@ -36,8 +38,8 @@ break:
 
 starts:
 	@mkdir -p target
-	@rt check starts > target/starts.log 2>&1 || { cat target/starts.log; false; }
-	@target/bin/starts
+	@$(MAKE) -s --no-print-directory $(STARTS) > target/starts.log 2>&1 || { cat target/starts.log; false; }
+	@$(STARTS)
 
 named-pack:
 	@[ -n "$$PACK" ] || { echo "make mend PACK=file: which pack is to be mended?"; exit 2; }
@@ -118,6 +120,12 @@ $(LIBRARY): $(SOURCES)
 $(DISK_LIBRARY): $(SOURCES)
 	@python3 tools/prove.py --lib disk
 
+$(SECTORS_LIBRARY): $(SOURCES)
+	@python3 tools/prove.py --lib sectors
+
+$(STARTS): $(SOURCES)
+	@python3 tools/prove.py starts
+
 # the library is built anew, and the module that it is compiled from is kept
 $(MODULE): $(SOURCES)
-	@tools/keep_module.sh python3 tools/prove.py --lib keeper
+	@python3 tools/prove.py --module keeper

@@ -17,6 +17,7 @@ import re
 import shutil
 import subprocess
 import sys
+import tempfile
 
 ROOT = pathlib.Path(__file__).resolve().parent.parent
 LIBRARY = ROOT / "target" / "staticlib" / "libkeeper.a"
@@ -98,22 +99,21 @@ def measured(size):
 
 
 def built_alone():
-    """A library of the proved search alone: a crate of bench/alone.txt beside the crates that it needs, as they are proved."""
+    """A library of the proved search alone: a crate of bench/alone.txt beside the crates that it needs, outside the repository, where rt wants no
+    other crates. Its check begins with what the checks here kept."""
     needs = ["tables", "sheets", "model", "leaves"]
-    for folder in ["crates/alone/src", "target/rlib", "target/stamp", "target/log"]:
-        (ALONE / folder).mkdir(parents=True, exist_ok=True)
-    for name in needs:
-        link = ALONE / "crates" / name
-        link.exists() or link.symlink_to(ROOT / "crates" / name)
-        shutil.rmtree(ALONE / f"target/rlib/{name}.rlib", ignore_errors=True)
-        shutil.copytree(ROOT / f"target/rlib/{name}.rlib", ALONE / f"target/rlib/{name}.rlib")
-        for made in [*ROOT.glob(f"target/stamp/{name}"), *ROOT.glob(f"target/log/{name}.*")]:
-            shutil.copy(made, ALONE / made.relative_to(ROOT))
-    lines = [line for line in (ROOT / "crates.txt").read_text().splitlines() if line.split(":")[0] in needs]
-    (ALONE / "crates.txt").write_text("\n".join([*lines, f"alone: {' '.join(needs)}"]) + "\n")
-    shutil.copy(ROOT / "bench" / "alone.txt", ALONE / "crates/alone/src/lib.rt")
-    subprocess.run(["rt", "staticlib", "alone"], cwd=ALONE, check=True, capture_output=True)
-    return str(ALONE / "target/staticlib/libalone.a")
+    ALONE.mkdir(parents=True, exist_ok=True)
+    with tempfile.TemporaryDirectory() as room:
+        root = pathlib.Path(room)
+        for name in needs:
+            shutil.copytree(ROOT / "crates" / name, root / "crates" / name, ignore=shutil.ignore_patterns("out"))
+        (root / "crates/alone/src").mkdir(parents=True)
+        lines = [line for line in (ROOT / "crates.txt").read_text().splitlines() if line.split(":")[0] in needs]
+        (root / "crates.txt").write_text("\n".join([*lines, f"alone staticlib: {' '.join(needs)}"]) + "\n")
+        shutil.copy(ROOT / "bench" / "alone.txt", root / "crates/alone/src/lib.rt")
+        subprocess.run(["rt", "lib"], cwd=root / "crates/alone", check=True, capture_output=True)
+        shutil.copy(root / "crates/alone/out/libalone.a", ALONE)
+    return str(ALONE / "libalone.a")
 
 
 def built_port(side):
@@ -309,9 +309,9 @@ def main():
     if sys.argv[1:] and not into and not alone:
         sys.exit(__doc__)
     if not LIBRARY.exists():
-        sys.exit("run.py: the keeper's library is not built: make bench, or rt staticlib keeper")
+        sys.exit("run.py: the keeper's library is not built: make bench, or tools/prove.py --lib keeper")
     if not DISK_LIBRARY.exists():
-        sys.exit("run.py: the disk's library is not built: make bench, or rt staticlib disk")
+        sys.exit("run.py: the disk's library is not built: make bench, or tools/prove.py --lib disk")
     OUT.mkdir(parents=True, exist_ok=True)
     if alone:
         print("\n".join([*machine(), *alone()]))

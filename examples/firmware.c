@@ -1,5 +1,5 @@
 /* Not proved, tested by tests/firmware.sh. Two mills weave a design each; the power fails while pages and maps are on their way to the disk; both designs are read back.
- *   rt staticlib keeper && cc -std=c11 -Wall -Iinclude examples/firmware.c target/staticlib/libkeeper.a -o target/firmware && target/firmware */
+ *   python3 tools/prove.py --lib keeper && cc -std=c11 -Wall -Iinclude examples/firmware.c target/staticlib/libkeeper.a -o target/firmware && target/firmware */
 #include <stdio.h>
 #include <string.h>
 #include "keeper.h"

@@ -1,5 +1,5 @@
 /* Not proved, tested by tests/firmware.sh. A mill divides the pages that it rents among its three studios: who pays, what a move does, and what it is refused for.
- *   rt staticlib keeper && cc -std=c11 -Wall -Iinclude examples/studios.c target/staticlib/libkeeper.a -o target/studios && target/studios */
+ *   python3 tools/prove.py --lib keeper && cc -std=c11 -Wall -Iinclude examples/studios.c target/staticlib/libkeeper.a -o target/studios && target/studios */
 #include <stdio.h>
 #include <stdlib.h>
 #include "keeper_easy.h"

@@ -1,7 +1,7 @@
 /* Not proved, tested by tests/keeper_disk.sh: a disk for the keeper on a device of sectors that tears, for C99 and C++, header only. Proved below it, in Rattle,
  * and called by it through keeper_disk_inside.h: the journal's steps (two areas, one commit sector, two syncs a store), the places of the tables in sectors, a
  * sector's words and bytes, the header, and every look at what a device holds. Proved too, of the definitions: that a driver which takes these steps in
- * this order keeps demand 3 over every list of calls, cuts and kills. Link libkeeper.a and libdisk.a (rt staticlib disk).
+ * this order keeps demand 3 over every list of calls, cuts and kills. Link libkeeper.a and libdisk.a (tools/prove.py --lib disk).
  *
  *   KeeperDevice device = {self, read, write, sync};       three functions of yours, of sectors of 512 bytes
  *   KeeperDisk disk;

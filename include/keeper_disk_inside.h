@@ -1,4 +1,4 @@
-/* The proved parts of a disk driver, for C on x86-64: link libdisk.a (rt staticlib disk) beside libkeeper.a. They know no device: each takes
+/* The proved parts of a disk driver, for C on x86-64: link libdisk.a (tools/prove.py --lib disk) beside libkeeper.a. They know no device: each takes
  * numbers and lent memory, writes what it says, keeps nothing and always ends. No call has a precondition but these: no pointer is null,
  * each is aligned as its elements, nothing lent overlaps, and `words` are 128 words, `bytes` 512.
  *

@@ -1,4 +1,4 @@
-/* The 600-record pack, for C on x86-64: link libsectors.a (rt staticlib sectors). It has 100 cylinders of 100 sectors; a record
+/* The 600-record pack, for C on x86-64: link libsectors.a (tools/prove.py --lib sectors). It has 100 cylinders of 100 sectors; a record
  * takes 16 sectors and never crosses a cylinder. Each look-up takes any number and answers 28 (SECTORS_NOT_IN_PACK), its only
  * refusal, with result 0, for a record of 600 or more and for a sector that is in no record. */
 #ifndef SECTORS_H

@@ -3,7 +3,7 @@
 # by the firmware of examples/weaver.c and read back.
 set -eu
 cd "$(dirname "$0")/.."
-[ -f target/staticlib/libkeeper.a ] || rt staticlib keeper
+[ -f target/staticlib/libkeeper.a ] || python3 tools/prove.py --lib keeper
 strict="-std=c99 -O1 -Wall -Wextra -Werror -pedantic -Iinclude -Iexamples -fsanitize=address,undefined -fno-sanitize-recover=all"
 mkdir -p target/mend
 gcc $strict tools/convert.c examples/filedisk*.c target/staticlib/libkeeper.a -o target/mend/convert-checked

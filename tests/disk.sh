@@ -2,7 +2,7 @@
 # disk.sh: the proved parts of a disk driver, as C links them, beside straightforward C (tests/disk.c); and the header as C++ reads it.
 set -eu
 cd "$(dirname "$0")/.."
-rt staticlib disk
+make -s --no-print-directory target/staticlib/libdisk.a
 cc -std=c11 -O1 -Wall -Wextra -Werror -pedantic -Iinclude tests/disk.c target/staticlib/libdisk.a -o target/disk
 if command -v g++ > /dev/null; then
     printf '#include "keeper_disk_inside.h"\n' | g++ -std=c++11 -Wall -Wextra -Werror -pedantic -Iinclude -x c++ -fsyntax-only -

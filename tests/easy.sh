@@ -2,7 +2,7 @@
 # easy.sh: not proved; builds the test of include/keeper_easy.h as C99, C11 and C++ over the static library, and runs each.
 set -eu
 cd "$(dirname "$0")/.."
-[ -f target/staticlib/libkeeper.a ] || rt staticlib keeper
+[ -f target/staticlib/libkeeper.a ] || python3 tools/prove.py --lib keeper
 strict="-O1 -Wall -Wextra -Werror -pedantic -Iinclude"
 passed=0
 failed=0

@@ -3,7 +3,7 @@
 # system calls that fail (tests/faults.c), each also with the compiler's own checks of memory and numbers; and its header in C++.
 set -eu
 cd "$(dirname "$0")/.."
-[ -f target/staticlib/libkeeper.a ] || rt staticlib keeper
+[ -f target/staticlib/libkeeper.a ] || python3 tools/prove.py --lib keeper
 strict="-std=c99 -O1 -Wall -Wextra -Werror -pedantic -Iinclude -Iexamples"
 checked="-g -fsanitize=address,undefined -fno-sanitize-recover=all"
 wrapped="-Wl,--wrap=pread,--wrap=pwrite,--wrap=fsync"

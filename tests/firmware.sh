@@ -2,8 +2,8 @@
 # firmware.sh: builds the static library and three examples over it, the firmware, the scheduler, and a mill with its studios; what each prints is its .out file in examples/. And what the library calls.
 set -eu
 cd "$(dirname "$0")/.."
-# the module that it compiles is kept for tests/cross, which would else prove the crate again
-tools/keep_module.sh rt staticlib keeper
+# the module that it is compiled from is kept for tests/cross, which would else prove the crate again
+make -s --no-print-directory target/cross/module.bc
 failed=0
 for example in firmware scheduler studios; do
     cc -std=c11 -Wall -Wextra -Werror -pedantic -Iinclude "examples/$example.c" target/staticlib/libkeeper.a -o "target/$example"

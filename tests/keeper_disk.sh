@@ -3,8 +3,8 @@
 # of each kind through cuts and resets to DEPTH recoveries (1), cuts in a format, fallen bits, LISTS random lists (300) from SEED (1), and the wrong drivers.
 set -eu
 cd "$(dirname "$0")/.."
-[ -f target/staticlib/libkeeper.a ] || rt staticlib keeper
-[ -f target/staticlib/libdisk.a ] || rt staticlib disk
+[ -f target/staticlib/libkeeper.a ] || python3 tools/prove.py --lib keeper
+[ -f target/staticlib/libdisk.a ] || python3 tools/prove.py --lib disk
 libraries="target/staticlib/libkeeper.a target/staticlib/libdisk.a"
 if command -v g++ >/dev/null; then
     printf '#include "keeper_disk.h"\nint main() { return 0; }\n' | g++ -std=c++11 -Wall -Wextra -Werror -pedantic -Iinclude -x c++ -fsyntax-only -

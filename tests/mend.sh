@@ -2,7 +2,7 @@
 # mend.sh: not proved; packs as older boards left them, mended by tools/mend.c (make mend PACK=..), and what is on them then.
 set -eu
 cd "$(dirname "$0")/.."
-[ -f target/staticlib/libkeeper.a ] || rt staticlib keeper
+[ -f target/staticlib/libkeeper.a ] || python3 tools/prove.py --lib keeper
 strict="-std=c99 -O1 -Wall -Wextra -Werror -pedantic -Iinclude -Iexamples"
 mkdir -p target/mend
 gcc $strict tools/mend.c examples/filedisk*.c target/staticlib/libkeeper.a -o target/mend/mend

@@ -3,10 +3,10 @@
 # table for C with all that it looks up; and that table with what the program prints.
 set -eu
 cd "$(dirname "$0")/.."
-rt check starts
-rt staticlib sectors
+mkdir -p target
+make -s --no-print-directory crates/starts/out/starts target/staticlib/libsectors.a
 awk 'BEGIN { for (r = 0; r < 600; r++) print int(r / 6) * 100 + (r % 6) * 16 }' > target/starts.awk
-target/bin/starts > target/starts.out
+crates/starts/out/starts > target/starts.out
 cc -std=c11 -Wall -Wextra -Werror -pedantic -Iinclude tests/sectors.c target/staticlib/libsectors.a -o target/sectors
 sed -n '/^ *[0-9]/s/[ ,]*\([0-9][0-9]*\),*/\1\n/gp' include/sectors_starts.h | sed '/^$/d' > target/starts.header
 passed=0

@@ -3,7 +3,7 @@
 # also over system calls that fail (tests/failing.c), and attacks them (tests/sheets.py).
 set -eu
 cd "$(dirname "$0")/.."
-[ -f target/staticlib/libkeeper.a ] || rt staticlib keeper
+[ -f target/staticlib/libkeeper.a ] || python3 tools/prove.py --lib keeper
 strict="-std=c99 -O1 -g -Wall -Wextra -Werror -pedantic -Iinclude -Iexamples -fsanitize=address,undefined -fno-sanitize-recover=all"
 wrapped="-Wl,--wrap=pwrite,--wrap=write,--wrap=fsync,--wrap=link,--wrap=rename"
 mkdir -p target/sheets

@@ -18,13 +18,13 @@ ROOT = pathlib.Path(__file__).resolve().parent.parent
 # the tables that some rows leave out, as the events that do not look at them do
 CHIP, LINE = ["chip_words", "chip_records", "chip_next"], ["line"]
 # what takes the tables in order: how many things stand before the first table of the disk part, and which it leaves out
-WHOLE = {"stateIn": (4, CHIP + LINE), "stateOf": (2, CHIP + LINE), "same-state": (2, CHIP + LINE)}
+WHOLE = {"state_in": (4, CHIP + LINE), "state_of": (2, CHIP + LINE), "same_state": (2, CHIP + LINE)}
 WHOLE |= {head: (2, CHIP + LINE) for head in ("given", "entered", "left")}
-WHOLE |= {"lined" + end: (2, CHIP) for end in ("Of", "Given", "Entered", "Left")}
-WHOLE |= {"all" + end: (2, []) for end in ("Of", "Given", "Entered", "Left")}
+WHOLE |= {"lined_" + end: (2, CHIP) for end in ("of", "given", "entered", "left")}
+WHOLE |= {"all_" + end: (2, []) for end in ("of", "given", "entered", "left")}
 # what takes the disk part alone
-DISK = ("diskOf", "lentOf")
-ATOM = re.compile(r"[\w\[\]«»′₀-₉-]+")
+DISK = ("disk_of", "lent_of")
+ATOM = re.compile(r"[\w\[\]«»'₀-₉.-]+")
 # made or done by hand before
 LEFT_OUT = ("model/specs/Lent.antt", "model/specs/Setters.antt", "keeper/proofs/")
 
@@ -167,7 +167,7 @@ def main(words):
         print(__doc__.strip(), file=sys.stderr)
         return 2
     place, crates = Place(words[0], words[1], words[2], words[3:]), ROOT / "crates"
-    files = [path for ending in ("rt", "antt") for path in sorted(crates.rglob("*." + ending))]
+    files = [path for ending in ("rt", "antt") for path in sorted(crates.rglob("*." + ending)) if path.relative_to(crates).parts[1] != "out"]
     for path in files:
         name = str(path.relative_to(crates))
         if any(part in name for part in LEFT_OUT):

@@ -57,10 +57,10 @@ def proved_wrong(edit):
     """Proves what the edit does not touch, and then the edited copy: the place of the first refusal or '', what the prover said of it, the
     seconds."""
     start = time.monotonic()
-    run.prove(edits.lent(edit))
     with tempfile.TemporaryDirectory() as room:
-        place, text = run.tried(edit, pathlib.Path(room) / edit.name)
-    said = re.search(r"^.*: error: .*(?:\n .*)*", text, re.M)
+        run.prove(edit.crate, pathlib.Path(room))
+        place, _, text = run.tried(edit, pathlib.Path(room) / edit.name)
+    said = re.search(r"^(?:.*: error: |fn .*: no proof: |note: .*it is not proved that ).*(?:\n .*)*", text, re.M)
     return place, said.group().replace(f"{room}/{edit.name}/", "") if said else "", time.monotonic() - start
 
 
@@ -92,7 +92,7 @@ def shown(edit):
     if not place:
         print(f"\nNOT REFUSED, after {seconds:.0f} s: everything is proved with this definition. That must not be.")
         return 1
-    print(f"\nRefused, after {seconds:.0f} s, by the crate {place}. The prover's first words:\n")
+    print(f"\nRefused, after {seconds:.0f} s, at {place}. The prover's first words:\n")
     lines(said or f"({edit.refused})", 4)
     print("\nSo this sentence of the specification does not hold with it:\n")
     quote(edit.breaks)

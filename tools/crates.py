@@ -14,9 +14,9 @@ ROOT = pathlib.Path(__file__).resolve().parent.parent
 
 
 def listed(text):
-    """The crates in the order of crates.txt: what stands before the colon."""
+    """The crates in the order of crates.txt: the first word before the colon."""
     rows = (line.split("#", 1)[0].partition(":") for line in text.splitlines())
-    return [name.strip() for name, colon, _ in rows if colon]
+    return [name.split()[0] for name, colon, _ in rows if colon]
 
 
 def wrong_with(path, names):

@@ -6,11 +6,10 @@
     cross.py --same          only the control: for x86-64 the module gives the kit's own object, byte for byte
     cross.py --list          the targets
 
-The module is the one that 'rt staticlib keeper' compiles, kept by tools/keep_module.sh. It is read as text, looked at (tools/module.py) and
+The module is the one that rattle compiles, kept by tools/prove.py --module keeper. It is read as text, looked at (tools/module.py) and
 compiled for the target by the kit's own clang, with rattle's words. The exported functions are C (tools/shim.py), compiled by the target's compiler.
 """
 
-import os
 import pathlib
 import re
 import shutil
@@ -19,6 +18,7 @@ import sys
 from typing import NamedTuple
 
 import elf
+import kit
 import module
 from shim import Refused, prototypes, shim, structs
 
@@ -75,8 +75,7 @@ TARGETS["riscv64-unknown-elf"] = TARGETS["riscv64-none-elf"]
 
 def tool(name):
     """A program of the kit's toolchain."""
-    home = os.environ.get("RATTLE_HOME") or pathlib.Path(shutil.which("rt") or sys.exit("cross: rt is not on the path")).resolve().parent.parent
-    return pathlib.Path(home) / "on" / os.uname().machine / "toolchain" / "bin" / name
+    return kit.home() / "toolchain" / "bin" / name
 
 
 def run(*words):
@@ -163,8 +162,7 @@ def archive(name, given):
     text = module_text()
     module.looked_at(text)
     same(text)
-    inner = module.inner_names(text, prototypes(header), structs(header))
-    keeper = compiled(target, module.for_target(text, inner, target.triple, layout(target), target.probes), folder)
+    keeper = compiled(target, module.for_target(text, prototypes(header), structs(header), target.triple, layout(target), target.probes), folder)
     (folder / "shim.c").write_text(shim(header))
     strict = ["-std=c11", "-O2", "-ffreestanding", "-ffunction-sections", "-Wall", "-Wextra", "-Werror", "-Wa,--noexecstack", *([] if target.bare else ["-fPIC"])]
     run(*compiler, *target.words, *strict, "-I", HEADER.parent, "-c", folder / "shim.c", "-o", folder / "shim.o")
@@ -186,7 +184,7 @@ def main(words):
             print(f"for x86-64 the kept module gives the kit's own object, byte for byte, {same(module_text()):,} bytes")
         else:
             print(archive(words[0], words[1:]))
-    except (Refused, OSError, ValueError) as said:
+    except (Refused, kit.Missing, OSError, ValueError) as said:
         print(f"cross: {said}", file=sys.stderr)
         return 1
     return 0

@@ -17,7 +17,7 @@ def program(name):
     """tools/NAME.c, built over the static library."""
     built, library = ROOT / "target" / name, ROOT / "target" / "staticlib" / "libkeeper.a"
     if not library.exists():
-        raise Missing("there is no target/staticlib/libkeeper.a: rt staticlib keeper makes it")
+        raise Missing("there is no target/staticlib/libkeeper.a: tools/prove.py --lib keeper makes it")
     words = ["gcc", "-std=c99", "-O2", "-Wall", "-Wextra", "-Werror", "-pedantic", "-Iinclude", f"tools/{name}.c", library, "-o", built]
     subprocess.run(words, cwd=ROOT, check=True)
     return built

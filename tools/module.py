@@ -7,14 +7,14 @@ depend on the order of its bytes; tests/cross tries a processor of the other ord
 
 import re
 
-from shim import Refused, signatures
+from shim import Refused, between, signatures
 
-INSTRUCTIONS = set("alloca load store getelementptr icmp select phi br switch ret call unreachable".split()) | set(
+INSTRUCTIONS = set("alloca load store getelementptr icmp select phi br switch ret call unreachable extractvalue insertvalue".split()) | set(
     "add sub mul udiv urem sdiv srem and or xor shl lshr ashr zext sext trunc".split()
 )
 TYPES = {"i1", "i8", "i16", "i32", "i64", "ptr", "void", "label"}
 INTRINSICS = re.compile(r"llvm\.(memcpy|memmove|memset|ctpop|ctlz|cttz|trap)\b")
-ATTRIBUTES = {'"probe-stack"="inline-asm"', '"target-cpu"="x86-64"'} | set("cold nocallback nofree noreturn nosync nounwind speculatable willreturn".split())
+ATTRIBUTES = {'"probe-stack"="inline-asm"', '"stack-probe-size"="3072"', '"target-cpu"="x86-64-v2"'} | set("cold nocallback nofree noreturn nosync nounwind speculatable willreturn".split())
 # places are counted in bytes: then no pointer's width is in them
 PLACES = re.compile(r"getelementptr (inbounds |nuw |nusw )*i8, |alloca (\[\d+ x i8\]|i\d+|ptr), ")
 LINKAGES = re.compile(r"(internal|private) (unnamed_addr )?constant ")
@@ -49,6 +49,10 @@ def refuse_type(line):
     kinds = set(re.findall(r"(?<![\w.%@-])(i\d+)\b", line)) | set(re.findall(r"\b(token|x86_amx|metadata|target\()", line))
     if kinds - TYPES:
         raise Refused(f"a type that is not looked at: {line.strip()[:120]}")
+    for fields in (found.split(", ") for found in re.findall(r"<?\{ ([^{}]*) \}", line)):
+        # a pointer's field has 4 bytes where pointers have 32 bits: what follows it stands at a multiple of 8 then, or is refused
+        if "ptr" in fields and (set(fields) - {"ptr", "i64"} or ("ptr", "ptr") in zip(fields, fields[1:])):
+            raise Refused(f"a struct with another layout where pointers have 4 bytes: {line.strip()[:120]}")
 
 
 def refuse_instruction(line):
@@ -115,16 +119,16 @@ def exported(text):
         parts = re.match(r'((?:[\w ()]+ )?)@("?[\w:]+"?)\((.*)\)', head)
         if not parts:
             raise Refused(f"an exported function that is not looked at: {head[:120]}")
-        called = re.findall(r'call void @("[^"]+"|\w+)\(', re.sub(r".*@llvm\..*", "", body))
+        called = re.findall(r'call (?:void|\{[^{}]*\}|i\d+|ptr) @("[^"]+"|\w+)\(', re.sub(r".*@llvm\..*", "", body))
         parameters = [re.sub(r" %\w+$", "", word) for word in re.split(r", (?![^()]*\))", parts[3]) if word]
         found[parts[2]] = (parts[1].strip(), parameters, called)
     return found
 
 
 def taken_by(text, name):
-    """The types that an internal function takes, and None if it gives anything back or is not there."""
-    found = re.search(rf"^define internal void @{re.escape(name)}\((.*)\) ", text, re.M)
-    return found and [word.split()[0] for word in found[1].split(", ") if word]
+    """What an internal function gives back, and the types that it takes; None if it is not there."""
+    found = re.search(rf"^define internal (?:noundef )?(.*?) @{re.escape(name)}\((.*)\) ", text, re.M)
+    return found and (found[1], [word.split()[0] for word in found[2].split(", ") if word])
 
 
 def inner_names(text, calls, known):
@@ -154,13 +158,14 @@ def once(pattern, new, text):
     return out
 
 
-def for_target(text, inner, triple, layout, probes):
-    """The module for a target: its exported functions left out, those behind them named, and what names x86-64 replaced."""
+def for_target(text, calls, known, triple, layout, probes):
+    """The module for a target: its exported functions left out, one for C in the place of each, and what names x86-64 replaced."""
+    inner = inner_names(text, calls, known)
     text = re.sub(r"^define (?!internal\b)[^\n]* \{\n.*?^\}\n", "", text, flags=re.S | re.M)
-    for name, behind in inner.items():
-        text = once(rf"^define internal void @{re.escape(behind)}\(", f"define hidden void @proved_{name}(", text)
-        text = text.replace(f"@{behind}(", f"@proved_{name}(")
+    first = text.index("define internal")
+    attributes = re.search(r" (#\d+) \{$", text[first:], re.M)[1]
+    text = text[:first] + "".join(between(call, inner[call.name], known, attributes) + "\n" for call in calls) + text[first:]
     text = once(r"^target datalayout = .*$", f'target datalayout = "{layout}"', text)
     text = once(r"^target triple = .*$", f'target triple = "{triple}"', text)
-    text = text.replace(' "target-cpu"="x86-64"', "")
-    return text if probes else text.replace(' "probe-stack"="inline-asm"', "")
+    text = text.replace(' "target-cpu"="x86-64-v2"', "")
+    return text if probes else text.replace(' "probe-stack"="inline-asm"', "").replace(' "stack-probe-size"="3072"', "")

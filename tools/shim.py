@@ -1,7 +1,8 @@
 """The C file through which C calls the proved functions on another processor, made from include/keeper.h alone. Not proved, tested by tests/cross.
 
-The exported functions of the module know x86-64's convention for structs. The functions behind them know none: they take every struct and
-every slice by a pointer, laid out as on x86-64. So the exported ones are left out, and this file has C functions of their names, whose
+The exported functions of the module know x86-64's convention for structs. The functions behind them know none: they take a slice as a place and
+a count, a struct of 16 bytes or less by its fields and a larger one by a pointer, laid out as on x86-64. So the exported ones are left out. In
+their place each has one in the module that takes structs and slices by a pointer, and this file has C functions of their names, whose
 convention is the business of the target's own C compiler. A prototype with anything that is not looked at here is refused.
 """
 
@@ -25,14 +26,15 @@ class Call(NamedTuple):
 
 
 class Argument(NamedTuple):
-    """What a parameter, or a pointer with its count, becomes: its type in the module and in the exported function there, the C type, a line that
-    makes it, and its name in the call."""
+    """What a parameter, or a pointer with its count, becomes: its types in the module and in the exported function there, the C type, a line that
+    makes it, and its name in the call; and where its parts lie behind the pointer, if it is handed over by them."""
 
     inner: list
     exported: list
     kind: str
     line: str
     passed: str
+    places: list = []
 
 
 def structs(header):
@@ -81,6 +83,12 @@ def proved(name, known):
     return "Proved" + name if is_wide(known[name]) else name
 
 
+def parts(name, known):
+    """The fields of a struct that the proved functions hand over by its fields, as their types and places; nothing for a larger one."""
+    places, size, _ = layout(known[name])
+    return [(f"i{8 * WIDTHS[kind]}", at) for (kind, _), (_, at) in zip(known[name], places)] if size <= 16 else []
+
+
 def by_convention(name, known):
     """How x86-64 hands a struct over by value."""
     _, size, align = layout(known[name])
@@ -97,14 +105,15 @@ def of_slice(kind, name, known):
     if element not in WIDTHS and element not in known or element == "size_t" or element in known and is_wide(known[element]):
         raise Refused(f"{name}: a slice of {element} is not looked at")
     line = f"const Slice {name}_slice = {{{name}, {name}_count}};"
-    return Argument(["ptr"], ["ptr noundef", "i64 noundef"], "const Slice *", line, f"&{name}_slice")
+    return Argument(["ptr", "i64"], ["ptr noundef", "i64 noundef"], "const Slice *", line, f"&{name}_slice", [0, 8])
 
 
 def of_struct(kind, name, known):
     """A struct by value."""
     values = ", ".join(f"{name}.{field}" for _, field in known[kind])
     made = f"{proved(kind, known)} {name}_copy = {{{values}}};"
-    return Argument(["ptr"], [by_convention(kind, known)], proved(kind, known) + " *", made, f"&{name}_copy")
+    kinds, places = zip(*(parts(kind, known) or [("ptr", None)]))
+    return Argument(list(kinds), [by_convention(kind, known)], proved(kind, known) + " *", made, f"&{name}_copy", [at for at in places if at is not None])
 
 
 def of_one(kind, name, known):
@@ -137,12 +146,48 @@ def arguments(call, known):
 
 
 def signatures(call, known):
-    """A call's two functions in the module: what the inner one takes, and the exported one's result and parameters."""
+    """A call's two functions in the module, each as its result and its parameters: the inner one, and the exported one."""
     taken = arguments(call, known)
-    inner = ["ptr"] + [kind for argument in taken for kind in argument.inner]
+    inner = [kind for argument in taken for kind in argument.inner]
+    fields = parts(call.result, known)
+    behind = ("{ " + ", ".join(kind for kind, _ in fields) + " }", inner) if fields else ("void", ["ptr", *inner])
     exported = [kind for argument in taken for kind in argument.exported]
     by = by_convention(call.result, known)
-    return inner, ("noundef ptr", ["ptr noundef", *exported]) if "byval" in by else (by, exported)
+    return behind, ("noundef ptr", ["ptr noundef", *exported]) if "byval" in by else (by, exported)
+
+
+def handed(number, argument, lines):
+    """An argument of the function in the module, as the inner one takes it; the lines read its parts, and give a table at null, which has no
+    element, the place that the exported function gives it."""
+    if not argument.places:
+        return [f"{argument.inner[0]} %p{number}"]
+    out = []
+    for part, (kind, at) in enumerate(zip(argument.inner, argument.places)):
+        name = f"%p{number}.{part}"
+        lines += [f"{name}.at = getelementptr i8, ptr %p{number}, i64 {at}", f"{name} = load {kind}, ptr {name}.at, align {4 if kind == 'i32' else 8}"]
+        if kind == "ptr":
+            lines += [f"{name}.none = icmp eq ptr {name}, null", f"{name}.wide = zext i1 {name}.none to i64", f"{name}.far = mul i64 {name}.wide, 4096"]
+            lines.append(f"{name}.safe = getelementptr i8, ptr {name}, i64 {name}.far")
+            name += ".safe"
+        out.append(f"{kind} {name}")
+    return out
+
+
+def between(call, behind, known, attributes):
+    """The function of the module that this file's C function calls: structs, slices and the result by pointers, handed on as the inner one takes them."""
+    (result, _), _ = signatures(call, known)
+    taken, lines = arguments(call, known), []
+    passed = [word for number, argument in enumerate(taken) for word in handed(number, argument, lines)]
+    if result == "void":
+        lines.append(f"call void @{behind}({', '.join(['ptr %result', *passed])})")
+    else:
+        lines.append(f"%out = call {result} @{behind}({', '.join(passed)})")
+        for number, (kind, at) in enumerate(parts(call.result, known)):
+            lines += [f"%out{number} = extractvalue {result} %out, {number}", f"%at{number} = getelementptr i8, ptr %result, i64 {at}"]
+            lines.append(f"store {kind} %out{number}, ptr %at{number}, align 4")
+    kinds = [f"{'ptr' if argument.places else argument.inner[0]} noundef %p{number}" for number, argument in enumerate(taken)]
+    head = f"define hidden void @proved_{call.name}({', '.join(['ptr noundef %result', *kinds])}) {attributes} {{\nstart:\n"
+    return head + "".join(f"  {line}\n" for line in [*lines, "ret void"]) + "}\n"
 
 
 def mirror(name, fields):

@@ -4,7 +4,7 @@
     starts.py --write    makes include/sectors_starts.h
     starts.py --check    fails if it is not what --write would make
 
-The program's text is crates/starts/stdout: `rt check starts` fails if the program prints anything else.
+The program's text is crates/starts/stdout: `rt ci` fails if the program prints anything else.
 """
 
 import pathlib

@@ -23,23 +23,23 @@ class Texts(unittest.TestCase):
         self.assertEqual(len(left), by_hand, left)
 
     def test_rows(self):
-        self.row(f"diskOf {DISK}", f"diskOf {DISK} serial")
-        self.row(f"allGiven fs (last .pool) {DISK} words", f"allGiven fs (last .pool) {DISK} serial words")
-        self.row("given f p (a .r) (a .n) (a .c) (a .m) (a .l) (a .p)\n  (a .highest .now) w", "given f p (a .r) (a .n) (a .c) (a .m) (a .l) (a .p)\n  (a .highest .now) (a .serial .now) w")
-        self.row("same-state f p refl refl refl refl refl refl refl w", "same-state f p refl refl refl refl refl refl refl refl w")
+        self.row(f"disk_of {DISK}", f"disk_of {DISK} serial")
+        self.row(f"all_given fs last.pool {DISK} words", f"all_given fs last.pool {DISK} serial words")
+        self.row("given f p a.r a.n a.c a.m a.l a.p\n  a.highest.now w", "given f p a.r a.n a.c a.m a.l a.p\n  a.highest.now a.serial.now w")
+        self.row("same_state f p refl refl refl refl refl refl refl w", "same_state f p refl refl refl refl refl refl refl refl w")
 
     def test_what_is_no_row(self):
-        for text in ("st .given a b", "given-all a b c d e f g h i", "allGiven a b", "allGiven f p (a b", f"diskOf {DISK} serial"):
+        for text in ("st.given a b", "given_all a b c d e f g h i", "all_given a b", "all_given f p (a b", f"disk_of {DISK} serial"):
             with self.subTest(text):
                 self.row(text, text)
 
     def test_by_hand(self):
-        self.row("diskOf r n a m l p (f x)", "diskOf r n a m l p (f x)", 1)
+        self.row("disk_of r n a m l p (f x)", "disk_of r n a m l p (f x)", 1)
         self.row("record { parents = ps; highest = hs }", "record { parents = ps; highest = hs }", 1)
 
     def test_fields(self):
-        self.row("{ parents = d .parents; highest = d .highest }", "{ parents = d .parents; highest = d .highest; serial = d .serial }")
-        self.row("  highest = c .highest;\n", "  highest = c .highest;\n  serial = c .serial;\n")
+        self.row("{ parents = d.parents; highest = d.highest }", "{ parents = d.parents; highest = d.highest; serial = d.serial }")
+        self.row("  highest = c.highest;\n", "  highest = c.highest;\n  serial = c.serial;\n")
         self.row("{ parents = 0 ∷ []; highest = 0 ∷ [] }", "{ parents = 0 ∷ []; highest = 0 ∷ []; serial = 0 ∷ [] }")
 
     def test_parameters(self):
@@ -60,15 +60,15 @@ class Texts(unittest.TestCase):
 
     def test_memory_table(self):
         place = addtable.Place("recent", "images", "u16", [])
-        self.assertNotIn("diskOf", place.rows)
+        self.assertNotIn("disk_of", place.rows)
         left = []
-        for head, end in (("allOf fs p", "cw cr cn line used"), ("linedOf fs p", "line used"), ("given fs p", "used"), ("stateIn k l fs p", "used")):
+        for head, end in (("all_of fs p", "cw cr cn line used"), ("lined_of fs p", "line used"), ("given fs p", "used"), ("state_in k l fs p", "used")):
             row = f"{head} {DISK} w q r a s o m c u images {end}"
             self.assertEqual(addtable.with_rows(row, place, left), row.replace("images", "images recent"))
         self.assertEqual(place.follows, ["chip_words", "line", "used"])
         for after in ("line", "chip_next"):
             place = addtable.Place("recent", after, "u16", [])
-            self.assertEqual(("given" in place.rows, "linedGiven" in place.rows, "allGiven" in place.rows), (False, after == "line", True))
+            self.assertEqual(("given" in place.rows, "lined_given" in place.rows, "all_given" in place.rows), (False, after == "line", True))
         self.assertEqual(addtable.Place("recent", "used", "u16", []).rows["given"], 20)
 
 
@@ -77,7 +77,7 @@ class Crates(unittest.TestCase):
         """Every function that takes or hands on all tables has one more."""
         with tempfile.TemporaryDirectory() as folder:
             root = pathlib.Path(folder)
-            shutil.copytree(ROOT / "crates", root / "crates")
+            shutil.copytree(ROOT / "crates", root / "crates", ignore=shutil.ignore_patterns("out"))
             shutil.copytree(ROOT / "tools", root / "tools", ignore=shutil.ignore_patterns("__pycache__"))
             run = [sys.executable, root / "tools" / "addtable.py", "serial", "highest", "u32"]
             said = subprocess.run(run, capture_output=True, text=True, check=True).stdout

@@ -75,7 +75,7 @@ int main(void)
         header = STRUCTS + "KeeperAnswer keeper_print(KeeperSizes sizes, uint8_t *buffer, size_t buffer_count, const uint8_t *sheet, size_t sheet_count);"
         call, known = shim.prototypes(header)[0], shim.structs(header)
         inner, (result, exported) = shim.signatures(call, known)
-        self.assertEqual((inner, result), (["ptr"] * 4, "i64"))
+        self.assertEqual((inner, result), (("{ i32, i32 }", ["ptr", "ptr", "i64", "ptr", "i64"]), "i64"))
         self.assertEqual(exported[1:], ["ptr noundef", "i64 noundef"] * 2)
 
     def test_refused(self):
@@ -144,7 +144,7 @@ class Objects(test_module.Case):
 
 
 class Tool(test_module.Case):
-    """cross.py over a small module: a folder with what tools/keep_module.sh leaves, and the archive of that module."""
+    """cross.py over a small module: a folder with what tools/prove.py --module leaves, and the archive of that module."""
 
     WORDS = "--target=x86_64-unknown-linux-gnu\n-march=x86-64\n-Werror\n-c\n-x\nir\nmodule.bc\n-o\nmodule.o\n-fPIC\n-O3\n"
 

@@ -19,7 +19,7 @@ C_TYPES = {"u8": "uint8_t", "u16": "uint16_t", "u32": "uint32_t", "usize": "size
 def structs():
     """The structs of the source that C sees: name, and each field with its type."""
     text = "\n".join(path.read_text() for path in sorted(MODEL.glob("*.rt")))
-    found = re.findall(r"#\[repr\(C\)\]\npub struct (\w+) \{(.*?)\}", text, re.S)
+    found = re.findall(r"#\[repr\(C\)\]\n(?:#\[derive\(.*?\)\]\n)?pub struct (\w+) \{(.*?)\}", text, re.S)
     return {name: re.findall(r"pub (\w+): (\w+),", body) for name, body in found}
 
 

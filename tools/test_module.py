@@ -27,13 +27,13 @@ target triple = "x86_64-unknown-linux-gnu"
 @"keeper::asm::TABLE" = internal unnamed_addr constant [4 x i8] c"asm\00", align 1
 
 ; Function Attrs: nounwind
-define internal void @"keeper::volatile::keeper_sum"(ptr noundef %a0, ptr noundef %a1, ptr noundef %a2, i64 noundef %a3) #0 {
+define internal noundef { i32, i32 } @"keeper::volatile::keeper_sum"(ptr noundef %a0, ptr noundef %a1, i64 noundef %a2, i64 noundef %a3) #0 {
 start:
   %r0 = alloca [8 x i8], align 4
   %r10 = alloca ptr, align 8
-  store ptr %a2, ptr %r10, align 8
+  store ptr %a1, ptr %r10, align 8
   %r11 = load ptr, ptr %r10, align 8
-  %r1 = getelementptr i8, ptr %a1, i64 4
+  %r1 = getelementptr i8, ptr %a0, i64 4
   %r2 = load i32, ptr %r1, align 4, !noundef !1
   %r3 = icmp ult i64 %a3, 7
   br i1 %r3, label %then.1, label %else.2
@@ -41,8 +41,9 @@ start:
 then.1:                                           ; preds = %start, inline asm
   %r4 = add nuw i32 %r2, 1
   store i32 %r4, ptr %r0, align 4
-  call void @llvm.memmove.p0.p0.i64(ptr %a0, ptr %r0, i64 8, i1 false)
-  ret void
+  call void @llvm.memmove.p0.p0.i64(ptr %r0, ptr %r0, i64 8, i1 false)
+  %r5 = load { i32, i32 }, ptr %r0, align 4
+  ret { i32, i32 } %r5
 
 else.2:                                           ; preds = %start
   switch i32 %r2, label %then.1 [
@@ -58,17 +59,20 @@ else.3:                                           ; preds = %else.2
 define i64 @keeper_sum(ptr noundef byval([20 x i8]) align 4 %a0, ptr noundef %a1, i64 noundef %a2, i64 noundef %a3) #0 {
 start:
   %r0 = alloca [8 x i8], align 4
-  %r1 = alloca [16 x i8], align 8
-  store ptr %a1, ptr %r1, align 8
-  call void @"keeper::volatile::keeper_sum"(ptr %r0, ptr %a0, ptr %r1, i64 %a3)
-  %r2 = load i64, ptr %r0, align 4
-  ret i64 %r2
+  %r1 = call { i32, i32 } @"keeper::volatile::keeper_sum"(ptr %a0, ptr %a1, i64 %a2, i64 %a3)
+  %r2 = extractvalue { i32, i32 } %r1, 0
+  %r3 = extractvalue { i32, i32 } %r1, 1
+  store i32 %r2, ptr %r0, align 1
+  %r4 = getelementptr i8, ptr %r0, i64 4
+  store i32 %r3, ptr %r4, align 1
+  %r5 = load i64, ptr %r0, align 4
+  ret i64 %r5
 }
 
 ; Function Attrs: nocallback nofree nounwind willreturn memory(argmem: readwrite)
 declare void @llvm.memmove.p0.p0.i64(ptr writeonly captures(none), ptr readonly captures(none), i64, i1 immarg) #1
 
-attributes #0 = { nounwind "probe-stack"="inline-asm" "target-cpu"="x86-64" }
+attributes #0 = { nounwind "probe-stack"="inline-asm" "stack-probe-size"="3072" "target-cpu"="x86-64-v2" }
 attributes #1 = { nocallback nofree nounwind willreturn memory(argmem: readwrite) }
 
 !llvm.ident = !{!0}
@@ -100,6 +104,8 @@ INSIDE = [
     ("%r9 = freeze i32 %r2", "an instruction that is not looked at"),
     ("%r9 = call i64 @llvm.readcyclecounter()", "an intrinsic that is not looked at"),
     ("%r9 = getelementptr ptr, ptr %a0, i64 1", "a place that is not counted in bytes"),
+    ("%r9 = load { ptr, i32 }, ptr %a0, align 8", "a struct with another layout"),
+    ("%r9 = load { ptr, ptr }, ptr %a0, align 8", "a struct with another layout"),
     ("%r9 = alloca [2 x ptr], align 8", "a place that is not counted in bytes"),
     ("%r9 = alloca ptr, align 8\n  call void @llvm.memmove.p0.p0.i64(ptr %a0, ptr %r9, i64 8, i1 false)", "a pointer's place that is used as bytes"),
     ("%r9 = alloca ptr, align 8\n  %r10 = load i64, ptr %r9, align 8", "a pointer's place that is used as bytes"),
@@ -157,15 +163,15 @@ class Modules(Case):
     def test_signatures(self):
         """What is exported, and what is behind it, must be what the header's prototype says."""
         exported = "@keeper_sum(ptr noundef byval([20 x i8]) align 4 %a0, ptr noundef %a1, i64 noundef %a2, i64 noundef %a3)"
-        inner = "(ptr noundef %a0, ptr noundef %a1, ptr noundef %a2, i64 noundef %a3)"
-        call = '  call void @"keeper::volatile::keeper_sum"(ptr %r0, ptr %a0, ptr %r1, i64 %a3)\n'
+        inner = 'keeper_sum"(ptr noundef %a0, ptr noundef %a1, i64 noundef %a2, i64 noundef %a3)'
+        call = '  %r1 = call { i32, i32 } @"keeper::volatile::keeper_sum"(ptr %a0, ptr %a1, i64 %a2, i64 %a3)\n'
         more = "define void @keeper_more() #0 {\nstart:\n  ret void\n}\n"
         for reason, old, new in (
             ("an exported signature that is not known", "byval([20 x i8])", "byval([24 x i8])"),
             ("an exported signature that is not known", "define i64 @keeper_sum", "define i32 @keeper_sum"),
             ("an exported signature that is not known", exported, exported.replace("i64 noundef %a3", "i32 noundef %a3")),
             ("the function behind it is not known", inner, inner.replace("i64 noundef %a3", "i32 noundef %a3")),
-            ("the function behind it is not known", "internal void @", "internal i32 @"),
+            ("the function behind it is not known", "internal noundef { i32, i32 } @", "internal i32 @"),
             ("the function behind it is not known", call, call + call),
             ("the module does not export it", "@keeper_sum(", "@keeper_some("),
             ("the header does not have it", "attributes #0", more + "attributes #0"),
@@ -175,15 +181,17 @@ class Modules(Case):
                 self.refused(reason, self.names, SOUND.replace(old, new))
 
     def test_for_target(self):
-        text = module.for_target(SOUND, self.names(SOUND), "arm-x", "e-p:32:32-i64:64", False)
+        calls = (shim.prototypes(HEADER), shim.structs(HEADER))
+        text = module.for_target(SOUND, *calls, "arm-x", "e-p:32:32-i64:64", False)
         self.assertIn('target triple = "arm-x"\n', text)
         self.assertIn('target datalayout = "e-p:32:32-i64:64"\n', text)
-        self.assertIn("define hidden void @proved_keeper_sum(ptr noundef %a0", text)
+        self.assertIn("define hidden void @proved_keeper_sum(ptr noundef %result, ptr noundef %p0, ptr noundef %p1, i64 noundef %p2) #0 {", text)
+        self.assertIn('%out = call { i32, i32 } @"keeper::volatile::keeper_sum"(ptr %p0, ptr %p1.0.safe, i64 %p1.1, i64 %p2)', text)
         self.assertIn("attributes #0 = { nounwind }", text)
-        for gone in ("x86-64", "@keeper_sum", "byval", "keeper::volatile"):
+        for gone in ("x86-64", "@keeper_sum", "byval"):
             self.assertNotIn(gone, text)
-        self.assertIn("inline-asm", module.for_target(SOUND, self.names(SOUND), "arm-x", "e-i64:64", True))
-        self.refused("2 lines where one", module.for_target, SOUND + 'target triple = "other"\n', {}, "arm-x", "e", False)
+        self.assertIn("inline-asm", module.for_target(SOUND, *calls, "arm-x", "e-i64:64", True))
+        self.refused("2 lines where one", module.for_target, SOUND + 'target triple = "other"\n', *calls, "arm-x", "e", False)
 
 
 if __name__ == "__main__":

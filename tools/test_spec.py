@@ -71,12 +71,12 @@ class Whole(unittest.TestCase):
         self.assertEqual(sorted(names - said(file, crate)), [])
 
     def test_rules(self):
-        self.all_said("Rules", typed("Rules", "Rule") - {"once", "fit", "isActive"})
+        self.all_said("Rules", typed("Rules", "Rule") - {"once", "fit", "is_active"})
 
     def test_questions(self):
         questions = {name for name in typed("Questions", "Questions") if re.fullmatch(r"q\d+", name)}
         self.all_said("Questions", questions)
-        rows = [int(number) for number in re.findall(r"^\| (\d+) \| .* \| `(?:Questions\.q|Step\.allFit|Rules\.allRules)", SPEC, re.M)]
+        rows = [int(number) for number in re.findall(r"^\| (\d+) \| .* \| `(?:Questions\.q|Step\.all_fit|Rules\.all_rules)", SPEC, re.M)]
         self.assertEqual(rows, [1, 2, *sorted(int(name[1:]) for name in questions)])
 
     def test_events(self):
@@ -104,7 +104,7 @@ class Whole(unittest.TestCase):
     def test_turns(self):
         cases = re.search(r"pub data Turning .*?\n\n", source("", "Questions"), re.S).group()
         self.all_said("Questions", set(re.findall(r"^  (\w+) :", cases, re.M)))
-        self.all_said("Turns", defined(source("", "Turns")) & {"Deed", "turns", "calm", "calmTurns", "gone", "Left", "NoneRefused"})
+        self.all_said("Turns", defined(source("", "Turns")) & {"Deed", "turns", "calm", "calm_turns", "gone", "Left", "NoneRefused"})
 
     def test_ledger(self):
         fed = re.search(r"pub data Fed .*?\n\n", source("", "Ledger"), re.S).group()
@@ -117,7 +117,7 @@ class Whole(unittest.TestCase):
 
     def test_claim_from_pack(self):
         text = source("", "FromPack")
-        rules = set(re.search(r"fromPack(?:ed)? = (.*)", text).group(1).replace(" z w", "").split(" and "))
+        rules = set(re.search(r"from_pack(?:ed)? = (.*)", text).group(1).replace(" z w", "").split(" and "))
         self.all_said("Demand3", rules - defined(text))
         self.all_said("FromPack", rules & defined(text))
 
@@ -126,22 +126,22 @@ class Whole(unittest.TestCase):
         self.all_said("Accounts", {"shifted"})
 
     def test_sheets(self):
-        self.all_said("Sheet", {"field", "bytes", "head", "pageField", "shownField", "printed", "laid", "form", "pageFits", "parsed", "textIn"}, "sheets")
-        self.all_said("Import", {"taking", "taken", "storeRecord", "entry", "storeSlot", "imported", "import"})
-        self.all_said("Export", {"pageText", "exported", "export"})
+        self.all_said("Sheet", {"field", "bytes", "head", "page_field", "shown_field", "printed", "laid", "form", "page_fits", "parsed", "text_in"}, "sheets")
+        self.all_said("Import", {"taking", "taken", "store_record", "entry", "store_slot", "imported", "import"})
+        self.all_said("Export", {"page_text", "exported", "export"})
         self.all_said("Stores", {"Call", "stores", "made", "first"})
 
     def test_isolation(self):
-        rules = set(re.findall(r"[a-z]+Like", re.search(r"wordsLike = (.*)", source("isolation", "Shown")).group(1)))
-        self.all_said("Shown", rules | {"wordsLike", "Shown"}, "isolation")
+        rules = set(re.findall(r"[a-z]+_like", re.search(r"words_like = (.*)", source("isolation", "Shown")).group(1)))
+        self.all_said("Shown", rules | {"words_like", "Shown"}, "isolation")
         twin = re.search(r"pub data Twin .*?\n\n", source("isolation", "Twins"), re.S).group()
         self.all_said("Twins", set(re.findall(r"^  (\w+) :", twin, re.M)), "isolation")
         self.all_said("Answers", set(re.findall(r"^  pub (\w+) :", source("isolation", "Answers"), re.M)), "isolation")
 
     def test_chip(self):
-        self.all_said("Chip", {"hasCopy", "placeOf", "placeFor", "copied", "found", "takeCopy", "arrives", "stale", "onlyLive", "emptyChip"})
-        self.all_said("Step", {"isFault", "supplied", "filled", "whole"})
-        self.all_said("Woven", {"woven", "actBy", "runBy", "legalBy"}, "woven")
+        self.all_said("Chip", {"has_copy", "place_of", "place_for", "copied", "found", "take_copy", "arrives", "stale", "only_live", "empty_chip"})
+        self.all_said("Step", {"is_fault", "supplied", "filled", "whole"})
+        self.all_said("Woven", {"woven", "act_by", "run_by", "legal_by"}, "woven")
         self.all_said("Without", {"without", "SameSeen", "ChipUnseen"}, "woven")
 
     def test_edges(self):

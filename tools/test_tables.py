@@ -61,12 +61,12 @@ def bare(tables_):
 def lengths(step=STEP):
     """The lengths that question 1 asks for: field, and the length by letters; a length is a term, the name of a number, or a number."""
     letters = {size.name: size.letter for size in lent.SIZES}
-    found = re.findall(r"same \(length \((\w) ((?:\.[\w-]+ ?)+)\)\) (\([^)]*\)|[A-Z]+|\d+)", step)
+    found = re.findall(r"same \(length (\w)((?:\.\w+)+)\) (\([^)]*\)|z\.\w+|[A-Z]+|\d+)", step)
     fixed = dict(re.findall(r"^([A-Z]+) = (\d+)$", STATE, re.M))
     out = {}
     for of, path, length in found:
-        length = fixed.get(length) or length.strip("()").replace("allPages z", "S * N").replace("mapWords z", "(R + 31) / 32")
-        out[("chip." if of == "k" else "") + path.split(".")[-1].strip()] = re.sub(r"z \.(\w+)", lambda size: letters[size.group(1)], length)
+        length = fixed.get(length) or length.strip("()").replace("all_pages z", "S * N").replace("map_words z", "(R + 31) / 32")
+        out[("chip." if of == "k" else "") + path.split(".")[-1].strip()] = re.sub(r"z\.(\w+)", lambda size: letters[size.group(1)], length)
     return out
 
 
@@ -88,18 +88,18 @@ class Code(unittest.TestCase):
         self.assertEqual(fields("Disk"), [table.field for table in lent.of_part("disk")])
 
     def test_state_of(self):
-        for name, tables_ in (("allOf", lent.in_call("apply")), ("diskOf", lent.in_call("format"))):
+        for name, tables_ in (("all_of", lent.in_call("apply")), ("disk_of", lent.in_call("format"))):
             taken = re.search(rf"^{name} (.*?) =(?: |$)", LENT, re.M).group(1).split()
             self.assertEqual(taken, bare(tables_))
 
     def test_lengths(self):
         self.assertEqual(lengths(), {table.field: table.length for table in lent.TABLES if not table.is_one()})
-        text = "same (length (d .one)) 1 and same (length (m .held .free-map)) (mapWords z) and same (length (m .line)) LINE and same (length (k .more)) (z .slots)"
-        self.assertEqual(lengths(text), {"one": "1", "free-map": "(R + 31) / 32", "line": "32", "chip.more": "S"})
+        text = "same (length d.one) 1 and same (length m.held.free_map) (map_words z) and same (length m.line) LINE and same (length k.more) z.slots"
+        self.assertEqual(lengths(text), {"one": "1", "free_map": "(R + 31) / 32", "line": "32", "chip.more": "S"})
 
     def test_limits(self):
-        most = dict(re.findall(r"^most(\w+) = (\d+)$", (CRATES / "model" / "specs" / "Sizes.antt").read_text(), re.M))
-        self.assertEqual({size.name.title(): str(size.most) for size in lent.SIZES}, most)
+        most = dict(re.findall(r"^most_(\w+) = (\d+)$", (CRATES / "model" / "specs" / "Sizes.antt").read_text(), re.M))
+        self.assertEqual({size.name: str(size.most) for size in lent.SIZES}, most)
 
     def test_reference(self):
         for part in lent.PARTS:

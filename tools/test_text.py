@@ -1,8 +1,12 @@
 #!/usr/bin/env python3
-"""What is held of the text of the crates, so that it can be read: python3 tools/test_text.py"""
+"""What is held of the text of the crates, so that it can be read: python3 tools/test_text.py
+
+    test_text.py --list    prints the rows of tools/long_functions.txt as the code has them
+"""
 
 import pathlib
 import re
+import sys
 import unittest
 
 import walks
@@ -17,7 +21,8 @@ DECISIONS = (ROOT / "docs" / "DECISIONS.md").read_text()
 
 def sources():
     """The crates' files of code, definitions and proofs."""
-    return sorted(path for ending in ("rt", "antt") for path in (ROOT / "crates").rglob("*." + ending))
+    paths = (path for ending in ("rt", "antt") for path in (ROOT / "crates").rglob("*." + ending))
+    return sorted(path for path in paths if path.relative_to(ROOT / "crates").parts[1] != "out")
 
 
 def long_lines(text):
@@ -90,7 +95,7 @@ def excused(by):
 
 def excused_files():
     """The files that docs/DECISIONS.md names as longer, below crates."""
-    part = DECISIONS[DECISIONS.index("One file is longer") :].split("The walks")[0]
+    part = DECISIONS[DECISIONS.index("No file is longer") :].split("The walks")[0]
     return set(re.findall(r"`([\w/]+\.\w+)`", part))
 
 
@@ -151,4 +156,8 @@ class Text(unittest.TestCase):
 
 
 if __name__ == "__main__":
-    unittest.main()
+    if sys.argv[1:] == ["--list"]:
+        rows = [(*function, kind) for kind in ("body", "whole") for function in long_functions(kind == "body")]
+        print("\n".join(" | ".join(row) for row in sorted(rows)))
+    else:
+        unittest.main()

@@ -102,12 +102,12 @@ class Requests(unittest.TestCase):
         self.assertEqual([row[1] for row in table], values)
 
     def test_refusals(self):
-        asked = dict(re.findall(r"^  (?:design|account|page|writeback|waiting)Questions \(?([A-Za-z]+).*? = (.*)$", QUESTIONS, re.M))
-        turns = " ".join(re.findall(r"^  turnQuestions .*? = (.*)$", QUESTIONS, re.M))
+        asked = dict(re.findall(r"^  (?:design|account|page|writeback|waiting)_questions \(?([A-Za-z]+).*? = (.*)$", QUESTIONS, re.M))
+        turns = " ".join(re.findall(r"^  turn_questions .*? = (.*)$", QUESTIONS, re.M))
         served = re.search(r"^  served range quiet s p = (.*)$", QUESTIONS, re.M).group(1)
         for name, _, _, refusals in rows("kind")[1:]:
             event = name.strip("`").replace("KEEPER_", "").title().replace("_", "")
-            numbers = re.findall(r"\bq(\d+)\b", asked[event].replace("served", served).replace("turnQuestions turning", turns))
+            numbers = re.findall(r"\bq(\d+)\b", asked[event].replace("served", served).replace("turn_questions turning", turns))
             with self.subTest(event):
                 self.assertEqual(refusals.split(), [n for n in numbers if n != "3"])
 

@@ -34,7 +34,7 @@ fn main() {
     proved("sectors");
 }
 
-/// A proved static library, made by `rt staticlib NAME`: what links it is compiled only where it is there.
+/// A proved static library, made by `python3 tools/prove.py --lib NAME`: what links it is compiled only where it is there.
 fn proved(name: &str) {
     let folder = Path::new(env!("CARGO_MANIFEST_DIR")).join("../../target/staticlib");
     let archive = folder.join(format!("lib{name}.a"));

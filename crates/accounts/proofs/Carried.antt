@@ -2,7 +2,7 @@
 use mathlib.Core.Path.{◌≡◌, refl, ap, sym, ◌∙◌}
 use mathlib.Core.Bool.{Bool, true, false}
 use mathlib.Core.List.{List, []}
-use Prim.Native.Nat.{ℕ, zero, suc, ◌+◌, ◌-◌, ◌<◌, ◌≤◌}
+use Prim.Native.Nat.{ℕ, ◌+◌, ◌-◌, ◌<◌, ◌≤◌}
 use native.Mathlib.Omega.{arith}
 use native.Mathlib.Decide.{ℕ_discrete, dec_lt}
 use lib.ListN.{length, set, length-set, get_or-eq_default}
@@ -10,8 +10,8 @@ use lib.Seq.{ext_get_or, get_or-set_same, get_or-set_other}
 use Rattle.tables.specs.Base.{at, if, tab}
 use Rattle.tables.specs.Laws.{at_tab0, length_tab}
 use Rattle.tables.specs.TabLaws.{tab_same}
-use Rattle.tables.specs.Questions.{Asked, none, ask, first_no, all_yes}
-use Rattle.tables.specs.Rule.{Rule, Holds, test, alike}
+use Rattle.tables.specs.Questions.{none, ask, first_no}
+use Rattle.tables.specs.Rule.{Rule, test, alike}
 use Rattle.model.specs.declared.sizes.Sizes.{Sizes}
 use Rattle.model.specs.declared.frame.Frame.{Frame}
 use Rattle.model.specs.declared.event.Account.{Account}
@@ -27,7 +27,7 @@ use Rattle.model.specs.Step.{Outcome, carried, result}
 use Rattle.model.specs.Laws.Own.{own}
 use Rattle.model.specs.Laws.OwnLaws.{own_yes}
 use Rattle.accounts.specs.Seen.{seen}
-use Rattle.accounts.specs.Asks.{first_asked, enough}
+use Rattle.accounts.specs.Asks.{enough}
 use Rattle.accounts.specs.Promises.{Counts}
 
 module _ (z : Sizes) (st : State) where

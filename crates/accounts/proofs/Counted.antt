@@ -11,7 +11,7 @@ use lib.ListN.{length, take}
 use lib.Seq.{get_or-take}
 use Rattle.tables.specs.Base.{at, tab}
 use Rattle.tables.specs.Laws.{count_same, count_bound}
-use Rattle.tables.specs.Rule.{Holds, each, below, test}
+use Rattle.tables.specs.Rule.{Holds, test}
 use Rattle.model.specs.declared.sizes.Sizes.{Sizes}
 use Rattle.model.specs.declared.frame.Frame.{Frame}
 use Rattle.model.specs.Payer.{payer}

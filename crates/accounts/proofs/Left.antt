@@ -1,5 +1,5 @@
 -- Limit and move over the full state: the limits and the used counts change, the free map and the count of free records stay.
-use mathlib.Core.Path.{◌≡◌, refl, sym}
+use mathlib.Core.Path.{◌≡◌, sym}
 use mathlib.Core.List.{List}
 use Prim.Native.Nat.{ℕ}
 use Rattle.model.specs.declared.sizes.Sizes.{Sizes}

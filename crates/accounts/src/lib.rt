@@ -1,5 +1,6 @@
 // The events about an account: limit and move. Where one may change who pays, all that is used is counted anew.
 #![tactic(auto)]
+
 pub mod copies; // whole tables copied
 pub mod count; // each account's used count, worked out afresh
 pub mod limit; // an account's limit is set

@@ -1,6 +1,6 @@
 // One request in one call: a list of one.
 ghost use Rattle.std.specs.Prelude.{◌≡◌};
-ghost use Rattle.model.specs.Lent.{all_entered, all_left};
+ghost use Rattle.model.specs.Lent.{all_of};
 ghost use Rattle.model.specs.Calls.{frames_of, apply};
 ghost use Rattle.model.specs.Laws.Own.{leaves};
 ghost use Rattle.model.specs.Pool.{taken, deposited};
@@ -44,11 +44,11 @@ pub fn apply_one(
     used: &mut [u16],
 ) -> Applied
     ensures { leaves result.answer
-        (all_left (frames_of result.frames lent) (deposited result.deposited (taken sizes result.taken pool)) records numbers accounts maps limits parents highest
-        frame_words free_queue removal_list addresses states owners free_map active updating images chip_words chip_records chip_next line used)
+        (all_of (frames_of result.frames lent) (deposited result.deposited (taken sizes result.taken pool)) records.new numbers.new accounts.new maps.new limits.new parents.now highest.new
+        frame_words.new free_queue.new removal_list.new addresses.new states.new owners.new free_map.new active.new updating.new images.new chip_words.new chip_records.new chip_next.new line.new used.new)
         ≡ apply sizes
-        (all_entered (frames_of frames lent) pool records numbers accounts maps limits parents highest
-        frame_words free_queue removal_list addresses states owners free_map active updating images chip_words chip_records chip_next line used) request }
+        (all_of (frames_of frames lent) pool records.old numbers.old accounts.old maps.old limits.old parents.now highest.old
+        frame_words.old free_queue.old removal_list.old addresses.old states.old owners.old free_map.old active.old updating.old images.old chip_words.old chip_records.old chip_next.old line.old used.old) request }
 {
     let mut packed = pack_all(frames);
     let requests = as_numbers(request);

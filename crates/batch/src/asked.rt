@@ -1,6 +1,6 @@
 // Requests over frames that are packed: questions 1 and 2 are asked once, then they are carried out in turn.
 ghost use Rattle.std.specs.Prelude.{◌≡◌, ◌*◌, ◌≤◌, length};
-ghost use Rattle.model.specs.Lent.{all_entered, all_left};
+ghost use Rattle.model.specs.Lent.{all_of};
 ghost use Rattle.model.specs.Calls.{frames_of};
 ghost use Rattle.model.specs.Pool.{taken, deposited};
 ghost use Rattle.model.specs.ApplyAll.{after};
@@ -50,12 +50,12 @@ pub fn ask_turns(
     ensures listed { record {
       answer = result.answer;
       answers = answers.new;
-      left = all_left (frames_of (unpacked frames.new) lent) result.pool records numbers accounts maps limits parents highest
-          frame_words free_queue removal_list addresses states owners free_map active updating images chip_words chip_records chip_next line used;
+      left = all_of (frames_of (unpacked frames.new) lent) result.pool records.new numbers.new accounts.new maps.new limits.new parents.now highest.new
+          frame_words.new free_queue.new removal_list.new addresses.new states.new owners.new free_map.new active.new updating.new images.new chip_words.new chip_records.new chip_next.new line.new used.new;
     }
         ≡ after sizes requests.now answers.old
-        (all_entered (frames_of (unpacked frames.old) lent) pool records numbers accounts maps limits parents highest
-        frame_words free_queue removal_list addresses states owners free_map active updating images chip_words chip_records chip_next line used) n }
+        (all_of (frames_of (unpacked frames.old) lent) pool records.old numbers.old accounts.old maps.old limits.old parents.now highest.old
+        frame_words.old free_queue.old removal_list.old addresses.old states.old owners.old free_map.old active.old updating.old images.old chip_words.old chip_records.old chip_next.old line.old used.old) n }
     ensures one { n ≡ 1 → result.pool ≡ deposited result.deposited (taken sizes result.taken pool) }
 {
     let refusal = common(

@@ -1,9 +1,9 @@
 // One request of a list, once questions 1 and 2 were answered yes.
 ghost use Rattle.std.specs.Prelude.{◌≡◌, ◌+◌, ◌*◌, ◌<◌, length};
-ghost use Rattle.model.specs.Lent.{all_given, all_entered, all_left};
+ghost use Rattle.model.specs.Lent.{all_of};
 ghost use Rattle.model.specs.Pool.{taken, deposited};
 ghost use Rattle.model.specs.ApplyAll.{turned};
-ghost use Rattle.leaves.specs.Packed.{frames_given, frames_entered, frames_left};
+ghost use Rattle.leaves.specs.Packed.{frames_in};
 ghost use Rattle.events.specs.Kept.{KeptWhole};
 
 use crate::numbers::{put_answer, request_at};
@@ -56,19 +56,19 @@ pub fn turn(
     used: &mut [u16],
 ) -> Last
     requires { (5 * k + 4 < length requests.now) × (2 * k + 1 < length answers.old) × KeptWhole sizes
-        (all_given (frames_given sizes frames) last.pool records numbers accounts maps limits parents highest
-        frame_words free_queue removal_list addresses states owners free_map active updating images chip_words chip_records chip_next line used) }
+        (all_of (frames_in sizes frames.old) last.pool records.old numbers.old accounts.old maps.old limits.old parents.now highest.old
+        frame_words.old free_queue.old removal_list.old addresses.old states.old owners.old free_map.old active.old updating.old images.old chip_words.old chip_records.old chip_next.old line.old used.old) }
     ensures turned { record {
       answer = result.answer;
       answers = answers.new;
-      left = all_left (frames_left sizes frames) result.pool records numbers accounts maps limits parents highest
-          frame_words free_queue removal_list addresses states owners free_map active updating images chip_words chip_records chip_next line used;
+      left = all_of (frames_in sizes frames.new) result.pool records.new numbers.new accounts.new maps.new limits.new parents.now highest.new
+          frame_words.new free_queue.new removal_list.new addresses.new states.new owners.new free_map.new active.new updating.new images.new chip_words.new chip_records.new chip_next.new line.new used.new;
     }
         ≡ turned sizes requests.now k (record {
           answer = last.answer;
           answers = answers.old;
-          left = all_entered (frames_entered sizes frames) last.pool records numbers accounts maps limits parents highest
-              frame_words free_queue removal_list addresses states owners free_map active updating images chip_words chip_records chip_next line used;
+          left = all_of (frames_in sizes frames.old) last.pool records.old numbers.old accounts.old maps.old limits.old parents.now highest.old
+              frame_words.old free_queue.old removal_list.old addresses.old states.old owners.old free_map.old active.old updating.old images.old chip_words.old chip_records.old chip_next.old line.old used.old;
         }) }
     ensures pool { result.pool ≡ deposited result.deposited (taken sizes result.taken last.pool) }
 {

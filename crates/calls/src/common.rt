@@ -1,6 +1,6 @@
 // Questions 1 and 2 of every event and of a page look.
 ghost use Rattle.std.specs.Prelude.{◌≡◌, length};
-ghost use Rattle.model.specs.Lent.{all_entered};
+ghost use Rattle.model.specs.Lent.{all_of};
 ghost use Rattle.model.specs.Calls.{frames_of};
 ghost use Rattle.leaves.specs.Packed.{unpacked};
 ghost use Rattle.calls.specs.Common.{common};
@@ -41,8 +41,8 @@ pub fn common(
 ) -> u32
     requires { length frames.now ≡ 64 }
     ensures { result ≡ common sizes
-        (all_entered (frames_of (unpacked frames.now) lent) pool records numbers accounts maps limits parents highest
-        frame_words free_queue removal_list addresses states owners free_map active updating images chip_words chip_records chip_next line used) }
+        (all_of (frames_of (unpacked frames.now) lent) pool records.now numbers.now accounts.now maps.now limits.now parents.now highest.now
+        frame_words.now free_queue.now removal_list.now addresses.now states.now owners.now free_map.now active.now updating.now images.now chip_words.now chip_records.now chip_next.now line.now used.now) }
 {
     if lent_fit(
         sizes,

@@ -3,7 +3,7 @@ ghost use Rattle.std.specs.Prelude.{◌≡◌, List, length, take};
 ghost use Rattle.tables.specs.Rule.{Holds, test};
 ghost use Rattle.model.specs.declared.frame.Frame.{Frame};
 ghost use Rattle.model.specs.declared.frame.Pool.{Pool};
-ghost use Rattle.model.specs.Lent.{chip_of, all_given, all_entered};
+ghost use Rattle.model.specs.Lent.{chip_of, all_of};
 ghost use Rattle.model.specs.Rules.{all_rules};
 ghost use Rattle.model.specs.Sizes.{sizes_fit};
 ghost use Rattle.model.specs.Step.{chip_lengths, all_fit};
@@ -54,8 +54,8 @@ pub fn lent_fit(
     used: &[u16],
 ) -> bool
     ensures { (frames : List Frame) (pool : Pool) → length frames ≡ lent → result ≡ test (all_fit sizes
-        (all_entered frames pool records numbers accounts maps limits parents highest
-        frame_words free_queue removal_list addresses states owners free_map active updating images chip_words chip_records chip_next line used)) }
+        (all_of frames pool records.now numbers.now accounts.now maps.now limits.now parents.now highest.now
+        frame_words.now free_queue.now removal_list.now addresses.now states.now owners.now free_map.now active.now updating.now images.now chip_words.now chip_records.now chip_next.now line.now used.now)) }
 {
     if all_fit(
         sizes,
@@ -114,11 +114,11 @@ pub fn lent_rules(
     used: &[u16],
 ) -> bool
     requires { Holds (all_fit sizes
-        (all_given (take lent (unpacked frames.now)) pool records numbers accounts maps limits parents highest
-        frame_words free_queue removal_list addresses states owners free_map active updating images chip_words chip_records chip_next line used)) }
+        (all_of (take lent (unpacked frames.now)) pool records.now numbers.now accounts.now maps.now limits.now parents.now highest.now
+        frame_words.now free_queue.now removal_list.now addresses.now states.now owners.now free_map.now active.now updating.now images.now chip_words.now chip_records.now chip_next.now line.now used.now)) }
     ensures { result ≡ test (all_rules sizes
-        (all_entered (take lent (unpacked frames.now)) pool records numbers accounts maps limits parents highest
-        frame_words free_queue removal_list addresses states owners free_map active updating images chip_words chip_records chip_next line used)) }
+        (all_of (take lent (unpacked frames.now)) pool records.now numbers.now accounts.now maps.now limits.now parents.now highest.now
+        frame_words.now free_queue.now removal_list.now addresses.now states.now owners.now free_map.now active.now updating.now images.now chip_words.now chip_records.now chip_next.now line.now used.now)) }
 {
     let pages = sizes.slots * sizes.pages;
     all_rules(

@@ -1,7 +1,8 @@
 // The calls, over everything that is lent: questions 1 and 2 are asked once, then the work is done.
 #![tactic(auto)]
+
 ghost use Rattle.std.specs.Prelude.{◌≡◌, length, replicate};
-ghost use Rattle.model.specs.Lent.{disk_of, all_entered, all_left};
+ghost use Rattle.model.specs.Lent.{disk_of, all_of};
 ghost use Rattle.model.specs.Calls.{frames_of};
 ghost use Rattle.model.specs.Step.{restart, format};
 ghost use Rattle.model.specs.Laws.Own.{leaves};
@@ -74,11 +75,11 @@ pub fn restart_core(
     used: &mut [u16],
 ) -> Pooled
     ensures { leaves result.answer
-        (all_left (frames_of result.frames lent) result.pool records numbers accounts maps limits parents highest
-        frame_words free_queue removal_list addresses states owners free_map active updating images chip_words chip_records chip_next line used)
+        (all_of (frames_of result.frames lent) result.pool records.now numbers.now accounts.now maps.now limits.now parents.now highest.new
+        frame_words.new free_queue.new removal_list.new addresses.new states.new owners.new free_map.new active.new updating.new images.new chip_words.new chip_records.new chip_next.new line.new used.new)
         ≡ restart sizes
-        (all_entered (frames_of frames lent) pool records numbers accounts maps limits parents highest
-        frame_words free_queue removal_list addresses states owners free_map active updating images chip_words chip_records chip_next line used) }
+        (all_of (frames_of frames lent) pool records.now numbers.now accounts.now maps.now limits.now parents.now highest.old
+        frame_words.old free_queue.old removal_list.old addresses.old states.old owners.old free_map.old active.old updating.old images.old chip_words.old chip_records.old chip_next.old line.old used.old) }
 {
     if lent_fit(
         sizes,

@@ -1,6 +1,6 @@
 // A page look in both its forms: as numbers, for a caller that cannot be handed a reference, and as a part of the lent words.
 ghost use Rattle.std.specs.Prelude.{◌≡◌, ◌+◌, ◌≤◌, length};
-ghost use Rattle.model.specs.Lent.{all_entered};
+ghost use Rattle.model.specs.Lent.{all_of};
 ghost use Rattle.model.specs.Calls.{frames_of};
 ghost use Rattle.model.specs.Step.{look};
 ghost use Rattle.model.specs.Part.{part_of, word_at};
@@ -44,8 +44,8 @@ pub fn place_core(
     used: &[u16],
 ) -> Part
     ensures { (result ≡ part_of sizes
-        (all_entered (frames_of frames lent) pool records numbers accounts maps limits parents highest
-        frame_words free_queue removal_list addresses states owners free_map active updating images chip_words chip_records chip_next line used) slot page)
+        (all_of (frames_of frames lent) pool records.now numbers.now accounts.now maps.now limits.now parents.now highest.now
+        frame_words.now free_queue.now removal_list.now addresses.now states.now owners.now free_map.now active.now updating.now images.now chip_words.now chip_records.now chip_next.now line.now used.now) slot page)
         × (result.start + result.count ≤ length frame_words.now) }
 {
     let packed = pack_all(frames);
@@ -119,8 +119,8 @@ pub fn look_core<'a>(
     line: &[u16],
     used: &[u16],
 ) -> &'a [u32]
-    ensures { let st = all_entered (frames_of frames lent) pool records numbers accounts maps limits parents highest
-        frame_words free_queue removal_list addresses states owners free_map active updating images chip_words chip_records chip_next line used in
+    ensures { let st = all_of (frames_of frames lent) pool records.now numbers.now accounts.now maps.now limits.now parents.now highest.now
+        frame_words.now free_queue.now removal_list.now addresses.now states.now owners.now free_map.now active.now updating.now images.now chip_words.now chip_records.now chip_next.now line.now used.now in
         (result.now ≡ (look sizes st slot page).left)
         × ((refusal.new ≡ (look sizes st slot page).answer.refusal)
         × (result.ref_ptr ≡ word_at frame_words.entry.ref_ptr (part_of sizes st slot page).start)) }

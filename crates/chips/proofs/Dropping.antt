@@ -1,22 +1,21 @@
 -- The pass that drops copies: what it has left once the places below one are passed.
-use mathlib.Core.Path.{◌≡◌, refl, ap, sym, ◌∙◌}
+use mathlib.Core.Path.{◌≡◌, refl, ap, ◌∙◌}
 use mathlib.Core.List.{List}
 use mathlib.Core.Logic.{inl, inr}
-use Prim.Native.Nat.{ℕ, suc, ◌+◌, ◌*◌, ◌/◌, ◌<◌, ◌≤◌}
+use Prim.Native.Nat.{ℕ, ◌+◌, ◌*◌, ◌/◌, ◌<◌, ◌≤◌}
 use native.Mathlib.Nat.{div-lt_iff_lt-mul}
 use native.Mathlib.Omega.{arith}
-use native.Mathlib.Decide.{ℕ_discrete, dec_lt}
-use lib.ListN.{length, set, length-set}
+use native.Mathlib.Decide.{ℕ_discrete}
+use lib.ListN.{length, set}
 use Rattle.tables.specs.Base.{at}
-use Rattle.tables.specs.Rule.{Rule, Holds, same, below, non, names, ◌and◌, test}
-use Rattle.tables.specs.Store.{Split, store, choose, choose_none, choose_ext, choose_same, at_store, at_choose, length_store, length_choose}
+use Rattle.tables.specs.Rule.{Rule, Holds, same, below, non, names, ◌and◌}
+use Rattle.tables.specs.Store.{Split, store, choose_none, choose_ext, choose_same, at_store, length_store}
 use Rattle.tables.specs.StoreLoops.{Turned, turned_none, turn_on, turn_off, turned_by, turned_all, turned_at}
 use Rattle.model.specs.declared.sizes.Sizes.{Sizes}
 use Rattle.model.specs.Lines.{LIVE}
-use Rattle.model.specs.State.{Chip}
 use Rattle.model.specs.Lent.{chip_of}
 use Rattle.model.specs.Parts.{set_part}
-use Rattle.model.specs.Chip.{stale, only_live}
+use Rattle.model.specs.Chip.{only_live}
 
 module _ (z : Sizes) (state : ℕ → ℕ) (ws cs : List ℕ) where
   -- the place has the copy of a record that is not live

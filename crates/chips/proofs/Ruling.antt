@@ -1,18 +1,18 @@
 -- The rules of the chip, by the tests that the code makes.
-use mathlib.Core.Path.{◌≡◌, ap, sym, ◌∙◌, subst}
-use mathlib.Core.Bool.{Bool, true, false}
+use mathlib.Core.Path.{◌≡◌, subst}
+use mathlib.Core.Bool.{false}
 use mathlib.Core.List.{List}
 use Prim.Native.Nat.{ℕ, suc, ◌+◌, ◌-◌, ◌*◌, ◌<◌, ◌≤◌}
 use native.Mathlib.Omega.{arith}
 use native.Mathlib.Decide.{dec_lt}
 use lib.ListN.{length, get_or-eq_default}
 use Rattle.tables.specs.Base.{at}
-use Rattle.tables.specs.Rule.{Rule, Holds, same, below, ◌and◌, each, named, test, alike}
-use Rattle.tables.specs.Turn.{not_so, said_yes, said_no}
+use Rattle.tables.specs.Rule.{Rule, Holds, same, ◌and◌, each, test, alike}
+use Rattle.tables.specs.Turn.{not_so}
 use Rattle.model.specs.declared.sizes.Sizes.{Sizes}
 use Rattle.model.specs.Lines.{LIVE}
 use Rattle.model.specs.State.{Chip}
-use Rattle.model.specs.Rules.{fit, once, next_fit, copy_once, copy_empty, copy_live}
+use Rattle.model.specs.Rules.{next_fit, copy_once, copy_empty, copy_live}
 use Rattle.rules.specs.Passes.{distinct}
 use Rattle.chips.specs.Seen.{place_kept}
 

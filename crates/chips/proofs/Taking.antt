@@ -1,7 +1,7 @@
 -- A fault's frame: what is left where it takes a copy, and where it finds none.
 use mathlib.Core.Path.{◌≡◌, refl, ap, sym, ◌∙◌, subst}
 use mathlib.Core.List.{List, []}
-use Prim.Native.Nat.{ℕ, suc, ◌+◌, ◌*◌, ◌/◌, ◌%◌, ◌<◌, ◌≤◌, pred}
+use Prim.Native.Nat.{ℕ, suc, ◌<◌, ◌≤◌, pred}
 use lib.Dec.{eqb}
 use lib.ListN.{length, take, set}
 use Rattle.tables.specs.Base.{at, find}

@@ -1,4 +1,4 @@
--- What the contracts of this crate cite: the chip by bare names, its lengths, one copy dropped, what a frame that awaits words needs, the rule of one place.
+-- What the contracts of this crate cite: the chip of its tables, its lengths, one copy dropped, what a frame that awaits words needs, the rule of one place.
 use Rattle.std.specs.Prelude.{List, [], ◌≡◌, ℕ, ◌+◌, ◌*◌, ◌<◌, length, set}
 use Rattle.tables.specs.Base.{if}
 use Rattle.tables.specs.Queue.{queue, size}
@@ -8,19 +8,19 @@ use Rattle.model.specs.declared.frame.Frame.{Frame}
 use Rattle.model.specs.Lines.{LIVE}
 use Rattle.model.specs.State.{Chip, State, frame_at, READING}
 use Rattle.model.specs.Setters.{on_core, on_held, set_frames, set_words, set_removal_list, set_addresses}
-use Rattle.model.specs.Lent.{Ref, Table, chip_of, no_state}
+use Rattle.model.specs.Lent.{chip_of, no_state}
 use Rattle.model.specs.Parts.{set_part}
 use Rattle.model.specs.Chip.{has_copy, place_of}
 use Rattle.model.specs.Laws.Fit.{Within}
 
-abbrev pub chip_given : Ref → Ref → Ref → Chip
-chip_given words copies next = chip_of words.now copies.now next.now
+abbrev pub chip_given : List ℕ → List ℕ → List ℕ → Chip
+chip_given words copies next = chip_of words copies next
 
-abbrev pub chip_entered : Table → Table → Table → Chip
-chip_entered words copies next = chip_of words.entry.now copies.entry.now next.entry.now
+abbrev pub chip_entered : List ℕ → List ℕ → List ℕ → Chip
+chip_entered words copies next = chip_of words copies next
 
-abbrev pub chip_left : Table → Table → Table → Chip
-chip_left words copies next = chip_of words.exit.now copies.exit.now next.exit.now
+abbrev pub chip_left : List ℕ → List ℕ → List ℕ → Chip
+chip_left words copies next = chip_of words copies next
 
 -- the lengths of the places' words and of the copies
 pub record Places (z : Sizes) (ws cs : List ℕ) : Type 0 where
@@ -33,15 +33,15 @@ dropped z r k = let b = place_of z k r in if (test (has_copy z k r)) (record { w
 
 -- ── a fault's frame takes a copy ──
 -- the chip, whatever place is next
-abbrev pub chip_by : Table → Table → Chip
-chip_by words copies = chip_of words.entry.now copies.entry.now []
+abbrev pub chip_by : List ℕ → List ℕ → Chip
+chip_by words copies = chip_of words copies []
 
 -- the tables that it reads and changes, as a state
 abbrev pub seen_take : List Frame → List ℕ → List ℕ → List ℕ → State
 seen_take frames words list addresses = on_core (λ c. set_frames frames (set_words words (set_removal_list list c))) (on_held (set_addresses addresses) no_state)
 
-abbrev pub entered_take : List Frame → Table → Table → Table → State
-entered_take frames words list addresses = seen_take frames words.entry.now list.entry.now addresses.entry.now
+abbrev pub entered_take : List Frame → List ℕ → List ℕ → List ℕ → State
+entered_take frames words list addresses = seen_take frames words list addresses
 
 -- what questions 1 and 2 give of the frame: where it is being read it has a page, and there is room for it in the removal list
 pub record Awaiting (z : Sizes) (f : ℕ) (fs : List Frame) (ws list cws cs : List ℕ) : Type 0 where

@@ -47,8 +47,8 @@ pub fn put(
     chip_records: &mut [u16],
     chip_next: &mut [u16],
 )
-    requires { Within sizes × (r < sizes.records) × (length records.now ≡ sizes.records * sizes.words) × ChipFit sizes (chip_given chip_words chip_records chip_next) × (at chip_next.old 0 < sizes.chip) }
-    ensures { chip_left chip_words chip_records chip_next ≡ copied sizes r (word_at sizes records.now r) (chip_entered chip_words chip_records chip_next) }
+    requires { Within sizes × (r < sizes.records) × (length records.now ≡ sizes.records * sizes.words) × ChipFit sizes (chip_given chip_words.old chip_records.old chip_next.old) × (at chip_next.old 0 < sizes.chip) }
+    ensures { chip_left chip_words.new chip_records.new chip_next.new ≡ copied sizes r (word_at sizes records.now r) (chip_entered chip_words.old chip_records.old chip_next.old) }
 {
     let own = place_of(chip_records, r);
     if own < sizes.chip {

@@ -96,11 +96,11 @@ pub fn chip_ruled(
     chip_records: &[u16],
     chip_next: &[u16],
 ) -> bool
-    requires { Within sizes × (length records.now ≡ sizes.records * sizes.words) × (length states.now ≡ sizes.records) × ChipFit sizes (chip_given chip_words chip_records chip_next) }
-    ensures { result ≡ test (next_fit sizes (at states.now) (at records.now) (chip_entered chip_words chip_records chip_next)
-        and copy_once sizes (at states.now) (at records.now) (chip_entered chip_words chip_records chip_next)
-        and copy_empty sizes (at states.now) (at records.now) (chip_entered chip_words chip_records chip_next)
-        and copy_live sizes (at states.now) (at records.now) (chip_entered chip_words chip_records chip_next)) }
+    requires { Within sizes × (length records.now ≡ sizes.records * sizes.words) × (length states.now ≡ sizes.records) × ChipFit sizes (chip_given chip_words.now chip_records.now chip_next.now) }
+    ensures { result ≡ test (next_fit sizes (at states.now) (at records.now) (chip_entered chip_words.now chip_records.now chip_next.now)
+        and copy_once sizes (at states.now) (at records.now) (chip_entered chip_words.now chip_records.now chip_next.now)
+        and copy_empty sizes (at states.now) (at records.now) (chip_entered chip_words.now chip_records.now chip_next.now)
+        and copy_live sizes (at states.now) (at records.now) (chip_entered chip_words.now chip_records.now chip_next.now)) }
 {
     let next = at16(chip_next, 0);
     if next as usize >= sizes.chip {

@@ -3,7 +3,7 @@ ghost use Rattle.std.specs.Prelude.{◌≡◌, ◌<◌, pred};
 ghost use Rattle.tables.specs.Base.{at};
 ghost use Rattle.model.specs.Pages.{fresh};
 ghost use Rattle.model.specs.Chip.{arrives};
-ghost use Rattle.leaves.specs.Packed.{frames_given, frames_entered, frames_left};
+ghost use Rattle.leaves.specs.Packed.{frames_in};
 ghost use Rattle.chips.specs.Seen.{Awaiting, entered_take, chip_by};
 
 use crate::place::place_of;
@@ -59,10 +59,10 @@ pub fn take_copy(
     chip_words: &[u32],
     chip_records: &[u16],
 )
-    requires { Awaiting sizes f (frames_given sizes frames) frame_words.old removal_list.old chip_words.now chip_records.now }
-    ensures frames { frames_left sizes frames ≡ (arrives sizes (chip_by chip_words chip_records) (entered_take (frames_entered sizes frames) frame_words removal_list addresses) f (entered_take (frames_entered sizes frames) frame_words removal_list addresses).memory.core).frames }
-    ensures words { frame_words.new ≡ (arrives sizes (chip_by chip_words chip_records) (entered_take (frames_entered sizes frames) frame_words removal_list addresses) f (entered_take (frames_entered sizes frames) frame_words removal_list addresses).memory.core).words }
-    ensures list { removal_list.new ≡ (arrives sizes (chip_by chip_words chip_records) (entered_take (frames_entered sizes frames) frame_words removal_list addresses) f (entered_take (frames_entered sizes frames) frame_words removal_list addresses).memory.core).removal_list }
+    requires { Awaiting sizes f (frames_in sizes frames.old) frame_words.old removal_list.old chip_words.now chip_records.now }
+    ensures frames { frames_in sizes frames.new ≡ (arrives sizes (chip_by chip_words.now chip_records.now) (entered_take (frames_in sizes frames.old) frame_words.old removal_list.old addresses.now) f (entered_take (frames_in sizes frames.old) frame_words.old removal_list.old addresses.now).memory.core).frames }
+    ensures words { frame_words.new ≡ (arrives sizes (chip_by chip_words.now chip_records.now) (entered_take (frames_in sizes frames.old) frame_words.old removal_list.old addresses.now) f (entered_take (frames_in sizes frames.old) frame_words.old removal_list.old addresses.now).memory.core).words }
+    ensures list { removal_list.new ≡ (arrives sizes (chip_by chip_words.now chip_records.now) (entered_take (frames_in sizes frames.old) frame_words.old removal_list.old addresses.now) f (entered_take (frames_in sizes frames.old) frame_words.old removal_list.old addresses.now).memory.core).removal_list }
 {
     let old = frame_at(frames, f);
     if old.transfer != READING {

@@ -67,29 +67,29 @@ module _ (z : Sizes) (st : State) (k : Kept z st) where
         → leaves a (state_in st.memory.chip st.memory.line fs held.pool rs st.disk.numbers st.disk.accounts st.disk.maps st.disk.limits st.disk.parents st.disk.highest ws fq rl held.addresses ss held.owners held.free_map slots.active slots.updating slots.images st.memory.used)
         ≡ own z st (page_done f good)
     unfolding carried result counted Writeback.page_done Writeback.read_good Writeback.read_failed Writeback.write_good Writeback.write_failed Writeback.store_frame Writeback.free_frame
-    page_done_own = λ (e-answer, (e-frames, (e-records, (e-words, (e-free-queue, (e-removal-list, e-states)))))). own_by z st done_sees (page_done f good) refl refl e-answer
+    page_done_own e = own_by z st done_sees (page_done f good) refl refl e.answer
         (λ o ok. same_state
-        (e-frames ∙ (λ y. (o y).left.memory.core.frames) ∙ done_same (λ t. t.memory.core.frames) refl refl refl refl)
+        (e.frames ∙ (λ y. (o y).left.memory.core.frames) ∙ done_same (λ t. t.memory.core.frames) refl refl refl refl)
         refl
-        (e-records ∙ (λ y. (o y).left.disk.records) ∙ done_same (λ t. t.disk.records) refl refl refl refl)
+        (e.records ∙ (λ y. (o y).left.disk.records) ∙ done_same (λ t. t.disk.records) refl refl refl refl)
         refl refl refl refl refl refl
-        (e-words ∙ (λ y. (o y).left.memory.core.words) ∙ done_same (λ t. t.memory.core.words) refl refl refl refl)
-        (e-free-queue ∙ (λ y. (o y).left.memory.core.free_queue) ∙ done_same (λ t. t.memory.core.free_queue) refl refl refl refl)
-        (e-removal-list ∙ (λ y. (o y).left.memory.core.removal_list) ∙ done_same (λ t. t.memory.core.removal_list) refl refl refl refl)
+        (e.words ∙ (λ y. (o y).left.memory.core.words) ∙ done_same (λ t. t.memory.core.words) refl refl refl refl)
+        (e.free_queue ∙ (λ y. (o y).left.memory.core.free_queue) ∙ done_same (λ t. t.memory.core.free_queue) refl refl refl refl)
+        (e.removal_list ∙ (λ y. (o y).left.memory.core.removal_list) ∙ done_same (λ t. t.memory.core.removal_list) refl refl refl refl)
         refl
-        (e-states ∙ (λ y. (o y).left.memory.held.states) ∙ done_same (λ t. t.memory.held.states) refl refl refl refl)
+        (e.states ∙ (λ y. (o y).left.memory.held.states) ∙ done_same (λ t. t.memory.held.states) refl refl refl refl)
         refl refl refl refl refl refl
         ∙ sym (page_done_left z st k.fits k.rules f good ok))
         (λ h o. same_state
-        (e-frames ∙ (λ y. (o y).left.memory.core.frames))
+        (e.frames ∙ (λ y. (o y).left.memory.core.frames))
         refl
-        (e-records ∙ (λ y. (o y).left.disk.records))
+        (e.records ∙ (λ y. (o y).left.disk.records))
         refl refl refl refl refl refl
-        (e-words ∙ (λ y. (o y).left.memory.core.words))
-        (e-free-queue ∙ (λ y. (o y).left.memory.core.free_queue))
-        (e-removal-list ∙ (λ y. (o y).left.memory.core.removal_list))
+        (e.words ∙ (λ y. (o y).left.memory.core.words))
+        (e.free_queue ∙ (λ y. (o y).left.memory.core.free_queue))
+        (e.removal_list ∙ (λ y. (o y).left.memory.core.removal_list))
         refl
-        (e-states ∙ (λ y. (o y).left.memory.held.states))
+        (e.states ∙ (λ y. (o y).left.memory.held.states))
         refl refl refl refl refl refl)
 
   -- ── map done ──
@@ -101,34 +101,34 @@ module _ (z : Sizes) (st : State) (k : Kept z st) where
         → leaves a (state_in st.memory.chip st.memory.line core.frames (deposited n held.pool) st.disk.records st.disk.numbers st.disk.accounts ms st.disk.limits st.disk.parents st.disk.highest core.words core.free_queue core.removal_list held.addresses ss os fm slots.active us is st.memory.used)
         ≡ own z st (map_done s good)
     unfolding carried result counted Writeback.map_done Writeback.store_image Writeback.update_over
-    map_done_own n = λ (e-answer, (e-pool, (e-maps, (e-states, (e-owners, (e-free-map, (e-updating, e-images))))))). own_by z st (map_sees no_pool) (map_done s good) refl refl e-answer
+    map_done_own n e = own_by z st (map_sees no_pool) (map_done s good) refl refl e.answer
         (λ o ok. same_state
         refl
-        (e-pool held.pool k.rules.counts.free ∙ sym (λ y. (own_yes z (map_sees held.pool) (map_done s good) (first_no (questions z st (map_done s good))) refl (yes_all (questions z st (map_done s good)) ok) y).left.memory.held.pool)
+        (e.pool held.pool k.rules.counts.free ∙ sym (λ y. (own_yes z (map_sees held.pool) (map_done s good) (first_no (questions z st (map_done s good))) refl (yes_all (questions z st (map_done s good)) ok) y).left.memory.held.pool)
         ∙ by_two (λ t. (counted z t).memory.held.pool) (eqb good 1) refl refl)
         refl refl refl
-        (e-maps ∙ (λ y. (o y).left.disk.maps) ∙ by_two (λ t. t.disk.maps) (eqb good 1) refl refl)
+        (e.maps ∙ (λ y. (o y).left.disk.maps) ∙ by_two (λ t. t.disk.maps) (eqb good 1) refl refl)
         refl refl refl refl refl refl refl
-        (e-states ∙ (λ y. (o y).left.memory.held.states) ∙ by_two (λ t. t.memory.held.states) (eqb good 1) refl refl)
-        (e-owners ∙ (λ y. (o y).left.memory.held.owners) ∙ by_two (λ t. t.memory.held.owners) (eqb good 1) refl refl)
-        (e-free-map ∙ (λ y. (o y).left.memory.held.free_map) ∙ by_two (λ t. (counted z t).memory.held.free_map) (eqb good 1) refl refl)
+        (e.states ∙ (λ y. (o y).left.memory.held.states) ∙ by_two (λ t. t.memory.held.states) (eqb good 1) refl refl)
+        (e.owners ∙ (λ y. (o y).left.memory.held.owners) ∙ by_two (λ t. t.memory.held.owners) (eqb good 1) refl refl)
+        (e.free_map ∙ (λ y. (o y).left.memory.held.free_map) ∙ by_two (λ t. (counted z t).memory.held.free_map) (eqb good 1) refl refl)
         refl
-        (e-updating ∙ (λ y. (o y).left.memory.slots.updating) ∙ by_two (λ t. t.memory.slots.updating) (eqb good 1) refl refl)
-        (e-images ∙ (λ y. (o y).left.memory.slots.images) ∙ by_two (λ t. t.memory.slots.images) (eqb good 1) refl refl)
+        (e.updating ∙ (λ y. (o y).left.memory.slots.updating) ∙ by_two (λ t. t.memory.slots.updating) (eqb good 1) refl refl)
+        (e.images ∙ (λ y. (o y).left.memory.slots.images) ∙ by_two (λ t. t.memory.slots.images) (eqb good 1) refl refl)
         refl
         ∙ sym (map_done_left z st k.fits k.rules s good ok))
         (λ h o. same_state
         refl
-        (e-pool held.pool k.rules.counts.free ∙ sym (λ y. (own_no z (map_sees held.pool) (map_done s good) (first_no (questions z st (map_done s good))) refl h y).left.memory.held.pool))
+        (e.pool held.pool k.rules.counts.free ∙ sym (λ y. (own_no z (map_sees held.pool) (map_done s good) (first_no (questions z st (map_done s good))) refl h y).left.memory.held.pool))
         refl refl refl
-        (e-maps ∙ (λ y. (o y).left.disk.maps))
+        (e.maps ∙ (λ y. (o y).left.disk.maps))
         refl refl refl refl refl refl refl
-        (e-states ∙ (λ y. (o y).left.memory.held.states))
-        (e-owners ∙ (λ y. (o y).left.memory.held.owners))
-        (e-free-map ∙ (λ y. (o y).left.memory.held.free_map))
+        (e.states ∙ (λ y. (o y).left.memory.held.states))
+        (e.owners ∙ (λ y. (o y).left.memory.held.owners))
+        (e.free_map ∙ (λ y. (o y).left.memory.held.free_map))
         refl
-        (e-updating ∙ (λ y. (o y).left.memory.slots.updating))
-        (e-images ∙ (λ y. (o y).left.memory.slots.images))
+        (e.updating ∙ (λ y. (o y).left.memory.slots.updating))
+        (e.images ∙ (λ y. (o y).left.memory.slots.images))
         refl)
 
   -- ── update ──
@@ -140,21 +140,21 @@ module _ (z : Sizes) (st : State) (k : Kept z st) where
         → leaves a (state_in st.memory.chip st.memory.line core.frames held.pool st.disk.records st.disk.numbers st.disk.accounts st.disk.maps st.disk.limits st.disk.parents st.disk.highest core.words core.free_queue core.removal_list ads ss held.owners held.free_map slots.active us is st.memory.used)
         ≡ own z st (update s)
     unfolding carried result counted Writeback.update would_store
-    update_own = λ (e-answer, (e-addresses, (e-states, (e-updating, e-images)))). own_by z st update_sees (update s) refl refl e-answer
+    update_own e = own_by z st update_sees (update s) refl refl e.answer
         (λ o ok. same_state refl refl refl refl refl refl refl refl refl refl refl refl
-        (e-addresses ∙ (λ y. (o y).left.memory.held.addresses))
-        (e-states ∙ (λ y. (o y).left.memory.held.states))
+        (e.addresses ∙ (λ y. (o y).left.memory.held.addresses))
+        (e.states ∙ (λ y. (o y).left.memory.held.states))
         refl refl refl
-        (e-updating ∙ (λ y. (o y).left.memory.slots.updating))
-        (e-images ∙ (λ y. (o y).left.memory.slots.images))
+        (e.updating ∙ (λ y. (o y).left.memory.slots.updating))
+        (e.images ∙ (λ y. (o y).left.memory.slots.images))
         refl
         ∙ sym (update_left z st k.fits k.rules s))
         (λ h o. same_state refl refl refl refl refl refl refl refl refl refl refl refl
-        (e-addresses ∙ (λ y. (o y).left.memory.held.addresses))
-        (e-states ∙ (λ y. (o y).left.memory.held.states))
+        (e.addresses ∙ (λ y. (o y).left.memory.held.addresses))
+        (e.states ∙ (λ y. (o y).left.memory.held.states))
         refl refl refl
-        (e-updating ∙ (λ y. (o y).left.memory.slots.updating))
-        (e-images ∙ (λ y. (o y).left.memory.slots.images))
+        (e.updating ∙ (λ y. (o y).left.memory.slots.updating))
+        (e.images ∙ (λ y. (o y).left.memory.slots.images))
         refl)
 
   -- ── claim ──
@@ -170,26 +170,26 @@ module _ (z : Sizes) (st : State) (k : Kept z st) where
       → leaves a (state_in st.memory.chip st.memory.line fs held.pool st.disk.records st.disk.numbers st.disk.accounts st.disk.maps st.disk.limits st.disk.parents st.disk.highest core.words fq rl held.addresses ss held.owners held.free_map slots.active slots.updating slots.images us)
       ≡ own z st claim
   unfolding carried result counted Writeback.claim Writeback.looking Writeback.begins_write Writeback.zeros Writeback.free_frame used_then payer
-  claim_own = λ (e-answer, (e-frames, (e-free-queue, (e-removal-list, (e-states, e-used))))). own_by z st claim_sees claim refl refl e-answer
+  claim_own e = own_by z st claim_sees claim refl refl e.answer
       (λ o ok. same_state
-      (e-frames ∙ (λ y. (o y).left.memory.core.frames) ∙ by_two (λ t. t.memory.core.frames) (Writeback.begins_write z st) refl (by_two (λ t. t.memory.core.frames) (eqb ((frames st).frame (Writeback.looking z st).taken).modified 1) refl refl))
+      (e.frames ∙ (λ y. (o y).left.memory.core.frames) ∙ by_two (λ t. t.memory.core.frames) (Writeback.begins_write z st) refl (by_two (λ t. t.memory.core.frames) (eqb ((frames st).frame (Writeback.looking z st).taken).modified 1) refl refl))
       refl refl refl refl refl refl refl refl refl
-      (e-free-queue ∙ (λ y. (o y).left.memory.core.free_queue) ∙ by_two (λ t. t.memory.core.free_queue) (Writeback.begins_write z st) refl (by_two (λ t. t.memory.core.free_queue) (eqb ((frames st).frame (Writeback.looking z st).taken).modified 1) refl refl))
-      (e-removal-list ∙ (λ y. (o y).left.memory.core.removal_list) ∙ by_two (λ t. t.memory.core.removal_list) (Writeback.begins_write z st) refl (by_two (λ t. t.memory.core.removal_list) (eqb ((frames st).frame (Writeback.looking z st).taken).modified 1) refl refl))
+      (e.free_queue ∙ (λ y. (o y).left.memory.core.free_queue) ∙ by_two (λ t. t.memory.core.free_queue) (Writeback.begins_write z st) refl (by_two (λ t. t.memory.core.free_queue) (eqb ((frames st).frame (Writeback.looking z st).taken).modified 1) refl refl))
+      (e.removal_list ∙ (λ y. (o y).left.memory.core.removal_list) ∙ by_two (λ t. t.memory.core.removal_list) (Writeback.begins_write z st) refl (by_two (λ t. t.memory.core.removal_list) (eqb ((frames st).frame (Writeback.looking z st).taken).modified 1) refl refl))
       refl
-      (e-states ∙ (λ y. (o y).left.memory.held.states) ∙ by_two (λ t. t.memory.held.states) (Writeback.begins_write z st) refl (by_two (λ t. t.memory.held.states) (eqb ((frames st).frame (Writeback.looking z st).taken).modified 1) refl refl))
+      (e.states ∙ (λ y. (o y).left.memory.held.states) ∙ by_two (λ t. t.memory.held.states) (Writeback.begins_write z st) refl (by_two (λ t. t.memory.held.states) (eqb ((frames st).frame (Writeback.looking z st).taken).modified 1) refl refl))
       refl refl refl refl refl
-      (e-used ∙ ap (λ (n : ℕ). (outcome n 0 st.memory.used (used_then z st)).left) (yes_all (questions z st claim) ok))
+      (e.used ∙ ap (λ (n : ℕ). (outcome n 0 st.memory.used (used_then z st)).left) (yes_all (questions z st claim) ok))
       ∙ sym (claim_left z st k.fits k.rules ok.0))
       (λ h o. same_state
-      (e-frames ∙ (λ y. (o y).left.memory.core.frames))
+      (e.frames ∙ (λ y. (o y).left.memory.core.frames))
       refl refl refl refl refl refl refl refl refl
-      (e-free-queue ∙ (λ y. (o y).left.memory.core.free_queue))
-      (e-removal-list ∙ (λ y. (o y).left.memory.core.removal_list))
+      (e.free_queue ∙ (λ y. (o y).left.memory.core.free_queue))
+      (e.removal_list ∙ (λ y. (o y).left.memory.core.removal_list))
       refl
-      (e-states ∙ (λ y. (o y).left.memory.held.states))
+      (e.states ∙ (λ y. (o y).left.memory.held.states))
       refl refl refl refl refl
-      (e-used ∙ ap (λ (x : Outcome (List ℕ)). x.left) (outcome_no (first_no (questions z st claim)) 0 st.memory.used (used_then z st) h)))
+      (e.used ∙ ap (λ (x : Outcome (List ℕ)). x.left) (outcome_no (first_no (questions z st claim)) 0 st.memory.used (used_then z st) h)))
 
   -- ── truncate ──
   module _ (s n : ℕ) where
@@ -200,23 +200,23 @@ module _ (z : Sizes) (st : State) (k : Kept z st) where
         → leaves a (state_in st.memory.chip st.memory.line fs held.pool st.disk.records st.disk.numbers st.disk.accounts st.disk.maps st.disk.limits st.disk.parents st.disk.highest core.words fq rl ds ss held.owners held.free_map slots.active slots.updating slots.images us)
         ≡ own z st (truncate s n)
     unfolding carried result counted Writeback.truncate Writeback.cut_frames frame_of T.used_then payer charged
-    truncate_own = λ (e-answer, (e-frames, (e-free-queue, (e-removal-list, (e-addresses, (e-states, e-used)))))). own_by z st truncate_sees (truncate s n) refl refl e-answer
+    truncate_own e = own_by z st truncate_sees (truncate s n) refl refl e.answer
         (λ o ok. same_state
-        (e-frames ∙ (λ y. (o y).left.memory.core.frames))
+        (e.frames ∙ (λ y. (o y).left.memory.core.frames))
         refl refl refl refl refl refl refl refl refl
-        (e-free-queue ∙ (λ y. (o y).left.memory.core.free_queue))
-        (e-removal-list ∙ (λ y. (o y).left.memory.core.removal_list))
-        (e-addresses ∙ (λ y. (o y).left.memory.held.addresses))
-        (e-states ∙ (λ y. (o y).left.memory.held.states))
+        (e.free_queue ∙ (λ y. (o y).left.memory.core.free_queue))
+        (e.removal_list ∙ (λ y. (o y).left.memory.core.removal_list))
+        (e.addresses ∙ (λ y. (o y).left.memory.held.addresses))
+        (e.states ∙ (λ y. (o y).left.memory.held.states))
         refl refl refl refl refl
-        (e-used ∙ ap (λ (m : ℕ). (outcome m 0 st.memory.used (T.used_then z st s n)).left) (yes_all (questions z st (truncate s n)) ok))
+        (e.used ∙ ap (λ (m : ℕ). (outcome m 0 st.memory.used (T.used_then z st s n)).left) (yes_all (questions z st (truncate s n)) ok))
         ∙ sym (truncate_left z st k.fits k.rules s n ok))
         (λ h o. same_state
-        (e-frames ∙ (λ y. (o y).left.memory.core.frames))
+        (e.frames ∙ (λ y. (o y).left.memory.core.frames))
         refl refl refl refl refl refl refl refl refl
-        (e-free-queue ∙ (λ y. (o y).left.memory.core.free_queue))
-        (e-removal-list ∙ (λ y. (o y).left.memory.core.removal_list))
-        (e-addresses ∙ (λ y. (o y).left.memory.held.addresses))
-        (e-states ∙ (λ y. (o y).left.memory.held.states))
+        (e.free_queue ∙ (λ y. (o y).left.memory.core.free_queue))
+        (e.removal_list ∙ (λ y. (o y).left.memory.core.removal_list))
+        (e.addresses ∙ (λ y. (o y).left.memory.held.addresses))
+        (e.states ∙ (λ y. (o y).left.memory.held.states))
         refl refl refl refl refl
-        (e-used ∙ ap (λ (x : Outcome (List ℕ)). x.left) (outcome_no (first_no (questions z st (truncate s n))) 0 st.memory.used (T.used_then z st s n) h)))
+        (e.used ∙ ap (λ (x : Outcome (List ℕ)). x.left) (outcome_no (first_no (questions z st (truncate s n))) 0 st.memory.used (T.used_then z st s n) h)))

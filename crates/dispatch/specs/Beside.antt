@@ -119,6 +119,7 @@ module _ (line : List ℕ) where
     carried_beside (Event.Writeback (Update s)) a = refl
     carried_beside (Event.Writeback (PageDone f good)) a = done_beside f good
     carried_beside (Event.Writeback (MapDone s good)) a = map_beside s good
+    carried_beside (Event.Waiting e) a = elim a [ ]
 
     result_beside : (e : Event) → Apart e → result z with e ≡ result z st e
     unfolding result fault_frame Pages.word_read looking
@@ -134,6 +135,7 @@ module _ (line : List ℕ) where
     result_beside (Event.Writeback (Update s)) a = refl
     result_beside (Event.Writeback (PageDone f good)) a = refl
     result_beside (Event.Writeback (MapDone s good)) a = refl
+    result_beside (Event.Waiting e) a = elim a [ ]
 
     -- nor do its questions look at the line
     pub questions_beside : (e : Event) → Apart e → questions z with e ≡ questions z st e
@@ -154,6 +156,7 @@ module _ (line : List ℕ) where
     questions_beside (Event.Writeback (Update s)) a = refl
     questions_beside (Event.Writeback (PageDone f good)) a = refl
     questions_beside (Event.Writeback (MapDone s good)) a = refl
+    questions_beside (Event.Waiting e) a = elim a [ ]
 
     pub own_beside : (e : Event) → Apart e → own z with e ≡ beside (own z st e)
     unfolding own

@@ -1,9 +1,9 @@
 // The events about an account.
 ghost use Rattle.std.specs.Prelude.{◌≡◌};
 ghost use Rattle.model.specs.declared.event.Event.TheVariants as Event;
-ghost use Rattle.model.specs.Lent.{given, entered, left};
+ghost use Rattle.model.specs.Lent.{state_of};
 ghost use Rattle.model.specs.Laws.Own.{own, leaves};
-ghost use Rattle.leaves.specs.Packed.{frames_given, frames_entered, frames_left};
+ghost use Rattle.leaves.specs.Packed.{frames_in};
 ghost use Rattle.dispatch.specs.Kept.{Kept};
 
 use accounts::limit::limit;
@@ -38,14 +38,14 @@ pub fn account_event(
     used: &mut [u16],
 ) -> Answer
     requires { Kept sizes
-        (given (frames_given sizes frames) pool records numbers accounts maps limits parents highest
-        frame_words free_queue removal_list addresses states owners free_map active updating images used) }
+        (state_of (frames_in sizes frames.now) pool records.now numbers.now accounts.now maps.now limits.old parents.now highest.now
+        frame_words.now free_queue.now removal_list.now addresses.now states.now owners.now free_map.now active.now updating.now images.now used.old) }
     ensures { leaves result
-        (left (frames_left sizes frames) pool records numbers accounts maps limits parents highest
-        frame_words free_queue removal_list addresses states owners free_map active updating images used)
+        (state_of (frames_in sizes frames.now) pool records.now numbers.now accounts.now maps.now limits.new parents.now highest.now
+        frame_words.now free_queue.now removal_list.now addresses.now states.now owners.now free_map.now active.now updating.now images.now used.new)
         ≡ own sizes
-        (entered (frames_entered sizes frames) pool records numbers accounts maps limits parents highest
-        frame_words free_queue removal_list addresses states owners free_map active updating images used)
+        (state_of (frames_in sizes frames.now) pool records.now numbers.now accounts.now maps.now limits.old parents.now highest.now
+        frame_words.now free_queue.now removal_list.now addresses.now states.now owners.now free_map.now active.now updating.now images.now used.old)
         (Event.Account event) }
 {
     match event {

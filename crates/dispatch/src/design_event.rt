@@ -1,9 +1,9 @@
 // The events about a design.
 ghost use Rattle.std.specs.Prelude.{◌≡◌};
 ghost use Rattle.model.specs.declared.event.Event.TheVariants as Event;
-ghost use Rattle.model.specs.Lent.{given, entered, left};
+ghost use Rattle.model.specs.Lent.{state_of};
 ghost use Rattle.model.specs.Laws.Own.{own, leaves};
-ghost use Rattle.leaves.specs.Packed.{frames_given, frames_entered, frames_left};
+ghost use Rattle.leaves.specs.Packed.{frames_in};
 ghost use Rattle.dispatch.specs.Kept.{Kept};
 
 use designs::activate::activate;
@@ -40,14 +40,14 @@ pub fn design_event(
     used: &[u16],
 ) -> Answer
     requires { Kept sizes
-        (given (frames_given sizes frames) pool records numbers accounts maps limits parents highest
-        frame_words free_queue removal_list addresses states owners free_map active updating images used) }
+        (state_of (frames_in sizes frames.now) pool records.now numbers.old accounts.old maps.now limits.now parents.now highest.old
+        frame_words.now free_queue.now removal_list.now addresses.old states.old owners.now free_map.now active.old updating.now images.now used.now) }
     ensures { leaves result
-        (left (frames_left sizes frames) pool records numbers accounts maps limits parents highest
-        frame_words free_queue removal_list addresses states owners free_map active updating images used)
+        (state_of (frames_in sizes frames.now) pool records.now numbers.new accounts.new maps.now limits.now parents.now highest.new
+        frame_words.now free_queue.now removal_list.now addresses.new states.new owners.now free_map.now active.new updating.now images.now used.now)
         ≡ own sizes
-        (entered (frames_entered sizes frames) pool records numbers accounts maps limits parents highest
-        frame_words free_queue removal_list addresses states owners free_map active updating images used)
+        (state_of (frames_in sizes frames.now) pool records.now numbers.old accounts.old maps.now limits.now parents.now highest.old
+        frame_words.now free_queue.now removal_list.now addresses.old states.old owners.now free_map.now active.old updating.now images.now used.now)
         (Event.Design event) }
 {
     match event {

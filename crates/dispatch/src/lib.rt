@@ -1,5 +1,6 @@
 // The events in their four families, over all tables: each is handed on to its own function with the tables that it needs.
 #![tactic(auto)]
+
 pub mod account_event; // limit, move
 pub mod design_event; // create, delete, activate, deactivate
 mod handed; // what an event hands back, put together

@@ -1,10 +1,10 @@
 // The events about one page.
 ghost use Rattle.std.specs.Prelude.{◌≡◌};
 ghost use Rattle.model.specs.declared.event.Event.TheVariants as Event;
-ghost use Rattle.model.specs.Lent.{given, entered, left};
+ghost use Rattle.model.specs.Lent.{state_of};
 ghost use Rattle.model.specs.Laws.Own.{own, leaves};
 ghost use Rattle.model.specs.Pool.{taken, deposited};
-ghost use Rattle.leaves.specs.Packed.{frames_given, frames_entered, frames_left};
+ghost use Rattle.leaves.specs.Packed.{frames_in};
 ghost use Rattle.dispatch.specs.Kept.{Kept};
 
 use crate::handed::told;
@@ -43,14 +43,14 @@ pub fn page_event(
     used: &mut [u16],
 ) -> Worked
     requires { Kept sizes
-        (given (frames_given sizes frames) pool records numbers accounts maps limits parents highest
-        frame_words free_queue removal_list addresses states owners free_map active updating images used) }
+        (state_of (frames_in sizes frames.old) pool records.now numbers.now accounts.now maps.now limits.now parents.now highest.now
+        frame_words.old free_queue.old removal_list.old addresses.old states.old owners.old free_map.old active.now updating.now images.now used.old) }
     ensures left { leaves result.answer
-        (left (frames_left sizes frames) (deposited result.deposited (taken sizes result.taken pool)) records numbers accounts maps limits parents highest
-        frame_words free_queue removal_list addresses states owners free_map active updating images used)
+        (state_of (frames_in sizes frames.new) (deposited result.deposited (taken sizes result.taken pool)) records.now numbers.now accounts.now maps.now limits.now parents.now highest.now
+        frame_words.new free_queue.new removal_list.new addresses.new states.new owners.new free_map.new active.now updating.now images.now used.new)
         ≡ own sizes
-        (entered (frames_entered sizes frames) pool records numbers accounts maps limits parents highest
-        frame_words free_queue removal_list addresses states owners free_map active updating images used)
+        (state_of (frames_in sizes frames.old) pool records.now numbers.now accounts.now maps.now limits.now parents.now highest.now
+        frame_words.old free_queue.old removal_list.old addresses.old states.old owners.old free_map.old active.now updating.now images.now used.old)
         (Event.Page event) }
     ensures nulled { result.nulled ≡ 0 }
 {

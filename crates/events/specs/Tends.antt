@@ -5,7 +5,7 @@ use Rattle.model.specs.declared.sizes.Sizes.{Sizes}
 use Rattle.model.specs.declared.frame.Frame.{Frame}
 use Rattle.model.specs.State.{Chip, State}
 use Rattle.model.specs.Setters.{on_disk, on_core, on_held, set_records, set_frames, set_words, set_removal_list, set_addresses, set_states}
-use Rattle.model.specs.Lent.{Table, no_state}
+use Rattle.model.specs.Lent.{no_state}
 use Rattle.model.specs.Laws.Fit.{Within, ChipFit}
 use Rattle.chips.specs.Seen.{Awaiting}
 use Rattle.events.specs.declared.chore.Chore.{Chore}
@@ -16,9 +16,9 @@ abbrev pub seen_tend : List Frame → List ℕ → List ℕ → List ℕ → Lis
 seen_tend frames records words list addresses states =
     on_disk (set_records records) (on_core (λ c. set_frames frames (set_words words (set_removal_list list c))) (on_held (λ h. set_addresses addresses (set_states states h)) no_state))
 
--- .. as they are passed, by their bare names
-abbrev pub entered_tend : List Frame → Table → Table → Table → Table → Table → State
-entered_tend frames records words list addresses states = seen_tend frames records.entry.now words.entry.now list.entry.now addresses.entry.now states.entry.now
+-- .. as they are passed
+abbrev pub entered_tend : List Frame → List ℕ → List ℕ → List ℕ → List ℕ → List ℕ → State
+entered_tend = seen_tend
 
 -- a frame that may take a copy, and a record whose words go in
 abbrev pub Needed : Sizes → Chip → List Frame → List ℕ → List ℕ → Chore → Type 0

@@ -1,10 +1,10 @@
 // An event handed on to its family.
 ghost use Rattle.std.specs.Prelude.{◌≡◌};
-ghost use Rattle.model.specs.Lent.{lined_given, lined_entered, lined_left};
+ghost use Rattle.model.specs.Lent.{lined_of};
 ghost use Rattle.model.specs.Laws.Own.{own, leaves};
 ghost use Rattle.model.specs.Laws.Nulled.{nulled_by};
 ghost use Rattle.model.specs.Pool.{taken, deposited};
-ghost use Rattle.leaves.specs.Packed.{frames_given, frames_entered, frames_left};
+ghost use Rattle.leaves.specs.Packed.{frames_in};
 ghost use Rattle.dispatch.specs.Kept.{Kept};
 
 use dispatch::account_event::account_event;
@@ -44,17 +44,17 @@ pub fn carry(
     used: &mut [u16],
 ) -> Worked
     requires { Kept sizes
-        (lined_given (frames_given sizes frames) pool records numbers accounts maps limits parents highest
-        frame_words free_queue removal_list addresses states owners free_map active updating images line used) }
+        (lined_of (frames_in sizes frames.old) pool records.old numbers.old accounts.old maps.old limits.old parents.now highest.old
+        frame_words.old free_queue.old removal_list.old addresses.old states.old owners.old free_map.old active.old updating.old images.old line.old used.old) }
     ensures left { leaves result.answer
-        (lined_left (frames_left sizes frames) (deposited result.deposited (taken sizes result.taken pool)) records numbers accounts maps limits parents highest
-        frame_words free_queue removal_list addresses states owners free_map active updating images line used)
+        (lined_of (frames_in sizes frames.new) (deposited result.deposited (taken sizes result.taken pool)) records.new numbers.new accounts.new maps.new limits.new parents.now highest.new
+        frame_words.new free_queue.new removal_list.new addresses.new states.new owners.new free_map.new active.new updating.new images.new line.new used.new)
         ≡ own sizes
-        (lined_entered (frames_entered sizes frames) pool records numbers accounts maps limits parents highest
-        frame_words free_queue removal_list addresses states owners free_map active updating images line used) event }
+        (lined_of (frames_in sizes frames.old) pool records.old numbers.old accounts.old maps.old limits.old parents.now highest.old
+        frame_words.old free_queue.old removal_list.old addresses.old states.old owners.old free_map.old active.old updating.old images.old line.old used.old) event }
     ensures nulled { result.nulled ≡ nulled_by sizes
-        (lined_entered (frames_entered sizes frames) pool records numbers accounts maps limits parents highest
-        frame_words free_queue removal_list addresses states owners free_map active updating images line used) event }
+        (lined_of (frames_in sizes frames.old) pool records.old numbers.old accounts.old maps.old limits.old parents.now highest.old
+        frame_words.old free_queue.old removal_list.old addresses.old states.old owners.old free_map.old active.old updating.old images.old line.old used.old) event }
 {
     match event {
         Event::Design(e) => {

@@ -2,7 +2,7 @@
 ghost use Rattle.std.specs.Prelude.{List, ◌≡◌, ℕ, ◌<◌};
 ghost use Rattle.model.specs.Lent.{chip_of};
 ghost use Rattle.model.specs.Laws.Fit.{Within};
-ghost use Rattle.leaves.specs.Packed.{frames_given, frames_entered, frames_left};
+ghost use Rattle.leaves.specs.Packed.{frames_in};
 ghost use Rattle.chips.specs.Seen.{Places, chip_given, chip_entered, chip_left};
 ghost use Rattle.events.specs.Chores.{forgotten, tended};
 ghost use Rattle.events.specs.Tends.{Tending, entered_tend};
@@ -37,11 +37,11 @@ pub fn tend(
     chip_records: &mut [u16],
     chip_next: &mut [u16],
 )
-    requires { Tending sizes chore told (chip_given chip_words chip_records chip_next) (frames_given sizes frames) records.now frame_words.old removal_list.old }
-    ensures frames { frames_left sizes frames ≡ (tended sizes chore told (chip_entered chip_words chip_records chip_next) (entered_tend (frames_entered sizes frames) records frame_words removal_list addresses states)).memory.core.frames }
-    ensures words { frame_words.new ≡ (tended sizes chore told (chip_entered chip_words chip_records chip_next) (entered_tend (frames_entered sizes frames) records frame_words removal_list addresses states)).memory.core.words }
-    ensures list { removal_list.new ≡ (tended sizes chore told (chip_entered chip_words chip_records chip_next) (entered_tend (frames_entered sizes frames) records frame_words removal_list addresses states)).memory.core.removal_list }
-    ensures chip { chip_left chip_words chip_records chip_next ≡ (tended sizes chore told (chip_entered chip_words chip_records chip_next) (entered_tend (frames_entered sizes frames) records frame_words removal_list addresses states)).memory.chip }
+    requires { Tending sizes chore told (chip_given chip_words.old chip_records.old chip_next.old) (frames_in sizes frames.old) records.now frame_words.old removal_list.old }
+    ensures frames { frames_in sizes frames.new ≡ (tended sizes chore told (chip_entered chip_words.old chip_records.old chip_next.old) (entered_tend (frames_in sizes frames.old) records.now frame_words.old removal_list.old addresses.now states.now)).memory.core.frames }
+    ensures words { frame_words.new ≡ (tended sizes chore told (chip_entered chip_words.old chip_records.old chip_next.old) (entered_tend (frames_in sizes frames.old) records.now frame_words.old removal_list.old addresses.now states.now)).memory.core.words }
+    ensures list { removal_list.new ≡ (tended sizes chore told (chip_entered chip_words.old chip_records.old chip_next.old) (entered_tend (frames_in sizes frames.old) records.now frame_words.old removal_list.old addresses.now states.now)).memory.core.removal_list }
+    ensures chip { chip_left chip_words.new chip_records.new chip_next.new ≡ (tended sizes chore told (chip_entered chip_words.old chip_records.old chip_next.old) (entered_tend (frames_in sizes frames.old) records.now frame_words.old removal_list.old addresses.now states.now)).memory.chip }
 {
     match chore {
         Chore::Rest => {}

@@ -1,9 +1,9 @@
 // An event, and what the chip does with it.
 ghost use Rattle.std.specs.Prelude.{◌≡◌};
-ghost use Rattle.model.specs.Lent.{all_given, all_entered, all_left};
+ghost use Rattle.model.specs.Lent.{all_of};
 ghost use Rattle.model.specs.Laws.Own.{own_whole, leaves};
 ghost use Rattle.model.specs.Pool.{taken, deposited};
-ghost use Rattle.leaves.specs.Packed.{frames_given, frames_entered, frames_left};
+ghost use Rattle.leaves.specs.Packed.{frames_in};
 ghost use Rattle.events.specs.Kept.{KeptWhole};
 
 use crate::carry::carry;
@@ -44,14 +44,14 @@ pub fn carry_whole(
     used: &mut [u16],
 ) -> Worked
     requires { KeptWhole sizes
-        (all_given (frames_given sizes frames) pool records numbers accounts maps limits parents highest
-        frame_words free_queue removal_list addresses states owners free_map active updating images chip_words chip_records chip_next line used) }
+        (all_of (frames_in sizes frames.old) pool records.old numbers.old accounts.old maps.old limits.old parents.now highest.old
+        frame_words.old free_queue.old removal_list.old addresses.old states.old owners.old free_map.old active.old updating.old images.old chip_words.old chip_records.old chip_next.old line.old used.old) }
     ensures { leaves result.answer
-        (all_left (frames_left sizes frames) (deposited result.deposited (taken sizes result.taken pool)) records numbers accounts maps limits parents highest
-        frame_words free_queue removal_list addresses states owners free_map active updating images chip_words chip_records chip_next line used)
+        (all_of (frames_in sizes frames.new) (deposited result.deposited (taken sizes result.taken pool)) records.new numbers.new accounts.new maps.new limits.new parents.now highest.new
+        frame_words.new free_queue.new removal_list.new addresses.new states.new owners.new free_map.new active.new updating.new images.new chip_words.new chip_records.new chip_next.new line.new used.new)
         ≡ own_whole sizes
-        (all_entered (frames_entered sizes frames) pool records numbers accounts maps limits parents highest
-        frame_words free_queue removal_list addresses states owners free_map active updating images chip_words chip_records chip_next line used) event }
+        (all_of (frames_in sizes frames.old) pool records.old numbers.old accounts.old maps.old limits.old parents.now highest.old
+        frame_words.old free_queue.old removal_list.old addresses.old states.old owners.old free_map.old active.old updating.old images.old chip_words.old chip_records.old chip_next.old line.old used.old) event }
 {
     let chore = chore_of(event, frames, free_queue, addresses);
     let out = carry(

@@ -1,6 +1,6 @@
 // An event asked for by a request, for firmware to link.
 ghost use Rattle.std.specs.Prelude.{◌≡◌};
-ghost use Rattle.model.specs.Lent.{all_entered, all_left};
+ghost use Rattle.model.specs.Lent.{all_of};
 ghost use Rattle.model.specs.Laws.Own.{leaves};
 ghost use Rattle.model.specs.Calls.{apply};
 
@@ -43,11 +43,11 @@ pub extern "C" fn keeper_apply(
     used: &mut [u16],
 ) -> Answer
     ensures { leaves result
-        (all_left frames.new pool.new records numbers accounts maps limits parents highest
-        frame_words free_queue removal_list addresses states owners free_map active updating images chip_words chip_records chip_next line used)
+        (all_of frames.new pool.new records.new numbers.new accounts.new maps.new limits.new parents.now highest.new
+        frame_words.new free_queue.new removal_list.new addresses.new states.new owners.new free_map.new active.new updating.new images.new chip_words.new chip_records.new chip_next.new line.new used.new)
         ≡ apply sizes
-        (all_entered frames.old pool.old records numbers accounts maps limits parents highest
-        frame_words free_queue removal_list addresses states owners free_map active updating images chip_words chip_records chip_next line used) request }
+        (all_of frames.old pool.old records.old numbers.old accounts.old maps.old limits.old parents.now highest.old
+        frame_words.old free_queue.old removal_list.old addresses.old states.old owners.old free_map.old active.old updating.old images.old chip_words.old chip_records.old chip_next.old line.old used.old) request }
 {
     let lent = frames.len();
     let values = load(frames);

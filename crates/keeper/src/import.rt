@@ -1,6 +1,6 @@
 // Import, for firmware to link.
 ghost use Rattle.std.specs.Prelude.{◌≡◌};
-ghost use Rattle.model.specs.Lent.{all_entered, all_left};
+ghost use Rattle.model.specs.Lent.{all_of};
 ghost use Rattle.model.specs.Laws.Own.{leaves};
 ghost use Rattle.model.specs.Import.{import};
 
@@ -45,11 +45,11 @@ pub extern "C" fn keeper_import(
     used: &mut [u16],
 ) -> Answer
     ensures { leaves result
-        (all_left frames.now pool.new records numbers accounts maps limits parents highest
-        frame_words free_queue removal_list addresses states owners free_map active updating images chip_words chip_records chip_next line used)
+        (all_of frames.now pool.new records.new numbers.new accounts.new maps.new limits.now parents.now highest.new
+        frame_words.now free_queue.now removal_list.now addresses.now states.new owners.new free_map.new active.now updating.now images.now chip_words.now chip_records.now chip_next.now line.now used.new)
         ≡ import sizes
-        (all_entered frames.now pool.old records numbers accounts maps limits parents highest
-        frame_words free_queue removal_list addresses states owners free_map active updating images chip_words chip_records chip_next line used)
+        (all_of frames.now pool.old records.old numbers.old accounts.old maps.old limits.now parents.now highest.old
+        frame_words.now free_queue.now removal_list.now addresses.now states.old owners.old free_map.old active.now updating.now images.now chip_words.now chip_records.now chip_next.now line.now used.old)
         slot account number sheet.now }
 {
     let lent = frames.len();

@@ -1,6 +1,6 @@
 // The page looks: by reference for Rattle, by place for firmware to link.
 ghost use Rattle.std.specs.Prelude.{◌≡◌};
-ghost use Rattle.model.specs.Lent.{all_entered};
+ghost use Rattle.model.specs.Lent.{all_of};
 ghost use Rattle.model.specs.Part.{word_at, part_of};
 ghost use Rattle.model.specs.Step.{look};
 
@@ -41,8 +41,8 @@ pub fn page_look<'a>(
     line: &[u16],
     used: &[u16],
 ) -> &'a [u32]
-    ensures { let st = all_entered frames.now pool records numbers accounts maps limits parents highest
-        frame_words free_queue removal_list addresses states owners free_map active updating images chip_words chip_records chip_next line used in
+    ensures { let st = all_of frames.now pool records.now numbers.now accounts.now maps.now limits.now parents.now highest.now
+        frame_words.now free_queue.now removal_list.now addresses.now states.now owners.now free_map.now active.now updating.now images.now chip_words.now chip_records.now chip_next.now line.now used.now in
         (result.now ≡ (look sizes st slot page).left)
         × ((refusal.new ≡ (look sizes st slot page).answer.refusal)
         × (result.ref_ptr ≡ word_at frame_words.entry.ref_ptr (part_of sizes st slot page).start)) }
@@ -115,8 +115,8 @@ pub extern "C" fn keeper_page_look(
     used: &[u16],
 ) -> Part
     ensures { result ≡ part_of sizes
-        (all_entered frames.now pool records numbers accounts maps limits parents highest
-        frame_words free_queue removal_list addresses states owners free_map active updating images chip_words chip_records chip_next line used) slot page }
+        (all_of frames.now pool records.now numbers.now accounts.now maps.now limits.now parents.now highest.now
+        frame_words.now free_queue.now removal_list.now addresses.now states.now owners.now free_map.now active.now updating.now images.now chip_words.now chip_records.now chip_next.now line.now used.now) slot page }
 {
     let lent = frames.len();
     let values = load(frames);

@@ -1,5 +1,6 @@
 // Mending a pack that restart turns away: questions 1 and 24, then five passes over the disk part, one a step.
 #![tactic(auto)]
+
 ghost use Rattle.std.specs.Prelude.{◌≡◌};
 ghost use Rattle.mending.specs.Mend;
 ghost use Rattle.mending.specs.Steps.{lent_of};

@@ -1,11 +1,12 @@
 // The input in pieces: what has come and is not used yet stands in a buffer.
-ghost use Rattle.std.specs.Prelude.{◌≡◌, ◌-◌, ◌≤◌, false, ◌++◌, length, take, drop};
+ghost use Rattle.std.specs.Prelude.{◌≡◌, ◌-◌, ◌≤◌, false, ◌++◌, length, take, drop, IfOk, OnErr};
 ghost use Rattle.fields.specs.Fields.{field_at};
-ghost use Rattle.replay.specs.Input.{past as Input·past, Refilled, cut as Input·cut, room, step_of, follows};
+ghost use Rattle.replay.specs.Input.{past as Input·past, unread, Refilled, cut as Input·cut, room, step_of, follows};
 
 use fields::Field;
-use libc::STDIN_FILENO;
 use model::request::Request;
+use std::io;
+use std::io::Read;
 
 const CUT: u32 = 16;
 
@@ -57,23 +58,23 @@ fn shift(buffer: &mut [u8], from: usize, end: usize)
     }
 }
 
-// Reads once behind what is left.
-pub fn refill(buffer: &mut [u8], reader: Reader) -> Reader
+// Reads once behind what is left. After a failed read the unread bytes are first.
+pub fn refill<R: Read>(source: &mut R, buffer: &mut [u8], reader: Reader) -> io::Result<Reader>
     requires { (reader.place ≤ reader.filled) × (reader.filled ≤ length buffer.old) }
-    ensures { Refilled buffer.old buffer.new reader result }
+    ensures ok { IfOk result (λ fresh. Refilled buffer.old buffer.new reader fresh) }
+    ensures err { OnErr result (take (reader.filled - reader.place) buffer.new ≡ unread reader buffer.old) }
 {
     let from = reader.place;
     let end = reader.filled;
     shift(buffer, from, end);
     let left = end - from;
-    let got = libc::read(STDIN_FILENO, &mut buffer[left..]);
-    let n = io::count(got, &buffer[left..]);
-    Reader {
+    let n = source.read(&mut buffer[left..])?;
+    Ok(Reader {
         place: 0,
         filled: left + n,
         offset: reader.offset,
         ended: n == 0,
-    }
+    })
 }
 
 // The request that stands for a cut and a restart; it has no values.

@@ -1,7 +1,7 @@
 // The tables of the event program's sizes, and one request carried out on them.
 ghost use Rattle.std.specs.Prelude.{◌≡◌, replicate};
 ghost use Rattle.model.specs.Calls.{frames_of};
-ghost use Rattle.model.specs.Lent.{all_entered, all_left, no_pool};
+ghost use Rattle.model.specs.Lent.{all_of, no_pool};
 ghost use Rattle.model.specs.State.{no_frame};
 ghost use Rattle.replay.specs.Output.{sizes as Output·sizes, carried, started_from};
 
@@ -31,7 +31,7 @@ fn sizes() -> Sizes
 
 // Frames and pool before the first restart; what stands in them is never read.
 fn blank() -> Pooled
-    ensures* { λ r. ⌜ r ≡ record { frames = replicate 64 no_frame; pool = no_pool; answer = record { refusal = 0; result = 0 } } ⌝ }
+    ensures { result ≡ record { frames = replicate 64 no_frame; pool = no_pool; answer = record { refusal = 0; result = 0 } } }
 {
     Pooled {
         frames: no_frames(),
@@ -70,8 +70,8 @@ pub fn carry(
     line: &mut [u16; 32],
     used: &mut [u16; 1],
 ) -> Pooled
-    ensures { record { answer = result.answer; left = all_left (frames_of result.frames 2) result.pool records numbers accounts maps limits parents highest frame_words free_queue removal_list addresses states owners free_map active updating images chip_words chip_records chip_next line used }
-        ≡ carried (all_entered (frames_of held.frames 2) held.pool records numbers accounts maps limits parents highest frame_words free_queue removal_list addresses states owners free_map active updating images chip_words chip_records chip_next line used) asked }
+    ensures { record { answer = result.answer; left = all_of (frames_of result.frames 2) result.pool records.new numbers.new accounts.new maps.new limits.new parents.now highest.new frame_words.new free_queue.new removal_list.new addresses.new states.new owners.new free_map.new active.new updating.new images.new chip_words.new chip_records.new chip_next.new line.new used.new }
+        ≡ carried (all_of (frames_of held.frames 2) held.pool records.old numbers.old accounts.old maps.old limits.old parents.now highest.old frame_words.old free_queue.old removal_list.old addresses.old states.old owners.old free_map.old active.old updating.old images.old chip_words.old chip_records.old chip_next.old line.old used.old) asked }
 {
     let frames = held.frames;
     let pool = held.pool;
@@ -170,8 +170,8 @@ pub fn start(
     line: &mut [u16; 32],
     used: &mut [u16; 1],
 ) -> Pooled
-    ensures { record { answer = result.answer; left = all_left (frames_of result.frames 2) result.pool records numbers accounts maps limits parents highest frame_words free_queue removal_list addresses states owners free_map active updating images chip_words chip_records chip_next line used }
-        ≡ started_from (all_entered (frames_of (replicate 64 no_frame) 2) no_pool records numbers accounts maps limits parents highest frame_words free_queue removal_list addresses states owners free_map active updating images chip_words chip_records chip_next line used) }
+    ensures { record { answer = result.answer; left = all_of (frames_of result.frames 2) result.pool records.new numbers.new accounts.new maps.new limits.new parents.new highest.new frame_words.new free_queue.new removal_list.new addresses.new states.new owners.new free_map.new active.new updating.new images.new chip_words.new chip_records.new chip_next.new line.new used.new }
+        ≡ started_from (all_of (frames_of (replicate 64 no_frame) 2) no_pool records.old numbers.old accounts.old maps.old limits.old parents.old highest.old frame_words.old free_queue.old removal_list.old addresses.old states.old owners.old free_map.old active.old updating.old images.old chip_words.old chip_records.old chip_next.old line.old used.old) }
 {
     let wanted = [0u16; 1];
     calls::format(

@@ -1,32 +1,33 @@
 // The event program: reads, carries out what has come, prints, until the input ends or a field is bad.
-ghost use Rattle.std.specs.Prelude.{◌<◌, ◌≤◌, length};
+ghost use Rattle.std.specs.Prelude.{◌<◌, ◌≤◌, length, IfOk};
 
 use crate::input::{Next, Reader, next_at, refill};
 use crate::machine::start;
 use crate::whole::whole_fields;
-use libc::STDOUT_FILENO;
+use std::io;
+use std::io::{Print, Read};
 
 // So many bytes go out.
-fn print(out: &[u8], size: usize)
+fn print<P: Print>(to: &P, out: &[u8], size: usize) -> io::Result<()>
     requires { size ≤ length out.now }
 {
-    io::write_all(STDOUT_FILENO, &out[..size]);
+    to.write_all(&out[..size])
 }
 
 // The header goes out.
-fn begin(out: &mut [u8])
+fn begin<P: Print>(to: &P, out: &mut [u8]) -> io::Result<()>
     requires { 20 ≤ length out.old }
 {
     let size = lines::header(out, 0);
-    print(out, size);
+    print(to, out, size)
 }
 
 // A bad field is told.
-fn complain(out: &mut [u8], offset: u64)
+fn complain<P: Print>(to: &P, out: &mut [u8], offset: u64) -> io::Result<()>
     requires { 34 ≤ length out.old }
 {
     let size = lines::bad_field(out, 0, offset);
-    print(out, size);
+    print(to, out, size)
 }
 
 // Where the reader stands, and how many turns the program goes on for.
@@ -37,36 +38,43 @@ pub struct Followed {
 }
 
 // After the whole fields that have come: more input, or the end, or a bad field, which is told.
-fn follow(buffer: &mut [u8], out: &mut [u8], reader: Reader, turns: u64) -> Followed
+fn follow<P: Print, R: Read>(
+    to: &P,
+    source: &mut R,
+    buffer: &mut [u8],
+    out: &mut [u8],
+    reader: Reader,
+    turns: u64,
+) -> io::Result<Followed>
     requires { (reader.place ≤ reader.filled) × (reader.filled ≤ length buffer.old) × (34 ≤ length out.old) × (0 < turns) }
-    ensures { (result.reader.place ≤ result.reader.filled) × (result.reader.filled ≤ length buffer.new) × (result.turns < turns) }
+    ensures { IfOk result (λ done. (done.reader.place ≤ done.reader.filled) × (done.reader.filled ≤ length buffer.new) × (done.turns < turns)) }
 {
     let filled = reader.filled;
     let place = reader.place;
     let ended = reader.ended;
     let next = next_at(&buffer[..filled], place, ended);
     match next {
-        Next::Again => Followed {
+        Next::Again => Ok(Followed {
             reader,
             turns: turns - 1,
-        },
+        }),
         Next::More => {
-            let fresh = refill(buffer, reader);
-            Followed {
+            let fresh = refill(source, buffer, reader)?;
+            Ok(Followed {
                 reader: fresh,
                 turns: turns - 1,
-            }
+            })
         }
-        Next::Stop => Followed { reader, turns: 0 },
+        Next::Stop => Ok(Followed { reader, turns: 0 }),
         Next::Bad => {
-            complain(out, reader.offset);
-            Followed { reader, turns: 0 }
+            complain(to, out, reader.offset)?;
+            Ok(Followed { reader, turns: 0 })
         }
     }
 }
 
-// The loop counts its turns, since a proved loop has to end.
-pub fn run() {
+// The loop counts its turns, since a proved loop has to end. A failed read or write ends it.
+pub fn run<P: Print, R: Read>(to: &P, source: &mut R) -> io::Result<()> {
     let mut records = [0u32; 8];
     let mut numbers = [0u32; 2];
     let mut accounts = [0u16; 2];
@@ -113,9 +121,9 @@ pub fn run() {
         &mut line,
         &mut used,
     );
-    let mut buffer = io::buffer();
-    let mut out = io::buffer();
-    begin(&mut out);
+    let mut buffer = [0u8; 4096];
+    let mut out = [0u8; 4096];
+    begin(to, &mut out)?;
     let mut reader = Reader::new();
     let mut n: u64 = 0;
     let mut turns = u64::MAX;
@@ -152,11 +160,19 @@ pub fn run() {
             &mut used,
         );
         let size = done.size;
-        print(&out, size);
+        print(to, &out, size)?;
         held = done.held;
         n = done.n;
-        let followed = follow(&mut buffer, &mut out, reader.past(done.place), turns);
+        let followed = follow(
+            to,
+            source,
+            &mut buffer,
+            &mut out,
+            reader.past(done.place),
+            turns,
+        )?;
         reader = followed.reader;
         turns = followed.turns;
     }
+    Ok(())
 }

@@ -2,7 +2,7 @@
 ghost use Rattle.std.specs.Prelude.{◌≡◌, ◌≤◌, false, ◌&&◌, length};
 ghost use Rattle.fields.specs.Fields.{field_at};
 ghost use Rattle.model.specs.Calls.{frames_of};
-ghost use Rattle.model.specs.Lent.{all_entered, all_left};
+ghost use Rattle.model.specs.Lent.{all_of};
 ghost use Rattle.replay.specs.Input.{is_whole, room};
 ghost use Rattle.replay.specs.Output.{Ran};
 
@@ -52,9 +52,9 @@ pub fn whole_fields(
     requires { 4096 ≤ length out.old }
     ensures n_value { is_whole (field_at input.now result.place) && room result.size result.n ≡ false }
     ensures ran { Ran input.now out.old out.new from count
-        (all_entered (frames_of before.frames 2) before.pool records numbers accounts maps limits parents highest frame_words free_queue removal_list addresses states owners free_map active updating images chip_words chip_records chip_next line used)
+        (all_of (frames_of before.frames 2) before.pool records.old numbers.old accounts.old maps.old limits.old parents.now highest.old frame_words.old free_queue.old removal_list.old addresses.old states.old owners.old free_map.old active.old updating.old images.old chip_words.old chip_records.old chip_next.old line.old used.old)
         result.place result.size result.n
-        (all_left (frames_of result.held.frames 2) result.held.pool records numbers accounts maps limits parents highest frame_words free_queue removal_list addresses states owners free_map active updating images chip_words chip_records chip_next line used) }
+        (all_of (frames_of result.held.frames 2) result.held.pool records.new numbers.new accounts.new maps.new limits.new parents.now highest.new frame_words.new free_queue.new removal_list.new addresses.new states.new owners.new free_map.new active.new updating.new images.new chip_words.new chip_records.new chip_next.new line.new used.new) }
 {
     let mut held = before;
     let mut place = from;

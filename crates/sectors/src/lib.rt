@@ -26,8 +26,7 @@ fn wide(x: u16) -> u32
 
 // The first sector of a record.
 // Shut out: an entry of the table wrong by one; 28 for record 599.
-#[unsafe(no_mangle)]
-pub extern "C" fn sectors_start_of(record: u32) -> Answer
+pub fn sectors_start_of(record: u32) -> Answer
     ensures { result ≡ start_of «record» }
 {
     let at = record as usize;
@@ -45,8 +44,7 @@ pub extern "C" fn sectors_start_of(record: u32) -> Answer
 
 // The record that a sector is in.
 // Shut out: records of 17 sectors on the way back; the last sectors of a cylinder taken for a record's.
-#[unsafe(no_mangle)]
-pub extern "C" fn sectors_record_of(sector: u32) -> Answer
+pub fn sectors_record_of(sector: u32) -> Answer
     ensures { result ≡ record_of sector }
 {
     if (sector < 10000) & (sector % 100 < 96) {

@@ -1,6 +1,6 @@
 // Export, over everything that is lent.
 ghost use Rattle.std.specs.Prelude.{◌≡◌};
-ghost use Rattle.model.specs.Lent.{all_entered};
+ghost use Rattle.model.specs.Lent.{all_of};
 ghost use Rattle.model.specs.Calls.{frames_of};
 ghost use Rattle.model.specs.Export.{export};
 ghost use Rattle.carrying.specs.Exports.{handed};
@@ -44,8 +44,8 @@ pub fn export_core(
     used: &[u16],
 ) -> Answer
     ensures { handed result sheet.new ≡ export sizes
-        (all_entered (frames_of frames lent) pool records numbers accounts maps limits parents highest
-        frame_words free_queue removal_list addresses states owners free_map active updating images chip_words chip_records chip_next line used) slot sheet.old }
+        (all_of (frames_of frames lent) pool records.now numbers.now accounts.now maps.now limits.now parents.now highest.now
+        frame_words.now free_queue.now removal_list.now addresses.now states.now owners.now free_map.now active.now updating.now images.now chip_words.now chip_records.now chip_next.now line.now used.now) slot sheet.old }
 {
     let packed = pack_all(frames);
     let refusal = common(

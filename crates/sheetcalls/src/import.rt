@@ -1,6 +1,6 @@
 // Import, over everything that is lent.
 ghost use Rattle.std.specs.Prelude.{◌≡◌};
-ghost use Rattle.model.specs.Lent.{all_entered, all_left};
+ghost use Rattle.model.specs.Lent.{all_of};
 ghost use Rattle.model.specs.Laws.Own.{leaves};
 ghost use Rattle.model.specs.Calls.{frames_of};
 ghost use Rattle.model.specs.Import.{import};
@@ -46,11 +46,11 @@ pub fn import_core(
     used: &mut [u16],
 ) -> Imported
     ensures { leaves result.answer
-        (all_left (frames_of frames lent) result.pool records numbers accounts maps limits parents highest
-        frame_words free_queue removal_list addresses states owners free_map active updating images chip_words chip_records chip_next line used)
+        (all_of (frames_of frames lent) result.pool records.new numbers.new accounts.new maps.new limits.now parents.now highest.new
+        frame_words.now free_queue.now removal_list.now addresses.now states.new owners.new free_map.new active.now updating.now images.now chip_words.now chip_records.now chip_next.now line.now used.new)
         ≡ import sizes
-        (all_entered (frames_of frames lent) pool records numbers accounts maps limits parents highest
-        frame_words free_queue removal_list addresses states owners free_map active updating images chip_words chip_records chip_next line used) slot account number sheet.now }
+        (all_of (frames_of frames lent) pool records.old numbers.old accounts.old maps.old limits.now parents.now highest.old
+        frame_words.now free_queue.now removal_list.now addresses.now states.old owners.old free_map.old active.now updating.now images.now chip_words.now chip_records.now chip_next.now line.now used.old) slot account number sheet.now }
 {
     let packed = pack_all(frames);
     let refusal = common(

@@ -18,8 +18,8 @@ use pages::asks::page_of;
 // Nothing is asked of the slot or the page but that they are there.
 pub fn join(sizes: Sizes, slot: usize, page: usize, line: &mut [u16]) -> Answer
     requires { Within sizes × (length line.old ≡ LINE) × Holds (queue_of LINE (all_pages sizes) line.old) }
-    ensures answer { result ≡ (own sizes (entered_line line) (Event.Waiting (Waiting.Join slot page))).answer }
-    ensures line { line.new ≡ (own sizes (entered_line line) (Event.Waiting (Waiting.Join slot page))).left.memory.line }
+    ensures answer { result ≡ (own sizes (entered_line line.old) (Event.Waiting (Waiting.Join slot page))).answer }
+    ensures line { line.new ≡ (own sizes (entered_line line.old) (Event.Waiting (Waiting.Join slot page))).left.memory.line }
 {
     let in_range = (slot < sizes.slots) & (page < sizes.pages);
     if in_range {} else {

@@ -6,12 +6,12 @@ ghost use Rattle.tables.specs.Rule.{Holds};
 ghost use Rattle.model.specs.declared.event.Event.TheVariants as Event;
 ghost use Rattle.model.specs.declared.event.Waiting.TheVariants as Waiting;
 ghost use Rattle.model.specs.State.{NONE};
-ghost use Rattle.model.specs.Lent.{lined_given, lined_entered, lined_left};
+ghost use Rattle.model.specs.Lent.{lined_of};
 ghost use Rattle.model.specs.Laws.Own.{own, leaves};
 ghost use Rattle.model.specs.Laws.Nulled.{nulled_by};
 ghost use Rattle.model.specs.Pool.{taken, deposited};
 ghost use Rattle.leaves.specs.FrameLaws.{frame_in};
-ghost use Rattle.leaves.specs.Packed.{unpacked, frames_given, frames_entered, frames_left};
+ghost use Rattle.leaves.specs.Packed.{unpacked, frames_in};
 ghost use Rattle.dispatch.specs.Kept.{Kept};
 
 use leaves::cells::at16;
@@ -42,7 +42,7 @@ fn meet(frame: Frame, line: &mut [u16]) -> u32
 // Whatever the fault said but 20: accepted, the request stays first; any number sends it away and is the result.
 fn settle(done: Worked, waiting: &mut [u16]) -> Worked
     requires { (m : ℕ) × Holds (queue_of (length waiting.old) m waiting.old) }
-    ensures* done { λ r. ⌜ r ≡ record { taken = done.taken; deposited = done.deposited; nulled = done.nulled; answer = record { refusal = 0; result = done.answer.refusal } } ⌝ }
+    ensures done { result ≡ record { taken = done.taken; deposited = done.deposited; nulled = done.nulled; answer = record { refusal = 0; result = done.answer.refusal } } }
     ensures waiting { waiting.new ≡ if (eqb done.answer.refusal 0) waiting.old (pop waiting.old) }
 {
     let answer = done.answer;
@@ -63,7 +63,7 @@ fn settle(done: Worked, waiting: &mut [u16]) -> Worked
 
 // A refused claim refuses the turn; the looks of another are not handed on.
 fn claimed(done: ClaimDone) -> Worked
-    ensures* { λ r. ⌜ r ≡ record { taken = 0; deposited = 0; nulled = done.nulled; answer = record { refusal = done.answer.refusal; result = 0 } } ⌝ }
+    ensures { result ≡ record { taken = 0; deposited = 0; nulled = done.nulled; answer = record { refusal = done.answer.refusal; result = 0 } } }
 {
     let nulled = done.nulled;
     let answer = done.answer;
@@ -80,7 +80,7 @@ fn claimed(done: ClaimDone) -> Worked
 
 // A turn that leaves the pool as it was.
 fn told(res: u32) -> Worked
-    ensures* { λ r. ⌜ r ≡ record { taken = 0; deposited = 0; nulled = 0; answer = record { refusal = 0; result = res } } ⌝ }
+    ensures { result ≡ record { taken = 0; deposited = 0; nulled = 0; answer = record { refusal = 0; result = res } } }
 {
     Worked {
         taken: 0,
@@ -120,19 +120,19 @@ fn fetch(
     used: &mut [u16],
 ) -> Worked
     requires { Kept sizes
-        (lined_given (frames_given sizes frames) pool records numbers accounts maps limits parents highest
-        frame_words free_queue removal_list addresses states owners free_map active updating images line used)
+        (lined_of (frames_in sizes frames.old) pool records.now numbers.now accounts.now maps.now limits.now parents.now highest.now
+        frame_words.old free_queue.old removal_list.old addresses.old states.old owners.old free_map.old active.now updating.now images.now line.old used.old)
         × (0 < size line.old) × (i ≡ first line.old) × ¬ (frame_in sizes.frames (unpacked frames.old) i < sizes.frames) }
     ensures left { leaves result.answer
-        (lined_left (frames_left sizes frames) (deposited result.deposited (taken sizes result.taken pool)) records numbers accounts maps limits parents highest
-        frame_words free_queue removal_list addresses states owners free_map active updating images line used)
+        (lined_of (frames_in sizes frames.new) (deposited result.deposited (taken sizes result.taken pool)) records.now numbers.now accounts.now maps.now limits.now parents.now highest.now
+        frame_words.new free_queue.new removal_list.new addresses.new states.new owners.new free_map.new active.now updating.now images.now line.new used.new)
         ≡ own sizes
-        (lined_entered (frames_entered sizes frames) pool records numbers accounts maps limits parents highest
-        frame_words free_queue removal_list addresses states owners free_map active updating images line used)
+        (lined_of (frames_in sizes frames.old) pool records.now numbers.now accounts.now maps.now limits.now parents.now highest.now
+        frame_words.old free_queue.old removal_list.old addresses.old states.old owners.old free_map.old active.now updating.now images.now line.old used.old)
         (Event.Waiting Waiting.Turn) }
     ensures nulled { result.nulled ≡ nulled_by sizes
-        (lined_entered (frames_entered sizes frames) pool records numbers accounts maps limits parents highest
-        frame_words free_queue removal_list addresses states owners free_map active updating images line used)
+        (lined_of (frames_in sizes frames.old) pool records.now numbers.now accounts.now maps.now limits.now parents.now highest.now
+        frame_words.old free_queue.old removal_list.old addresses.old states.old owners.old free_map.old active.now updating.now images.now line.old used.old)
         (Event.Waiting Waiting.Turn) }
 {
     let done = fault(
@@ -196,18 +196,18 @@ pub fn turn(
     used: &mut [u16],
 ) -> Worked
     requires { Kept sizes
-        (lined_given (frames_given sizes frames) pool records numbers accounts maps limits parents highest
-        frame_words free_queue removal_list addresses states owners free_map active updating images line used) }
+        (lined_of (frames_in sizes frames.old) pool records.now numbers.now accounts.now maps.now limits.now parents.now highest.now
+        frame_words.old free_queue.old removal_list.old addresses.old states.old owners.old free_map.old active.now updating.now images.now line.old used.old) }
     ensures left { leaves result.answer
-        (lined_left (frames_left sizes frames) (deposited result.deposited (taken sizes result.taken pool)) records numbers accounts maps limits parents highest
-        frame_words free_queue removal_list addresses states owners free_map active updating images line used)
+        (lined_of (frames_in sizes frames.new) (deposited result.deposited (taken sizes result.taken pool)) records.now numbers.now accounts.now maps.now limits.now parents.now highest.now
+        frame_words.new free_queue.new removal_list.new addresses.new states.new owners.new free_map.new active.now updating.now images.now line.new used.new)
         ≡ own sizes
-        (lined_entered (frames_entered sizes frames) pool records numbers accounts maps limits parents highest
-        frame_words free_queue removal_list addresses states owners free_map active updating images line used)
+        (lined_of (frames_in sizes frames.old) pool records.now numbers.now accounts.now maps.now limits.now parents.now highest.now
+        frame_words.old free_queue.old removal_list.old addresses.old states.old owners.old free_map.old active.now updating.now images.now line.old used.old)
         (Event.Waiting Waiting.Turn) }
     ensures nulled { result.nulled ≡ nulled_by sizes
-        (lined_entered (frames_entered sizes frames) pool records numbers accounts maps limits parents highest
-        frame_words free_queue removal_list addresses states owners free_map active updating images line used)
+        (lined_of (frames_in sizes frames.old) pool records.now numbers.now accounts.now maps.now limits.now parents.now highest.now
+        frame_words.old free_queue.old removal_list.old addresses.old states.old owners.old free_map.old active.now updating.now images.now line.old used.old)
         (Event.Waiting Waiting.Turn) }
 {
     if at16(line, 0) == 0 {

@@ -18,7 +18,7 @@ use Rattle.tables.specs.QueueLaws.{size_members, members_within}
 use Rattle.tables.specs.Rule.{Holds, sound, complete}
 use Rattle.model.specs.declared.sizes.Sizes.{Sizes}
 use Rattle.model.specs.declared.frame.Frame.{Frame}
-use Rattle.model.specs.Lines.{FREE, NULLED, LIVE}
+use Rattle.model.specs.Lines.{FREE, NULLED}
 use Rattle.model.specs.State.{State, Files, Frames, files, frames, frame_at, no_frame, WRITING, slot_of, all_pages, payer, charged, used_of, live, woven}
 use Rattle.model.specs.Setters.{on_core, on_held, set_states, set_transfer, counted}
 use Rattle.model.specs.Pages.{on_frame}

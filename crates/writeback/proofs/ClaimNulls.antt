@@ -12,15 +12,43 @@ use Rattle.tables.specs.QueueEntries.{size_zero}
 use Rattle.tables.specs.Questions.{first_no}
 use Rattle.model.specs.declared.sizes.Sizes.{Sizes}
 use Rattle.model.specs.declared.frame.Frame.{Frame}
+use Rattle.model.specs.declared.event.Answer.{Answer}
 use Rattle.model.specs.State.{State, frame_at}
 use Rattle.model.specs.Questions.{questions}
 use Rattle.model.specs.Writeback.{looking, record_in}
-use Rattle.model.specs.Laws.Own.{first_no_holds}
+use Rattle.model.specs.Laws.Own.{own, first_no_holds}
 use Rattle.model.specs.Laws.Nulled.{claim_nulls, nulled_by}
-use Rattle.writeback.specs.Claim.{LooksEnded}
+use Rattle.writeback.specs.declared.claim.ClaimDone.{ClaimDone}
+use Rattle.writeback.specs.Claim.{LooksEnded, used_left}
 use Rattle.writeback.specs.Needs.{Queues, Claimable}
 use Rattle.writeback.specs.Seen.{claim, seen_claim}
-use Rattle.writeback.proofs.ClaimWork.{says, taken_is, same_modified, held, record_is, begins}
+use Rattle.writeback.proofs.ClaimWork.{Said, says, taken_is, same_modified, held, record_is, begins}
+
+-- what the contract says, of what is handed back and of the tables left
+abbrev pub Told : Sizes → State → List Frame → ClaimDone → List ℕ → List ℕ → List ℕ → List ℕ → Type 0
+Told z st fs done fq rl ss us =
+    let o = own z st claim in
+    record {
+      nulled : done.nulled ≡ nulled_by z st claim;
+      answer : done.answer ≡ o.answer;
+      frames : fs ≡ o.left.memory.core.frames;
+      free_queue : fq ≡ o.left.memory.core.free_queue;
+      removal_list : rl ≡ o.left.memory.core.removal_list;
+      states : ss ≡ o.left.memory.held.states;
+      used : us ≡ used_left z st;
+    }
+
+pub told : (z : Sizes) (st : State) {fs : List Frame} {n : ℕ} {a : Answer} {fq rl ss us : List ℕ} → n ≡ nulled_by z st claim → Said z st fs a fq rl ss us
+    → {done : ClaimDone} → done ≡ record { nulled = n; answer = a } → Told z st fs done fq rl ss us
+told z st e s d = record {
+  nulled = ap (λ (x : ClaimDone). x.nulled) d ∙ e;
+  answer = ap (λ (x : ClaimDone). x.answer) d ∙ s.answer;
+  frames = s.frames;
+  free_queue = s.free_queue;
+  removal_list = s.removal_list;
+  states = s.states;
+  used = s.used;
+}
 
 module _ (z : Sizes) (fs : List Frame) (ac ls ps ws fq rl ads ss us : List ℕ) where
   abbrev st : State

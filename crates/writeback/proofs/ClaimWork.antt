@@ -40,8 +40,14 @@ use Rattle.tables.specs.StoreLoops.{part_fits}
 abbrev pub Said : Sizes → State → List Frame → Answer → List ℕ → List ℕ → List ℕ → List ℕ → Type 0
 Said z st fs a fq rl ss us =
     let o = own z st claim in
-    (a ≡ o.answer) × ((fs ≡ o.left.memory.core.frames) × ((fq ≡ o.left.memory.core.free_queue)
-    × ((rl ≡ o.left.memory.core.removal_list) × ((ss ≡ o.left.memory.held.states) × (us ≡ used_left z st)))))
+    record {
+      answer : a ≡ o.answer;
+      frames : fs ≡ o.left.memory.core.frames;
+      free_queue : fq ≡ o.left.memory.core.free_queue;
+      removal_list : rl ≡ o.left.memory.core.removal_list;
+      states : ss ≡ o.left.memory.held.states;
+      used : us ≡ used_left z st;
+    }
 
 -- the frame that the looks end at, as the calls after them ask it
 pub record Taken (z : Sizes) (g : Frame) (ac ls ps ws fq ads ss us : List ℕ) (f : ℕ) : Type 0 where
@@ -59,22 +65,14 @@ module _ (z : Sizes) (fs : List Frame) (ac ls ps ws fq rl ads ss us : List ℕ) 
   Left n fs' fq' rl' ss' us' = Said z st (take z.frames fs') (record { refusal = 0; result = n }) fq' rl' ss' us'
 
   pub refused : {e : ℕ} → e ≡ at rl 0 → e ≡ 0 → Said z st (take z.frames fs) (record { refusal = 21; result = 0 }) fq rl ss us
-  refused a b = (
-    sym (ap (λ (o : Outcome State). o.answer) no),
-    (
-      sym (ap (λ (o : Outcome State). o.left.memory.core.frames) no),
-      (
-        sym (ap (λ (o : Outcome State). o.left.memory.core.free_queue) no),
-        (
-          sym (ap (λ (o : Outcome State). o.left.memory.core.removal_list) no),
-          (
-            sym (ap (λ (o : Outcome State). o.left.memory.held.states) no),
-            sym (ap (λ (n : ℕ). (outcome n 0 us (used_then z st)).left) says),
-          ),
-        ),
-      ),
-    ),
-  )
+  refused a b = record {
+    answer = sym (ap (λ (o : Outcome State). o.answer) no);
+    frames = sym (ap (λ (o : Outcome State). o.left.memory.core.frames) no);
+    free_queue = sym (ap (λ (o : Outcome State). o.left.memory.core.free_queue) no);
+    removal_list = sym (ap (λ (o : Outcome State). o.left.memory.core.removal_list) no);
+    states = sym (ap (λ (o : Outcome State). o.left.memory.held.states) no);
+    used = sym (ap (λ (n : ℕ). (outcome n 0 us (used_then z st)).left) says);
+  }
     where
       says : first_no (questions z st claim) ≡ 21
       says = first_no_holds 21 _ _ (λ h. omega (arith, size_zero rl (sym a ∙ b)))
@@ -163,22 +161,14 @@ module _ (z : Sizes) (fs : List Frame) (ac ls ps ws fq rl ads ss us : List ℕ) 
 
         pub write_begins : b ≡ true → {rl' : List ℕ} {h : Frame} {fs' : List Frame} → rl' ≡ pop list → h ≡ set_transfer WRITING g → fs' ≡ set kept f h → Left looks fs' fq rl' ss us
         unfolding carried Writeback.claim counted used_then
-        write_begins v p q y = (
-          the_answer way,
-          (
-            ap (take z.frames) y ∙ take_frame z.frames kept f _ ∙ ap (set (take z.frames kept) f) (q ∙ ap (set_transfer WRITING) (seen ∙ sym (frame_take z.frames kept f below))) ∙ rw (← frames_are, ← taken_is) (sym (ap (λ (o : Outcome State). o.left.memory.core.frames) way)),
-            (
-              sym (ap (λ (o : Outcome State). o.left.memory.core.free_queue) way),
-              (
-                p ∙ list_is ∙ sym (ap (λ (o : Outcome State). o.left.memory.core.removal_list) way),
-                (
-                  sym (ap (λ (o : Outcome State). o.left.memory.held.states) way),
-                  used_by_holds (rw (begins ∙ v)),
-                ),
-              ),
-            ),
-          ),
-        )
+        write_begins v p q y = record {
+          answer = the_answer way;
+          frames = ap (take z.frames) y ∙ take_frame z.frames kept f _ ∙ ap (set (take z.frames kept) f) (q ∙ ap (set_transfer WRITING) (seen ∙ sym (frame_take z.frames kept f below))) ∙ rw (← frames_are, ← taken_is) (sym (ap (λ (o : Outcome State). o.left.memory.core.frames) way));
+          free_queue = sym (ap (λ (o : Outcome State). o.left.memory.core.free_queue) way);
+          removal_list = p ∙ list_is ∙ sym (ap (λ (o : Outcome State). o.left.memory.core.removal_list) way);
+          states = sym (ap (λ (o : Outcome State). o.left.memory.held.states) way);
+          used = used_by_holds (rw (begins ∙ v));
+        }
           where
             way : own z st claim ≡ completed (looking z st).looks (counted z (on_core (λ c. on_frame (looking z st).taken (set_transfer WRITING) c) (looked z st)))
             way = by_way (on_core (λ c. on_frame (looking z st).taken (set_transfer WRITING) c) (looked z st)) (rw (begins ∙ v))
@@ -224,41 +214,25 @@ module _ (z : Sizes) (fs : List Frame) (ac ls ps ws fq rl ads ss us : List ℕ) 
               (u : us' ≡ if (eqb g.modified 1) less us) (n : h ≡ no_frame) (y : fs' ≡ set kept f h) where
             free_nulled : g.modified ≡ 1 → ss' ≡ set ss r NULLED → Left looks fs' fq' rl' ss' us'
             unfolding counted free_frame
-            free_nulled m s = (
-              the_answer (way_nulled m),
-              (
-                freed_frames n y ∙ sym (ap (λ (o : Outcome State). o.left.memory.core.frames) (way_nulled m)),
-                (
-                  q ∙ ap (push_back fq) (sym taken_is) ∙ sym (ap (λ (o : Outcome State). o.left.memory.core.free_queue) (way_nulled m)),
-                  (
-                    p ∙ list_is ∙ sym (ap (λ (o : Outcome State). o.left.memory.core.removal_list) (way_nulled m)),
-                    (
-                      s ∙ ap (λ (i : ℕ). set ss i NULLED) (sym (record_is found)) ∙ sym (ap (λ (o : Outcome State). o.left.memory.held.states) (way_nulled m)),
-                      used_by_holds (u ∙ rw (eq-eqb _ _ m) (used_nulled m)),
-                    ),
-                  ),
-                ),
-              ),
-            )
+            free_nulled m s = record {
+              answer = the_answer (way_nulled m);
+              frames = freed_frames n y ∙ sym (ap (λ (o : Outcome State). o.left.memory.core.frames) (way_nulled m));
+              free_queue = q ∙ ap (push_back fq) (sym taken_is) ∙ sym (ap (λ (o : Outcome State). o.left.memory.core.free_queue) (way_nulled m));
+              removal_list = p ∙ list_is ∙ sym (ap (λ (o : Outcome State). o.left.memory.core.removal_list) (way_nulled m));
+              states = s ∙ ap (λ (i : ℕ). set ss i NULLED) (sym (record_is found)) ∙ sym (ap (λ (o : Outcome State). o.left.memory.held.states) (way_nulled m));
+              used = used_by_holds (u ∙ rw (eq-eqb _ _ m) (used_nulled m));
+            }
 
             free_kept : ¬ (g.modified ≡ 1) → ss' ≡ ss → Left looks fs' fq' rl' ss' us'
             unfolding counted free_frame
-            free_kept m s = (
-              the_answer (way_kept m),
-              (
-                freed_frames n y ∙ sym (ap (λ (o : Outcome State). o.left.memory.core.frames) (way_kept m)),
-                (
-                  q ∙ ap (push_back fq) (sym taken_is) ∙ sym (ap (λ (o : Outcome State). o.left.memory.core.free_queue) (way_kept m)),
-                  (
-                    p ∙ list_is ∙ sym (ap (λ (o : Outcome State). o.left.memory.core.removal_list) (way_kept m)),
-                    (
-                      s ∙ sym (ap (λ (o : Outcome State). o.left.memory.held.states) (way_kept m)),
-                      used_by_holds (u ∙ rw (ne_eqb _ _ m) (used_kept m)),
-                    ),
-                  ),
-                ),
-              ),
-            )
+            free_kept m s = record {
+              answer = the_answer (way_kept m);
+              frames = freed_frames n y ∙ sym (ap (λ (o : Outcome State). o.left.memory.core.frames) (way_kept m));
+              free_queue = q ∙ ap (push_back fq) (sym taken_is) ∙ sym (ap (λ (o : Outcome State). o.left.memory.core.free_queue) (way_kept m));
+              removal_list = p ∙ list_is ∙ sym (ap (λ (o : Outcome State). o.left.memory.core.removal_list) (way_kept m));
+              states = s ∙ sym (ap (λ (o : Outcome State). o.left.memory.held.states) (way_kept m));
+              used = used_by_holds (u ∙ rw (ne_eqb _ _ m) (used_kept m));
+            }
 
             pub freed : ss' ≡ if (eqb g.modified 1) (set ss r NULLED) ss → Left looks fs' fq' rl' ss' us'
             freed s = elim (ℕ_discrete g.modified 1) [

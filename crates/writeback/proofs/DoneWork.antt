@@ -39,8 +39,15 @@ unwritten g = set_transfer NONE (set_modified 1 (set_initial 0 g))
 -- what the contract says of the answer, the frames, the records, the words, both queues and the states
 abbrev pub Said : Outcome State → List Frame → Answer → List ℕ → List ℕ → List ℕ → List ℕ → List ℕ → Type 0
 Said o fs a rs ws fq rl ss =
-    (a ≡ o.answer) × ((fs ≡ o.left.memory.core.frames) × ((rs ≡ o.left.disk.records) × ((ws ≡ o.left.memory.core.words)
-    × ((fq ≡ o.left.memory.core.free_queue) × ((rl ≡ o.left.memory.core.removal_list) × (ss ≡ o.left.memory.held.states))))))
+    record {
+      answer : a ≡ o.answer;
+      frames : fs ≡ o.left.memory.core.frames;
+      records : rs ≡ o.left.disk.records;
+      words : ws ≡ o.left.memory.core.words;
+      free_queue : fq ≡ o.left.memory.core.free_queue;
+      removal_list : rl ≡ o.left.memory.core.removal_list;
+      states : ss ≡ o.left.memory.held.states;
+    }
 
 -- what the answers tell of the frame, as the calls after them ask it
 pub record Passed (z : Sizes) (fs : List Frame) (rs ws fq rl ads ss : List ℕ) (f : ℕ) : Type 0 where
@@ -70,7 +77,7 @@ module _ (z : Sizes) (fs : List Frame) (rs ws fq rl ads ss : List ℕ) (f good :
 
   module _ {n : ℕ} (e : n ≡ first_no (questions z st (page_done f good))) where
     pub refused : ¬ (n ≡ 0) → Left (answer n) fs rs ws fq rl ss
-    refused d = left_by_holds (answer n) fs (sym (own_no z st (page_done f good) _ e d)) (refl, (refl, (refl, (refl, (refl, (refl, refl))))))
+    refused d = left_by_holds (answer n) fs (sym (own_no z st (page_done f good) _ e d)) (record { answer = refl; frames = refl; records = refl; words = refl; free_queue = refl; removal_list = refl; states = refl })
 
     module _ (yes : n ≡ 0) where
       asked : Asked (questions z st (page_done f good))
@@ -124,17 +131,27 @@ module _ (z : Sizes) (fs : List Frame) (rs ws fq rl ads ss : List ℕ) (f good :
         pub read_good_holds : good ≡ 1 → {r : ℕ} {ws' rl' : List ℕ} {gs : List Frame} → r ≡ pred (at ads (pred old.page))
             → ws' ≡ store ws (λ k. same (k / z.words) f) (λ k. at rs (r * z.words + k % z.words)) → rl' ≡ push_front rl f → gs ≡ set fs f (fresh (pred old.page)) → Left (answer n) gs rs ws' fq rl' ss
         unfolding carried Writeback.page_done Writeback.read_good counted
-        read_good_holds g {gs = gs} found a b y = left_by_holds (answer n) gs (by_way (Writeback.read_good z st f) (rw (eq-eqb _ _ t, eq-eqb _ _ g))) (
-          ap answer yes,
-          (stored (fresh (pred old.page)) (fresh (pred (frame_at (take z.frames fs) f).page)) (ap (λ (v : Frame). fresh (pred v.page)) (sym same_frame)) y, (refl, (a ∙ rw (found, same_frame), (refl, (b, refl))))),
-        )
+        read_good_holds g {gs = gs} found a b y = left_by_holds (answer n) gs (by_way (Writeback.read_good z st f) (rw (eq-eqb _ _ t, eq-eqb _ _ g))) (record {
+          answer = ap answer yes;
+          frames = stored (fresh (pred old.page)) (fresh (pred (frame_at (take z.frames fs) f).page)) (ap (λ (v : Frame). fresh (pred v.page)) (sym same_frame)) y;
+          records = refl;
+          words = a ∙ rw (found, same_frame);
+          free_queue = refl;
+          removal_list = b;
+          states = refl;
+        })
 
         pub read_failed_holds : ¬ (good ≡ 1) → {fq' : List ℕ} {gs : List Frame} → fq' ≡ push_back fq f → gs ≡ set fs f no_frame → Left (answer n) gs rs ws fq' rl ss
         unfolding carried Writeback.page_done Writeback.read_failed Writeback.free_frame counted
-        read_failed_holds g {gs = gs} a y = left_by_holds (answer n) gs (by_way (Writeback.read_failed z st f) (rw (eq-eqb _ _ t, ne_eqb _ _ g))) (
-          ap answer yes,
-          (stored no_frame no_frame refl y, (refl, (refl, (a, (refl, refl))))),
-        )
+        read_failed_holds g {gs = gs} a y = left_by_holds (answer n) gs (by_way (Writeback.read_failed z st f) (rw (eq-eqb _ _ t, ne_eqb _ _ g))) (record {
+          answer = ap answer yes;
+          frames = stored no_frame no_frame refl y;
+          records = refl;
+          words = refl;
+          free_queue = a;
+          removal_list = refl;
+          states = refl;
+        })
 
       module _ (writes : ¬ (old.transfer ≡ READING)) where
         u : ¬ ((frame_at (take z.frames fs) f).transfer ≡ READING)
@@ -143,14 +160,24 @@ module _ (z : Sizes) (fs : List Frame) (rs ws fq rl ads ss : List ℕ) (f good :
         pub write_good_holds : good ≡ 1 → {r : ℕ} {rs' fq' ss' : List ℕ} {gs : List Frame} → r ≡ pred (at ads (pred old.page))
             → rs' ≡ store rs (λ k. same (k / z.words) r) (λ k. at ws (f * z.words + k % z.words)) → ss' ≡ set ss r LIVE → fq' ≡ push_back fq f → gs ≡ set fs f no_frame → Left (answer n) gs rs' ws fq' rl ss'
         unfolding carried Writeback.page_done Writeback.write_good Writeback.store_frame Writeback.free_frame counted
-        write_good_holds g {gs = gs} found a b d y = left_by_holds (answer n) gs (by_way (Writeback.write_good z st f) (rw (ne_eqb _ _ u, eq-eqb _ _ g))) (
-          ap answer yes,
-          (stored no_frame no_frame refl y, (a ∙ rw (found, same_frame), (refl, (d, (refl, b ∙ rw (found, same_frame)))))),
-        )
+        write_good_holds g {gs = gs} found a b d y = left_by_holds (answer n) gs (by_way (Writeback.write_good z st f) (rw (ne_eqb _ _ u, eq-eqb _ _ g))) (record {
+          answer = ap answer yes;
+          frames = stored no_frame no_frame refl y;
+          records = a ∙ rw (found, same_frame);
+          words = refl;
+          free_queue = d;
+          removal_list = refl;
+          states = b ∙ rw (found, same_frame);
+        })
 
         pub write_failed_holds : ¬ (good ≡ 1) → {rl' : List ℕ} {gs : List Frame} → rl' ≡ push_back rl f → gs ≡ set fs f (unwritten old) → Left (answer n) gs rs ws fq rl' ss
         unfolding carried Writeback.page_done Writeback.write_failed counted
-        write_failed_holds g {gs = gs} a y = left_by_holds (answer n) gs (by_way (Writeback.write_failed z st f) (rw (ne_eqb _ _ u, ne_eqb _ _ g))) (
-          ap answer yes,
-          (stored (unwritten old) (unwritten (frame_at (take z.frames fs) f)) (ap unwritten (sym same_frame)) y, (refl, (refl, (refl, (a, refl))))),
-        )
+        write_failed_holds g {gs = gs} a y = left_by_holds (answer n) gs (by_way (Writeback.write_failed z st f) (rw (ne_eqb _ _ u, ne_eqb _ _ g))) (record {
+          answer = ap answer yes;
+          frames = stored (unwritten old) (unwritten (frame_at (take z.frames fs) f)) (ap unwritten (sym same_frame)) y;
+          records = refl;
+          words = refl;
+          free_queue = refl;
+          removal_list = a;
+          states = refl;
+        })

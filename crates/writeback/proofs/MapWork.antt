@@ -35,9 +35,17 @@ use Rattle.tables.specs.StoreLoops.{part_fits}
 -- what the contract says of the answer, any pool with so many free records, the maps, the states, the slots, the free map, the update switches and the images
 abbrev pub Said : (Pool → Outcome State) → ℕ → ℕ → Answer → List ℕ → List ℕ → List ℕ → List ℕ → List ℕ → List ℕ → Type 0
 Said o free n a ms ss os fm us is =
-    (a ≡ (o no_pool).answer) × (((pool : Pool) → pool.free ≡ free → deposited n pool ≡ (o pool).left.memory.held.pool)
-    × ((ms ≡ (o no_pool).left.disk.maps) × ((ss ≡ (o no_pool).left.memory.held.states) × ((os ≡ (o no_pool).left.memory.held.owners)
-    × ((fm ≡ (o no_pool).left.memory.held.free_map) × ((us ≡ (o no_pool).left.memory.slots.updating) × (is ≡ (o no_pool).left.memory.slots.images)))))))
+    let l = (o no_pool).left in
+    record {
+      answer : a ≡ (o no_pool).answer;
+      pool : (pool : Pool) → pool.free ≡ free → deposited n pool ≡ (o pool).left.memory.held.pool;
+      maps : ms ≡ l.disk.maps;
+      states : ss ≡ l.memory.held.states;
+      owners : os ≡ l.memory.held.owners;
+      free_map : fm ≡ l.memory.held.free_map;
+      updating : us ≡ l.memory.slots.updating;
+      images : is ≡ l.memory.slots.images;
+    }
 
 abbrev pub handed : ℕ → ℕ → Handed.Freed
 handed count n = record { deposited = count; answer = record { refusal = n; result = 0 } }
@@ -66,7 +74,7 @@ module _ (z : Sizes) (ns ms ss os fm ac us is : List ℕ) (s good : ℕ) where
     pub refused : ¬ (n ≡ 0) → {x : Handed.Freed} → x ≡ handed 0 n → Left x ms ss os fm us is
     unfolding deposited
     refused d {x} y = left_by_holds x (λ p. sym (own_no z (st p) (map_done s good) _ e d))
-        (ap (λ (a : Handed.Freed). a.answer) y, (λ p c. ap (λ (a : Handed.Freed). deposited a.deposited p) y, (refl, (refl, (refl, (refl, (refl, refl)))))))
+        (record { answer = ap (λ (a : Handed.Freed). a.answer) y; pool = λ p c. ap (λ (a : Handed.Freed). deposited a.deposited p) y; maps = refl; states = refl; owners = refl; free_map = refl; updating = refl; images = refl })
 
     module _ (yes : n ≡ 0) where
       asked : Asked (questions z (st no_pool) (map_done s good))
@@ -85,25 +93,31 @@ module _ (z : Sizes) (ns ms ss os fm ac us is : List ℕ) (s good : ℕ) where
         pub good_left : good ≡ 1 → {ms' ss' os' fm' us' is' : List ℕ} {k : ℕ} {x : Handed.Freed} → us' ≡ set us s 0 → ms' ≡ store ms (λ i. same (i / z.pages) s) (at is)
             → is' ≡ store is (λ i. same (i / z.pages) s) (λ i. 0) → Freed z s ss os ss' os' fm' (free_count z (at ss) + k) → x ≡ handed k 0 → Left x ms' ss' os' fm' us' is'
         unfolding carried result Writeback.map_done Writeback.store_image Writeback.update_over counted
-        good_left g {ss' = ss'} {k = k} {x = x} a b d w y = left_by_holds x (λ p. sym (own_yes z (st p) (map_done s good) _ e yes) ∙ ap (completed 0) (ap (λ (m : ℕ). carried z (st p) (map_done s m)) g)) (
-          ap (λ (v : Handed.Freed). v.answer) y,
-          (
-            λ p c. ap (λ (v : Handed.Freed). deposited v.deposited p) y ∙ deposited_counts k p (omega (arith, c, w.the_count, free_most z (at ss'), ready.records_most))
-                ∙ ap (λ (m : ℕ). record { hand = p.hand; free = m }) (ap (λ (m : ℕ). m + k) c ∙ w.the_count ∙ ap (λ (l : List ℕ). free_count z (at l)) w.the_states),
-            (b, (w.the_states, (w.the_owners, (w.the_map ∙ ap (λ (l : List ℕ). free_map_table z (at l)) w.the_states, (a, d))))),
-          ),
-        )
+        good_left g {ss' = ss'} {k = k} {x = x} a b d w y = left_by_holds x (λ p. sym (own_yes z (st p) (map_done s good) _ e yes) ∙ ap (completed 0) (ap (λ (m : ℕ). carried z (st p) (map_done s m)) g)) (record {
+          answer = ap (λ (v : Handed.Freed). v.answer) y;
+          pool = λ p c. ap (λ (v : Handed.Freed). deposited v.deposited p) y ∙ deposited_counts k p (omega (arith, c, w.the_count, free_most z (at ss'), ready.records_most))
+              ∙ ap (λ (m : ℕ). record { hand = p.hand; free = m }) (ap (λ (m : ℕ). m + k) c ∙ w.the_count ∙ ap (λ (l : List ℕ). free_count z (at l)) w.the_states);
+          maps = b;
+          states = w.the_states;
+          owners = w.the_owners;
+          free_map = w.the_map ∙ ap (λ (l : List ℕ). free_map_table z (at l)) w.the_states;
+          updating = a;
+          images = d;
+        })
 
         pub failed_left : ¬ (good ≡ 1) → {ss' us' is' : List ℕ} {x : Handed.Freed} → us' ≡ set us s 0
             → is' ≡ store is (λ i. same (i / z.pages) s) (λ i. 0) → ss' ≡ store ss (leaver_of ss os s) (λ r. RELEASED) → x ≡ handed 0 0 → Left x ms ss' os fm us' is'
         unfolding carried result Writeback.map_done Writeback.update_over counted deposited
-        failed_left g {x = x} a d w y = left_by_holds x (λ p. sym (own_yes z (st p) (map_done s good) _ e yes)) (rw (ne_eqb good 1 g) (
-          ap (λ (v : Handed.Freed). v.answer) y,
-          (
-            λ p c. ap (λ (v : Handed.Freed). deposited v.deposited p) y ∙ ap (λ (m : ℕ). record { hand = p.hand; free = m }) (c ∙ free_same z (at ss) (at (store ss (leaver_of ss os s) (λ r. RELEASED))) taken),
-            (refl, (w, (refl, (ready.told ∙ free_map_same z (at ss) (at (store ss (leaver_of ss os s) (λ r. RELEASED))) taken, (a, d))))),
-          ),
-        ))
+        failed_left g {x = x} a d w y = left_by_holds x (λ p. sym (own_yes z (st p) (map_done s good) _ e yes)) (rw (ne_eqb good 1 g) (record {
+          answer = ap (λ (v : Handed.Freed). v.answer) y;
+          pool = λ p c. ap (λ (v : Handed.Freed). deposited v.deposited p) y ∙ ap (λ (m : ℕ). record { hand = p.hand; free = m }) (c ∙ free_same z (at ss) (at (store ss (leaver_of ss os s) (λ r. RELEASED))) taken);
+          maps = refl;
+          states = w;
+          owners = refl;
+          free_map = ready.told ∙ free_map_same z (at ss) (at (store ss (leaver_of ss os s) (λ r. RELEASED))) taken;
+          updating = a;
+          images = d;
+        }))
           where
             taken : (r : ℕ) → r < z.records → eqb (at ss r) FREE ≡ eqb (at (store ss (leaver_of ss os s) (λ k. RELEASED)) r) FREE
             taken r h = still_taken ss os s r (rw ready.states_long h)

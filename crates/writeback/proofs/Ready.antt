@@ -4,7 +4,6 @@ use mathlib.Core.Logic.{◌⊎◌}
 use Prim.Native.Nat.{ℕ, suc, ◌+◌, ◌<◌, pred}
 use native.Mathlib.Omega.{arith}
 use borrow.Author.Tests.{ne_eqb}
-use Rattle.tables.specs.Base.{at}
 use lib.ListN.{length}
 use Rattle.tables.specs.Queue.{size}
 use Rattle.tables.specs.QueueLaws.{room}

@@ -83,8 +83,15 @@ module _ (n : ℕ) (fs : List Frame) where
 abbrev pub Said : Sizes → State → ℕ → ℕ → List Frame → Answer → List ℕ → List ℕ → List ℕ → List ℕ → List ℕ → Type 0
 Said z st s k fs a fq rl ds ss us =
     let o = own z st (truncate s k) in
-    (a ≡ o.answer) × ((fs ≡ o.left.memory.core.frames) × ((fq ≡ o.left.memory.core.free_queue) × ((rl ≡ o.left.memory.core.removal_list)
-    × ((ds ≡ o.left.memory.held.addresses) × ((ss ≡ o.left.memory.held.states) × (us ≡ used_left z st s k))))))
+    record {
+      answer : a ≡ o.answer;
+      frames : fs ≡ o.left.memory.core.frames;
+      free_queue : fq ≡ o.left.memory.core.free_queue;
+      removal_list : rl ≡ o.left.memory.core.removal_list;
+      addresses : ds ≡ o.left.memory.held.addresses;
+      states : ss ≡ o.left.memory.held.states;
+      used : us ≡ used_left z st s k;
+    }
 
 -- what the answers tell, as the passes ask it
 pub record Passed (z : Sizes) (fs : List Frame) (ac ls ps fq rl ds ss us : List ℕ) (s k : ℕ) : Type 0 where
@@ -106,25 +113,15 @@ module _ (z : Sizes) (fs : List Frame) (ns ac ls ps fq rl ds ss act us : List �
 
   module _ {n : ℕ} (e : n ≡ first_no (questions z st (truncate s k))) where
     pub refused : ¬ (n ≡ 0) → Left n fs fq rl ds ss us
-    refused d = (
-      sym (ap (λ (o : Outcome State). o.answer) no),
-      (
-        sym (ap (λ (o : Outcome State). o.left.memory.core.frames) no),
-        (
-          sym (ap (λ (o : Outcome State). o.left.memory.core.free_queue) no),
-          (
-            sym (ap (λ (o : Outcome State). o.left.memory.core.removal_list) no),
-            (
-              sym (ap (λ (o : Outcome State). o.left.memory.held.addresses) no),
-              (
-                sym (ap (λ (o : Outcome State). o.left.memory.held.states) no),
-                stays n d ∙ ap (λ (m : ℕ). (outcome m 0 us (used_then z st s k)).left) e,
-              ),
-            ),
-          ),
-        ),
-      ),
-    )
+    refused d = record {
+      answer = sym (ap (λ (o : Outcome State). o.answer) no);
+      frames = sym (ap (λ (o : Outcome State). o.left.memory.core.frames) no);
+      free_queue = sym (ap (λ (o : Outcome State). o.left.memory.core.free_queue) no);
+      removal_list = sym (ap (λ (o : Outcome State). o.left.memory.core.removal_list) no);
+      addresses = sym (ap (λ (o : Outcome State). o.left.memory.held.addresses) no);
+      states = sym (ap (λ (o : Outcome State). o.left.memory.held.states) no);
+      used = stays n d ∙ ap (λ (m : ℕ). (outcome m 0 us (used_then z st s k)).left) e;
+    }
       where
         no : out ≡ record { answer = answer n; left = st }
         no = sym (own_no z st (truncate s k) _ e d)
@@ -226,25 +223,15 @@ module _ (z : Sizes) (fs : List Frame) (ns ac ls ps fq rl ds ss act us : List �
           → ss' ≡ store ss (λ r. some (all_pages z) λ i. from_page z s k i and same (at ds i) (suc r)) (λ r. RELEASED) → ds' ≡ store ds (from_page z s k) (λ i. 0)
           → ClearedLeft z.frames z.pages s k fs gs → Left n gs fq' rl' ds' ss' us'
       unfolding carried result Writeback.truncate counted
-      cut_off_holds gs q u a b c d g = (
-        ap answer yes ∙ sym (ap (λ (o : Outcome State). o.answer) way),
-        (
-          frames_are gs g.0 g.1 ∙ sym (ap (λ (o : Outcome State). o.left.memory.core.frames) way),
-          (
-            a ∙ ap (λ (xs : List ℕ). packed (length fq) (members fq ++ xs)) queue_is ∙ sym (ap (λ (o : Outcome State). o.left.memory.core.free_queue) way),
-            (
-              b ∙ ap (packed (length rl)) list_is ∙ sym (ap (λ (o : Outcome State). o.left.memory.core.removal_list) way),
-              (
-                d ∙ sym (ap (λ (o : Outcome State). o.left.memory.held.addresses) way),
-                (
-                  c ∙ sym (ap (λ (o : Outcome State). o.left.memory.held.states) way),
-                  u ∙ used_is q ∙ sym (ap (λ (m : ℕ). (outcome m 0 us (used_then z st s k)).left) (sym e ∙ yes)),
-                ),
-              ),
-            ),
-          ),
-        ),
-      )
+      cut_off_holds gs q u a b c d g = record {
+        answer = ap answer yes ∙ sym (ap (λ (o : Outcome State). o.answer) way);
+        frames = frames_are gs g.0 g.1 ∙ sym (ap (λ (o : Outcome State). o.left.memory.core.frames) way);
+        free_queue = a ∙ ap (λ (xs : List ℕ). packed (length fq) (members fq ++ xs)) queue_is ∙ sym (ap (λ (o : Outcome State). o.left.memory.core.free_queue) way);
+        removal_list = b ∙ ap (packed (length rl)) list_is ∙ sym (ap (λ (o : Outcome State). o.left.memory.core.removal_list) way);
+        addresses = d ∙ sym (ap (λ (o : Outcome State). o.left.memory.held.addresses) way);
+        states = c ∙ sym (ap (λ (o : Outcome State). o.left.memory.held.states) way);
+        used = u ∙ used_is q ∙ sym (ap (λ (m : ℕ). (outcome m 0 us (used_then z st s k)).left) (sym e ∙ yes));
+      }
         where
           way : out ≡ completed 0 (carried z st (truncate s k))
           way = sym (own_yes z st (truncate s k) _ e yes)

@@ -33,7 +33,13 @@ use Rattle.writeback.proofs.Named.{fits}
 -- what the contract says of the answer, the addresses, the states, the update switches and the images
 abbrev pub Said : Outcome State → Answer → List ℕ → List ℕ → List ℕ → List ℕ → Type 0
 Said o a ds ss us is =
-    (a ≡ o.answer) × ((ds ≡ o.left.memory.held.addresses) × ((ss ≡ o.left.memory.held.states) × ((us ≡ o.left.memory.slots.updating) × (is ≡ o.left.memory.slots.images))))
+    record {
+      answer : a ≡ o.answer;
+      addresses : ds ≡ o.left.memory.held.addresses;
+      states : ss ≡ o.left.memory.held.states;
+      updating : us ≡ o.left.memory.slots.updating;
+      images : is ≡ o.left.memory.slots.images;
+    }
 
 abbrev pub answer : ℕ → Answer
 answer n = record { refusal = n; result = 0 }
@@ -67,7 +73,7 @@ module _ (z : Sizes) (fs : List Frame) (ns ds ss os ac us is : List ℕ) (s : �
 
   module _ {n : ℕ} (e : n ≡ first_no (questions z st (update s))) where
     pub refused : ¬ (n ≡ 0) → Left n ds ss us is
-    refused d = left_by_holds (sym (own_no z st (update s) _ e d)) (refl, (refl, (refl, (refl, refl))))
+    refused d = left_by_holds (sym (own_no z st (update s) _ e d)) (record { answer = refl; addresses = refl; states = refl; updating = refl; images = refl })
 
     module _ (yes : n ≡ 0) (ready : Sized z × Addressed z ds ss × (length os ≡ length ss) × (length is ≡ all_pages z)) where
       inside : s < z.slots
@@ -97,13 +103,10 @@ module _ (z : Sizes) (fs : List Frame) (ns ds ss os ac us is : List ℕ) (s : �
       pub updated : {ds' ss₁ ss' us' is' : List ℕ} → us' ≡ set us s 1 → is' ≡ store is (λ i. same (i / z.pages) s) (live_address ds ss) → ds' ≡ store ds (leaving_page z fs ds ss s) (λ i. 0)
           → ss₁ ≡ marked → ss' ≡ store ss₁ (λ r. same (at ss₁ r) RELEASED and same (at os r) s) (λ r. LEAVING) → Left 0 ds' ss' us' is'
       unfolding carried result Writeback.update would_store counted
-      updated a b c d f = left_by_holds (sym (own_yes z st (update s) _ e yes)) (
-        refl,
-        (
-          c ∙ store_same ds (leaving_page z fs ds ss s) (Writeback.leaving_page z st s) (λ i. 0) (λ i. 0) (λ i h k. to_model i k) (λ i h k. from_model i k) (λ i h k. refl),
-          (
-            f ∙ ap (λ (l : List ℕ). store l (λ r. same (at l r) RELEASED and same (at os r) s) (λ r. LEAVING)) d ∙ store_or ss paged released (Writeback.leaving_record z st s) (λ r. LEAVING) to from,
-            (a, b),
-          ),
-        ),
-      )
+      updated a b c d f = left_by_holds (sym (own_yes z st (update s) _ e yes)) (record {
+        answer = refl;
+        addresses = c ∙ store_same ds (leaving_page z fs ds ss s) (Writeback.leaving_page z st s) (λ i. 0) (λ i. 0) (λ i h k. to_model i k) (λ i h k. from_model i k) (λ i h k. refl);
+        states = f ∙ ap (λ (l : List ℕ). store l (λ r. same (at l r) RELEASED and same (at os r) s) (λ r. LEAVING)) d ∙ store_or ss paged released (Writeback.leaving_record z st s) (λ r. LEAVING) to from;
+        updating = a;
+        images = b;
+      })

@@ -10,7 +10,6 @@ use Rattle.model.specs.State.{State, files, frames, slot_of, payer}
 use Rattle.model.specs.Questions.{questions}
 use Rattle.model.specs.Writeback.{look, looking, begins_write}
 use Rattle.model.specs.Step.{outcome}
-use Rattle.model.specs.Lent.{Ref, Table}
 use Rattle.leaves.specs.Packed.{unpacked}
 use Rattle.writeback.specs.Seen.{claim}
 
@@ -38,9 +37,9 @@ pub record LooksEnded (fs : List Frame) (list : List ℕ) (kept : List Frame) (l
   pub ruled : Holds (queue (length list') list')
   pub taken_some : 0 < size list'
 
--- .. what they are given and leave, by bare names
-abbrev pub LooksGiven : Ref → Type 0
-LooksGiven list = Holds (queue (length list.now) list.now) × (0 < size list.now) × (length list.now < 65)
+-- .. what they are given and leave
+abbrev pub LooksGiven : List ℕ → Type 0
+LooksGiven list = Holds (queue (length list) list) × (0 < size list) × (length list < 65)
 
-abbrev pub LooksLeft : Table → Table → ℕ → Type 0
-LooksLeft frames list looks = LooksEnded (unpacked frames.entry.now) list.entry.now (unpacked frames.exit.now) looks list.exit.now
+abbrev pub LooksLeft : (frames list frames' list' : List ℕ) → ℕ → Type 0
+LooksLeft frames list frames' list' looks = LooksEnded (unpacked frames) list (unpacked frames') looks list'

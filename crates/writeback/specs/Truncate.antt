@@ -13,7 +13,6 @@ use Rattle.model.specs.Parts.{from_page}
 use Rattle.model.specs.Rules.{once}
 use Rattle.model.specs.Questions.{questions}
 use Rattle.model.specs.Step.{outcome}
-use Rattle.model.specs.Lent.{Ref, Table}
 use Rattle.leaves.specs.FrameLaws.{frame_in, is_still, is_unwired}
 use Rattle.writeback.specs.Pages.{framed}
 use Rattle.writeback.specs.Needs.{Queues, Placed}
@@ -58,15 +57,15 @@ pub record Cutting (n pages s k : ℕ) (fs : List Frame) (free list : List ℕ) 
   pub queues : Queues n free list
   pub placed : Placed n fs free list
 
--- .. by bare names
-abbrev pub FramesGiven : ℕ → ℕ → ℕ → ℕ → List Frame → Ref → Ref → Type 0
-FramesGiven n pages s k fs free_queue removal_list = Cutting n pages s k fs free_queue.now removal_list.now
+-- .. as the pass is given them
+abbrev pub FramesGiven : ℕ → ℕ → ℕ → ℕ → List Frame → List ℕ → List ℕ → Type 0
+FramesGiven = Cutting
 
 -- .. and what the pass leaves: the frames join the free queue's end, in page order, and leave the removal list
-abbrev pub FramesLeft : ℕ → ℕ → ℕ → ℕ → List Frame → Table → Table → Type 0
-FramesLeft n pages s k fs free_queue removal_list =
-    (free_queue.exit.now ≡ packed (length free_queue.entry.now) (members free_queue.entry.now ++ cut_frames n pages s k fs pages))
-    × (removal_list.exit.now ≡ packed (length removal_list.entry.now) (without (λ f. test (cut_frame pages s k pages (frame_at fs f))) (members removal_list.entry.now)))
+abbrev pub FramesLeft : ℕ → ℕ → ℕ → ℕ → List Frame → (free list free' list' : List ℕ) → Type 0
+FramesLeft n pages s k fs free list free' list' =
+    (free' ≡ packed (length free) (members free ++ cut_frames n pages s k fs pages))
+    × (list' ≡ packed (length list) (without (λ f. test (cut_frame pages s k pages (frame_at fs f))) (members list)))
 
 -- what the pass over the pages themselves is given: no two pages hold one record, and each record held may be released
 pub record Releasing (z : Sizes) (s k : ℕ) (states addresses : List ℕ) : Type 0 where

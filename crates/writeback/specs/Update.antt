@@ -8,7 +8,6 @@ use Rattle.model.specs.declared.frame.Frame.{Frame}
 use Rattle.model.specs.Lines.{NULLED, LEAVING}
 use Rattle.model.specs.Parts.{of_slot}
 use Rattle.model.specs.Rules.{once}
-use Rattle.model.specs.Lent.{Ref, Table}
 use Rattle.writeback.specs.Pages.{framed}
 
 -- the page's record is nulled, and the page is in no frame
@@ -28,13 +27,13 @@ pub record SlotPages (z : Sizes) (s : ℕ) (addresses states : List ℕ) : Type 
   pub inside : (i r : ℕ) → i < length addresses → at addresses i ≡ suc r → r < length states
   pub held_once_holds : Holds (once (length addresses) (at addresses))
 
--- .. by bare names
-abbrev pub PagesGiven : Sizes → ℕ → Ref → Ref → Type 0
-PagesGiven z s addresses states = SlotPages z s addresses.now states.now
+-- .. as the pass is given them
+abbrev pub PagesGiven : Sizes → ℕ → List ℕ → List ℕ → Type 0
+PagesGiven = SlotPages
 
 -- .. and what the pass leaves: these pages have no address, and their records leave
-abbrev pub PagesLeft : Sizes → ℕ → List Frame → Table → Table → Type 0
-PagesLeft z s fs addresses states =
-    let ads = addresses.entry.now in let gone = leaving_page z fs ads states.entry.now s in
-    (addresses.exit.now ≡ store ads gone (λ i. 0))
-    × (states.exit.now ≡ store states.entry.now (λ r. some (length ads) λ i. gone i and same (at ads i) (suc r)) (λ r. LEAVING))
+abbrev pub PagesLeft : Sizes → ℕ → List Frame → (ads states ads' states' : List ℕ) → Type 0
+PagesLeft z s fs ads states ads' states' =
+    let gone = leaving_page z fs ads states s in
+    (ads' ≡ store ads gone (λ i. 0))
+    × (states' ≡ store states (λ r. some (length ads) λ i. gone i and same (at ads i) (suc r)) (λ r. LEAVING))

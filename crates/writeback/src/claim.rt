@@ -1,7 +1,7 @@
 // Claim: the removal list is looked through for a frame to free or to write.
 ghost use Rattle.std.specs.Prelude.{◌≡◌, false, not, ◌⊎◌, ◌+◌, ◌-◌, ◌*◌, ◌<◌, ◌≤◌, pred, eqb, length, set};
 ghost use Rattle.tables.specs.Base.{at, all, if};
-ghost use Rattle.leaves.specs.Packed.{frames_given, frames_entered, frames_left};
+ghost use Rattle.leaves.specs.Packed.{frames_in};
 ghost use Rattle.leaves.specs.Payers.{who_pays};
 ghost use Rattle.model.specs.Lines.{NULLED, LIVE};
 ghost use Rattle.model.specs.Writeback.{warm};
@@ -34,7 +34,7 @@ pub struct ClaimDone {
 
 // The three numbers, put together.
 fn claim_done(nulled: u32, refusal: u32, res: u32) -> ClaimDone
-    ensures* { λ r. ⌜ r ≡ record { nulled = nulled; answer = record { refusal = refusal; result = res } } ⌝ }
+    ensures { result ≡ record { nulled = nulled; answer = record { refusal = refusal; result = res } } }
 {
     ClaimDone {
         nulled,
@@ -57,8 +57,8 @@ fn is_warm(frame: Frame) -> bool
 
 // The first entry goes to the list's end, cooled, while it is warm; then it is the one to take.
 fn turn(frames: &mut [u64], list: &mut [u16]) -> u32
-    requires { LooksGiven list }
-    ensures { LooksLeft frames list result }
+    requires { LooksGiven list.old }
+    ensures { LooksLeft frames.old list.old frames.new list.new result }
 {
     let mut looks = 1;
     let mut f = first(list);
@@ -137,14 +137,14 @@ pub fn claim(
     used: &mut [u16],
 ) -> ClaimDone
     requires { Queues sizes.frames free_queue.old removal_list.old
-        × Claimable sizes (frames_given sizes frames) accounts.now limits.now parents.now words.now free_queue.old removal_list.old addresses.now states.old used.old }
-    ensures nulled { result.nulled ≡ nulled_by sizes (entered_claim (frames_entered sizes frames) accounts limits parents words free_queue removal_list addresses states used) claim }
-    ensures answer { result.answer ≡ (own sizes (entered_claim (frames_entered sizes frames) accounts limits parents words free_queue removal_list addresses states used) claim).answer }
-    ensures frames { frames_left sizes frames ≡ (own sizes (entered_claim (frames_entered sizes frames) accounts limits parents words free_queue removal_list addresses states used) claim).left.memory.core.frames }
-    ensures free_queue { free_queue.new ≡ (own sizes (entered_claim (frames_entered sizes frames) accounts limits parents words free_queue removal_list addresses states used) claim).left.memory.core.free_queue }
-    ensures removal_list { removal_list.new ≡ (own sizes (entered_claim (frames_entered sizes frames) accounts limits parents words free_queue removal_list addresses states used) claim).left.memory.core.removal_list }
-    ensures states { states.new ≡ (own sizes (entered_claim (frames_entered sizes frames) accounts limits parents words free_queue removal_list addresses states used) claim).left.memory.held.states }
-    ensures used { used.new ≡ used_left sizes (entered_claim (frames_entered sizes frames) accounts limits parents words free_queue removal_list addresses states used) }
+        × Claimable sizes (frames_in sizes frames.old) accounts.now limits.now parents.now words.now free_queue.old removal_list.old addresses.now states.old used.old }
+    ensures nulled { result.nulled ≡ nulled_by sizes (entered_claim (frames_in sizes frames.old) accounts.now limits.now parents.now words.now free_queue.old removal_list.old addresses.now states.old used.old) claim }
+    ensures answer { result.answer ≡ (own sizes (entered_claim (frames_in sizes frames.old) accounts.now limits.now parents.now words.now free_queue.old removal_list.old addresses.now states.old used.old) claim).answer }
+    ensures frames { frames_in sizes frames.new ≡ (own sizes (entered_claim (frames_in sizes frames.old) accounts.now limits.now parents.now words.now free_queue.old removal_list.old addresses.now states.old used.old) claim).left.memory.core.frames }
+    ensures free_queue { free_queue.new ≡ (own sizes (entered_claim (frames_in sizes frames.old) accounts.now limits.now parents.now words.now free_queue.old removal_list.old addresses.now states.old used.old) claim).left.memory.core.free_queue }
+    ensures removal_list { removal_list.new ≡ (own sizes (entered_claim (frames_in sizes frames.old) accounts.now limits.now parents.now words.now free_queue.old removal_list.old addresses.now states.old used.old) claim).left.memory.core.removal_list }
+    ensures states { states.new ≡ (own sizes (entered_claim (frames_in sizes frames.old) accounts.now limits.now parents.now words.now free_queue.old removal_list.old addresses.now states.old used.old) claim).left.memory.held.states }
+    ensures used { used.new ≡ used_left sizes (entered_claim (frames_in sizes frames.old) accounts.now limits.now parents.now words.now free_queue.old removal_list.old addresses.now states.old used.old) }
 {
     if at16(removal_list, 0) == 0 {
         return claim_done(0, NOTHING_TO_CLAIM, 0);

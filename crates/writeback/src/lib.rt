@@ -1,5 +1,6 @@
 // The events that free frames and records, or move pages and maps to the disk: one function for each.
 #![tactic(auto)]
+
 mod by_page; // the frames of one slot's pages, as a table
 mod charges; // what a slot's account pays
 pub mod claim; // the removal list is looked through for a frame to free or to write

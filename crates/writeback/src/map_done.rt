@@ -36,7 +36,7 @@ fn ask_map_done(
     active: &[u8],
     updating: &[u8],
 ) -> u32
-    ensures { result ≡ first_no (questions sizes (asked_map_done numbers active updating) (map_done slot good)) }
+    ensures { result ≡ first_no (questions sizes (asked_map_done numbers.now active.now updating.now) (map_done slot good)) }
 {
     if slot >= sizes.slots {
         return NO_RANGE;
@@ -70,15 +70,15 @@ pub fn map_done(
     images: &mut [u16],
 ) -> Freed
     requires { Mapped sizes maps.old states.old owners.old free_map.old images.old }
-    ensures answer { result.answer ≡ (own sizes (entered_map_done no_pool numbers maps states owners free_map active updating images) (map_done slot good)).answer }
+    ensures answer { result.answer ≡ (own sizes (entered_map_done no_pool numbers.now maps.old states.old owners.old free_map.old active.now updating.old images.old) (map_done slot good)).answer }
     ensures pool { (pool : Pool) → pool.free ≡ free_count sizes (at states.old)
-        → deposited result.deposited pool ≡ (own sizes (entered_map_done pool numbers maps states owners free_map active updating images) (map_done slot good)).left.memory.held.pool }
-    ensures maps { maps.new ≡ (own sizes (entered_map_done no_pool numbers maps states owners free_map active updating images) (map_done slot good)).left.disk.maps }
-    ensures states { states.new ≡ (own sizes (entered_map_done no_pool numbers maps states owners free_map active updating images) (map_done slot good)).left.memory.held.states }
-    ensures owners { owners.new ≡ (own sizes (entered_map_done no_pool numbers maps states owners free_map active updating images) (map_done slot good)).left.memory.held.owners }
-    ensures free_map { free_map.new ≡ (own sizes (entered_map_done no_pool numbers maps states owners free_map active updating images) (map_done slot good)).left.memory.held.free_map }
-    ensures updating { updating.new ≡ (own sizes (entered_map_done no_pool numbers maps states owners free_map active updating images) (map_done slot good)).left.memory.slots.updating }
-    ensures images { images.new ≡ (own sizes (entered_map_done no_pool numbers maps states owners free_map active updating images) (map_done slot good)).left.memory.slots.images }
+        → deposited result.deposited pool ≡ (own sizes (entered_map_done pool numbers.now maps.old states.old owners.old free_map.old active.now updating.old images.old) (map_done slot good)).left.memory.held.pool }
+    ensures maps { maps.new ≡ (own sizes (entered_map_done no_pool numbers.now maps.old states.old owners.old free_map.old active.now updating.old images.old) (map_done slot good)).left.disk.maps }
+    ensures states { states.new ≡ (own sizes (entered_map_done no_pool numbers.now maps.old states.old owners.old free_map.old active.now updating.old images.old) (map_done slot good)).left.memory.held.states }
+    ensures owners { owners.new ≡ (own sizes (entered_map_done no_pool numbers.now maps.old states.old owners.old free_map.old active.now updating.old images.old) (map_done slot good)).left.memory.held.owners }
+    ensures free_map { free_map.new ≡ (own sizes (entered_map_done no_pool numbers.now maps.old states.old owners.old free_map.old active.now updating.old images.old) (map_done slot good)).left.memory.held.free_map }
+    ensures updating { updating.new ≡ (own sizes (entered_map_done no_pool numbers.now maps.old states.old owners.old free_map.old active.now updating.old images.old) (map_done slot good)).left.memory.slots.updating }
+    ensures images { images.new ≡ (own sizes (entered_map_done no_pool numbers.now maps.old states.old owners.old free_map.old active.now updating.old images.old) (map_done slot good)).left.memory.slots.images }
 {
     let refusal = ask_map_done(sizes, slot, good, numbers, active, updating);
     if refusal != 0 {
@@ -97,7 +97,7 @@ pub fn map_done(
 }
 
 fn counted(deposited: u32, refusal: u32) -> Freed
-    ensures* { λ r. ⌜ r ≡ record { deposited = deposited; answer = record { refusal = refusal; result = 0 } } ⌝ }
+    ensures { result ≡ record { deposited = deposited; answer = record { refusal = refusal; result = 0 } } }
 {
     Freed {
         deposited,

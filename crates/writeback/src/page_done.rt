@@ -5,7 +5,7 @@ ghost use Rattle.tables.specs.Questions.{first_no};
 ghost use Rattle.model.specs.Lines.{NULLED, LIVE};
 ghost use Rattle.model.specs.Laws.Own.{own};
 ghost use Rattle.model.specs.Questions.{questions};
-ghost use Rattle.leaves.specs.Packed.{frames_given, frames_entered, frames_left};
+ghost use Rattle.leaves.specs.Packed.{frames_in};
 ghost use Rattle.writeback.specs.Needs.{Queues, Transfers};
 ghost use Rattle.writeback.specs.Seen.{page_done, entered_page_done, asked_page_done};
 
@@ -24,7 +24,7 @@ use model::sizes::Sizes;
 
 // Questions 3 and 22.
 fn ask_done(sizes: Sizes, frame: usize, good: usize, frames: &[u64]) -> u32
-    ensures { result ≡ first_no (questions sizes (asked_page_done (frames_entered sizes frames)) (page_done frame good)) }
+    ensures { result ≡ first_no (questions sizes (asked_page_done (frames_in sizes frames.now)) (page_done frame good)) }
 {
     if frame >= sizes.frames {
         return NO_RANGE;
@@ -62,14 +62,14 @@ pub fn page_done(
     states: &mut [u8],
 ) -> Answer
     requires { Queues sizes.frames free_queue.old removal_list.old
-        × Transfers sizes (frames_given sizes frames) records.old words.old free_queue.old removal_list.old addresses.now states.old }
-    ensures answer { result ≡ (own sizes (entered_page_done (frames_entered sizes frames) records words free_queue removal_list addresses states) (page_done frame good)).answer }
-    ensures frames { frames_left sizes frames ≡ (own sizes (entered_page_done (frames_entered sizes frames) records words free_queue removal_list addresses states) (page_done frame good)).left.memory.core.frames }
-    ensures records { records.new ≡ (own sizes (entered_page_done (frames_entered sizes frames) records words free_queue removal_list addresses states) (page_done frame good)).left.disk.records }
-    ensures words { words.new ≡ (own sizes (entered_page_done (frames_entered sizes frames) records words free_queue removal_list addresses states) (page_done frame good)).left.memory.core.words }
-    ensures free_queue { free_queue.new ≡ (own sizes (entered_page_done (frames_entered sizes frames) records words free_queue removal_list addresses states) (page_done frame good)).left.memory.core.free_queue }
-    ensures removal_list { removal_list.new ≡ (own sizes (entered_page_done (frames_entered sizes frames) records words free_queue removal_list addresses states) (page_done frame good)).left.memory.core.removal_list }
-    ensures states { states.new ≡ (own sizes (entered_page_done (frames_entered sizes frames) records words free_queue removal_list addresses states) (page_done frame good)).left.memory.held.states }
+        × Transfers sizes (frames_in sizes frames.old) records.old words.old free_queue.old removal_list.old addresses.now states.old }
+    ensures answer { result ≡ (own sizes (entered_page_done (frames_in sizes frames.old) records.old words.old free_queue.old removal_list.old addresses.now states.old) (page_done frame good)).answer }
+    ensures frames { frames_in sizes frames.new ≡ (own sizes (entered_page_done (frames_in sizes frames.old) records.old words.old free_queue.old removal_list.old addresses.now states.old) (page_done frame good)).left.memory.core.frames }
+    ensures records { records.new ≡ (own sizes (entered_page_done (frames_in sizes frames.old) records.old words.old free_queue.old removal_list.old addresses.now states.old) (page_done frame good)).left.disk.records }
+    ensures words { words.new ≡ (own sizes (entered_page_done (frames_in sizes frames.old) records.old words.old free_queue.old removal_list.old addresses.now states.old) (page_done frame good)).left.memory.core.words }
+    ensures free_queue { free_queue.new ≡ (own sizes (entered_page_done (frames_in sizes frames.old) records.old words.old free_queue.old removal_list.old addresses.now states.old) (page_done frame good)).left.memory.core.free_queue }
+    ensures removal_list { removal_list.new ≡ (own sizes (entered_page_done (frames_in sizes frames.old) records.old words.old free_queue.old removal_list.old addresses.now states.old) (page_done frame good)).left.memory.core.removal_list }
+    ensures states { states.new ≡ (own sizes (entered_page_done (frames_in sizes frames.old) records.old words.old free_queue.old removal_list.old addresses.now states.old) (page_done frame good)).left.memory.held.states }
 {
     let refusal = ask_done(sizes, frame, good, frames);
     let answer = Answer { refusal, result: 0 };

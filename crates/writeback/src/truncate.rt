@@ -5,7 +5,7 @@ ghost use Rattle.tables.specs.Questions.{first_no};
 ghost use Rattle.tables.specs.Rule.{test};
 ghost use Rattle.model.specs.Laws.Own.{own};
 ghost use Rattle.model.specs.Questions.{questions};
-ghost use Rattle.leaves.specs.Packed.{unpacked, frames_given, frames_entered, frames_left};
+ghost use Rattle.leaves.specs.Packed.{unpacked, frames_in};
 ghost use Rattle.writeback.specs.ByPage.{modified_entry, charged_entry};
 ghost use Rattle.writeback.specs.Needs.{Sized, Queues, Placed, Addressed, Releasable, Paid};
 ghost use Rattle.writeback.specs.Pages.{charges_from};
@@ -123,9 +123,9 @@ fn free_frames(
     free_queue: &mut [u16],
     removal_list: &mut [u16],
 ) -> usize
-    requires { FramesGiven sizes.frames sizes.pages slot k (unpacked frames.now) free_queue removal_list × («any» ≡ false → NoneCut sizes.frames sizes.pages slot k (unpacked frames.now)) }
+    requires { FramesGiven sizes.frames sizes.pages slot k (unpacked frames.now) free_queue.old removal_list.old × («any» ≡ false → NoneCut sizes.frames sizes.pages slot k (unpacked frames.now)) }
     ensures charges { result ≡ if any (charges_from sizes.frames sizes.pages slot k (unpacked frames.now) addresses.now states.now) 0 }
-    ensures queues { FramesLeft sizes.frames sizes.pages slot k (unpacked frames.now) free_queue removal_list }
+    ensures queues { FramesLeft sizes.frames sizes.pages slot k (unpacked frames.now) free_queue.old removal_list.old free_queue.new removal_list.new }
 {
     if any {} else {
         return 0;
@@ -160,7 +160,7 @@ fn ask_truncate(
     active: &[u8],
 ) -> Found
     requires { (sizes.frames < 65) × (sizes.pages < 257) × (sizes.slots < 65) }
-    ensures answer { result.refusal ≡ first_no (questions sizes (asked_truncate (frames_entered sizes frames) numbers active) (truncate slot k)) }
+    ensures answer { result.refusal ≡ first_no (questions sizes (asked_truncate (frames_in sizes frames.now) numbers.now active.now) (truncate slot k)) }
     ensures any { result.refusal ≡ 0 → result.any ≡ false → NoneCut sizes.frames sizes.pages slot k (unpacked frames.now) }
 {
     let in_range = (slot < sizes.slots) & (k <= sizes.pages);
@@ -190,16 +190,16 @@ pub fn truncate(
     active: &[u8],
     used: &mut [u16],
 ) -> Answer
-    requires { Sized sizes × Queues sizes.frames free_queue.old removal_list.old × Placed sizes.frames (frames_given sizes frames) free_queue.old removal_list.old
+    requires { Sized sizes × Queues sizes.frames free_queue.old removal_list.old × Placed sizes.frames (frames_in sizes frames.old) free_queue.old removal_list.old
         × Addressed sizes addresses.old states.old × Releasable sizes addresses.old states.old
-        × Paid sizes (frames_given sizes frames) accounts.now limits.now parents.now addresses.old states.old used.old }
-    ensures answer { result ≡ (own sizes (entered_truncate (frames_entered sizes frames) numbers accounts limits parents free_queue removal_list addresses states active used) (truncate slot k)).answer }
-    ensures frames { frames_left sizes frames ≡ (own sizes (entered_truncate (frames_entered sizes frames) numbers accounts limits parents free_queue removal_list addresses states active used) (truncate slot k)).left.memory.core.frames }
-    ensures free_queue { free_queue.new ≡ (own sizes (entered_truncate (frames_entered sizes frames) numbers accounts limits parents free_queue removal_list addresses states active used) (truncate slot k)).left.memory.core.free_queue }
-    ensures removal_list { removal_list.new ≡ (own sizes (entered_truncate (frames_entered sizes frames) numbers accounts limits parents free_queue removal_list addresses states active used) (truncate slot k)).left.memory.core.removal_list }
-    ensures addresses { addresses.new ≡ (own sizes (entered_truncate (frames_entered sizes frames) numbers accounts limits parents free_queue removal_list addresses states active used) (truncate slot k)).left.memory.held.addresses }
-    ensures states { states.new ≡ (own sizes (entered_truncate (frames_entered sizes frames) numbers accounts limits parents free_queue removal_list addresses states active used) (truncate slot k)).left.memory.held.states }
-    ensures used { used.new ≡ used_left sizes (entered_truncate (frames_entered sizes frames) numbers accounts limits parents free_queue removal_list addresses states active used) slot k }
+        × Paid sizes (frames_in sizes frames.old) accounts.now limits.now parents.now addresses.old states.old used.old }
+    ensures answer { result ≡ (own sizes (entered_truncate (frames_in sizes frames.old) numbers.now accounts.now limits.now parents.now free_queue.old removal_list.old addresses.old states.old active.now used.old) (truncate slot k)).answer }
+    ensures frames { frames_in sizes frames.new ≡ (own sizes (entered_truncate (frames_in sizes frames.old) numbers.now accounts.now limits.now parents.now free_queue.old removal_list.old addresses.old states.old active.now used.old) (truncate slot k)).left.memory.core.frames }
+    ensures free_queue { free_queue.new ≡ (own sizes (entered_truncate (frames_in sizes frames.old) numbers.now accounts.now limits.now parents.now free_queue.old removal_list.old addresses.old states.old active.now used.old) (truncate slot k)).left.memory.core.free_queue }
+    ensures removal_list { removal_list.new ≡ (own sizes (entered_truncate (frames_in sizes frames.old) numbers.now accounts.now limits.now parents.now free_queue.old removal_list.old addresses.old states.old active.now used.old) (truncate slot k)).left.memory.core.removal_list }
+    ensures addresses { addresses.new ≡ (own sizes (entered_truncate (frames_in sizes frames.old) numbers.now accounts.now limits.now parents.now free_queue.old removal_list.old addresses.old states.old active.now used.old) (truncate slot k)).left.memory.held.addresses }
+    ensures states { states.new ≡ (own sizes (entered_truncate (frames_in sizes frames.old) numbers.now accounts.now limits.now parents.now free_queue.old removal_list.old addresses.old states.old active.now used.old) (truncate slot k)).left.memory.held.states }
+    ensures used { used.new ≡ used_left sizes (entered_truncate (frames_in sizes frames.old) numbers.now accounts.now limits.now parents.now free_queue.old removal_list.old addresses.old states.old active.now used.old) slot k }
 {
     let found = ask_truncate(sizes, slot, k, frames, numbers, active);
     let refusal = found.refusal;

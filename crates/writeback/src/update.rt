@@ -8,7 +8,7 @@ ghost use Rattle.model.specs.Laws.Own.{own};
 ghost use Rattle.model.specs.Questions.{questions};
 ghost use Rattle.model.specs.State.{all_pages};
 ghost use Rattle.leaves.specs.Addresses.{live_address};
-ghost use Rattle.leaves.specs.Packed.{unpacked, frames_entered};
+ghost use Rattle.leaves.specs.Packed.{unpacked, frames_in};
 ghost use Rattle.writeback.specs.Needs.{Sized, Addressed};
 ghost use Rattle.writeback.specs.Seen.{update, entered_update, asked_update};
 ghost use Rattle.writeback.specs.Update.{leaving, PagesGiven, PagesLeft};
@@ -24,7 +24,7 @@ use model::sizes::Sizes;
 
 // Questions 3, 4, 8 and 10.
 fn ask_update(sizes: Sizes, slot: usize, numbers: &[u32], active: &[u8], updating: &[u8]) -> u32
-    ensures { result ≡ first_no (questions sizes (asked_update numbers active updating) (update slot)) }
+    ensures { result ≡ first_no (questions sizes (asked_update numbers.now active.now updating.now) (update slot)) }
 {
     ask_idle(slot < sizes.slots, slot, numbers, active, updating)
 }
@@ -62,8 +62,8 @@ fn leaving_of(count: usize, frames: &[u64], addresses: &[u16], states: &[u8], i:
 
 // These pages of the slot lose their address, and their records leave.
 fn leave_pages(sizes: Sizes, slot: usize, frames: &[u64], addresses: &mut [u16], states: &mut [u8])
-    requires { PagesGiven sizes slot addresses states }
-    ensures { PagesLeft sizes slot (unpacked frames.now) addresses states }
+    requires { PagesGiven sizes slot addresses.old states.old }
+    ensures { PagesLeft sizes slot (unpacked frames.now) addresses.old states.old addresses.new states.new }
 {
     let pages = sizes.pages;
     let end = slot * pages + pages;
@@ -91,11 +91,11 @@ pub fn update(
     images: &mut [u16],
 ) -> Answer
     requires { Sized sizes × Addressed sizes addresses.old states.old × (length owners.now ≡ length states.old) × (length images.old ≡ all_pages sizes) }
-    ensures answer { result ≡ (own sizes (entered_update (frames_entered sizes frames) numbers addresses states owners active updating images) (update slot)).answer }
-    ensures addresses { addresses.new ≡ (own sizes (entered_update (frames_entered sizes frames) numbers addresses states owners active updating images) (update slot)).left.memory.held.addresses }
-    ensures states { states.new ≡ (own sizes (entered_update (frames_entered sizes frames) numbers addresses states owners active updating images) (update slot)).left.memory.held.states }
-    ensures updating { updating.new ≡ (own sizes (entered_update (frames_entered sizes frames) numbers addresses states owners active updating images) (update slot)).left.memory.slots.updating }
-    ensures images { images.new ≡ (own sizes (entered_update (frames_entered sizes frames) numbers addresses states owners active updating images) (update slot)).left.memory.slots.images }
+    ensures answer { result ≡ (own sizes (entered_update (frames_in sizes frames.now) numbers.now addresses.old states.old owners.now active.now updating.old images.old) (update slot)).answer }
+    ensures addresses { addresses.new ≡ (own sizes (entered_update (frames_in sizes frames.now) numbers.now addresses.old states.old owners.now active.now updating.old images.old) (update slot)).left.memory.held.addresses }
+    ensures states { states.new ≡ (own sizes (entered_update (frames_in sizes frames.now) numbers.now addresses.old states.old owners.now active.now updating.old images.old) (update slot)).left.memory.held.states }
+    ensures updating { updating.new ≡ (own sizes (entered_update (frames_in sizes frames.now) numbers.now addresses.old states.old owners.now active.now updating.old images.old) (update slot)).left.memory.slots.updating }
+    ensures images { images.new ≡ (own sizes (entered_update (frames_in sizes frames.now) numbers.now addresses.old states.old owners.now active.now updating.old images.old) (update slot)).left.memory.slots.images }
 {
     let refusal = ask_update(sizes, slot, numbers, active, updating);
     if refusal != 0 {

@@ -1,5 +1,5 @@
 //! The proved look-ups of the 600-record pack beside a plain search through the records written down one after another. Compiled once
-//! `rt staticlib sectors` has built the library.
+//! `python3 tools/prove.py --lib sectors` has built the library.
 #![cfg(sectors)]
 
 const RECORDS: usize = 600;

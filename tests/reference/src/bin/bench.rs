@@ -4,7 +4,7 @@
 
 #[cfg(not(keeper))]
 fn main() {
-    eprintln!("bench: the proved keeper is not built: rt staticlib keeper");
+    eprintln!("bench: the proved keeper is not built: python3 tools/prove.py --lib keeper");
     std::process::exit(1);
 }
 
