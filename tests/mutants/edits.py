@@ -43,6 +43,8 @@ class Edit:
             raise Bad(f"there is no crate {self.crate}")
         if not self.pairs:
             raise Bad("the edit has no line 'new: '")
+        if self.names and not self.function():
+            raise Bad("the edit has names and no function")
 
     def read(self, lines):
         file = old = None

@@ -116,8 +116,12 @@ def refused_at(edit, status, text, to):
         raise Bad("no verdict: the edit did not reach the prover")
     if unread(edit, text):
         raise Bad(f"no verdict: the edited text cannot be read at {unread(edit, text)}")
-    places = [(file, line) for file, line, _, said in errors(text) if not NAMES.search(said)]
-    goals = [(file, int(line)) for file, line in GOAL.findall(text)] if open_at(edit, text) else []
+    found = list(errors(text))
+    places = [(file, line) for file, line, _, said in found if not NAMES.search(said)]
+    # an open goal says nothing where the function's proof names what is gone, since its answer may be what is not read
+    folder = edit.at if edit.function() else f"{edit.crate}/proofs"
+    gone = any(file.startswith(folder + "/") and NAMES.search(said) for file, _, _, said in found)
+    goals = [(file, int(line)) for file, line in GOAL.findall(text)] if not gone and open_at(edit, text) else []
     if not places and not goals:
         raise Bad("no verdict: only proofs that name what is gone")
     lines = edit.lines(to) if edit.fact else None
