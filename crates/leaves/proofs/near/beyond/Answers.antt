@@ -126,7 +126,8 @@ returns-then-low-far c =
 pub returns-then-high-records : goal.returns-then-high-records
 returns-then-high-records c =
     let a = c.args in
-    that-above a.sizes a.map.now a.record a.below a.above c.requires.4 c.less-floor.result c.last_mark-low.result c.less-floor.ensures c.last_mark-low.ensures c.if-low-floor.false c.first_mark-high-2.result c.first_mark-high-2.ensures c.if-high-records.true c.less-far.result c.last_mark-low-then-high-records.result c.less-far.ensures c.last_mark-low-then-high-records.ensures (λ k. omega (arith, k, c.if-low-far.false))
+    that-above a.sizes a.map.now a.record a.below a.above c.requires.4 c.less-floor.result c.last_mark-low.result c.less-floor.ensures c.last_mark-low.ensures c.if-low-floor.false c.first_mark-high-2.result c.first_mark-high-2.ensures c.if-high-records.true
+    c.less-far.result c.last_mark-low-then-high-records.result c.less-far.ensures c.last_mark-low-then-high-records.ensures (λ k. omega (arith, k, c.if-low-far.false))
 
 pub last_mark-low-requires-2 : goal.last_mark-low-requires-2
 last_mark-low-requires-2 c =

@@ -43,7 +43,8 @@ returns-then-answer-eq-NO_FRAME c =
     let absent : ¬ InFrame c.args.sizes lent = λ h. let a = c.args in c.requires.3 (its_in a.sizes (unpacked a.frames.now) a.i (rw c.requires.2 h)) in
     let d = c.fault-done.ensures in
     rw c.claimed.ensures (record {
-      left = brought_by_claim c.args.sizes lent c.requires.0 c.requires.1 absent c.args.i c.requires.2 _ (fault_left (d.frames, (d.words, (d.free_queue, (d.removal_list, (d.addresses, (d.states, (d.owners, (d.free_map, (d.hand, d.free)))))))))) d.answer c.if-answer-eq-NO_FRAME.true (let e = c.claim.ensures in record { answer = e.answer; frames = e.frames; free_queue = e.free_queue; removal_list = e.removal_list; states = e.states; used = e.used });
+      left = brought_by_claim c.args.sizes lent c.requires.0 c.requires.1 absent c.args.i c.requires.2 _ (fault_left (d.frames, (d.words, (d.free_queue, (d.removal_list, (d.addresses, (d.states, (d.owners, (d.free_map, (d.hand, d.free)))))))))) d.answer c.if-answer-eq-NO_FRAME.true
+          (let e = c.claim.ensures in record { answer = e.answer; frames = e.frames; free_queue = e.free_queue; removal_list = e.removal_list; states = e.states; used = e.used });
       nulled = brought_nulls_by_claim c.args.sizes lent c.requires.0 c.requires.1 absent c.args.i c.requires.2 _ (fault_left (d.frames, (d.words, (d.free_queue, (d.removal_list, (d.addresses, (d.states, (d.owners, (d.free_map, (d.hand, d.free)))))))))) d.answer c.if-answer-eq-NO_FRAME.true c.claim.ensures.nulled;
     })
 
