@@ -111,7 +111,7 @@ def built_alone():
         lines = [line for line in (ROOT / "crates.txt").read_text().splitlines() if line.split(":")[0] in needs]
         (root / "crates.txt").write_text("\n".join([*lines, f"alone staticlib: {' '.join(needs)}"]) + "\n")
         shutil.copy(ROOT / "bench" / "alone.txt", root / "crates/alone/src/lib.rt")
-        subprocess.run(["rt", "lib"], cwd=root / "crates/alone", check=True, capture_output=True)
+        subprocess.run(["rt", "lib", "--cpu", "x86-64"], cwd=root / "crates/alone", check=True, capture_output=True)
         shutil.copy(root / "crates/alone/out/libalone.a", ALONE)
     return str(ALONE / "libalone.a")
 

@@ -9,6 +9,8 @@ import tempfile
 
 ROOT = pathlib.Path(__file__).resolve().parent.parent
 KEPT = ["--incremental", "out/incremental"]
+# a static library runs on every x86-64, and not only from the second version on, as the kit has it where nothing is said
+CPU = ["--cpu", "x86-64"]
 
 
 class Missing(Exception):
@@ -68,7 +70,7 @@ def words(crate, crates, toolchain, out):
     uses += [word for dep in ["std", *(dep for dep in crates[crate] if dep not in crates)] for word in ("--extern", f"{dep}={kit}/rlibs/{dep}.rlib")]
     uses += [word for dep in below(crate, crates) for word in ("-L", f"dependency=../{dep}/out/rlib")]
     logic = ["--antt-project", f"{kit}/rattle/logic/antt-project.json", "--logic-built", f"{kit}/logic_built"]
-    made = ["--crate-type", "staticlib", "--backend", "llvm", "--toolchain", str(toolchain), "-o", str(out)]
+    made = ["--crate-type", "staticlib", *CPU, "--backend", "llvm", "--toolchain", str(toolchain), "-o", str(out)]
     return [str(kit / "bin" / "rattle"), "build", "--crate-name", crate, "src/lib.rt", *uses, "-L", f"dependency={kit}/rlibs", *logic, *made]
 
 

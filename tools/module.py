@@ -14,7 +14,7 @@ INSTRUCTIONS = set("alloca load store getelementptr icmp select phi br switch re
 )
 TYPES = {"i1", "i8", "i16", "i32", "i64", "ptr", "void", "label"}
 INTRINSICS = re.compile(r"llvm\.(memcpy|memmove|memset|ctpop|ctlz|cttz|trap)\b")
-ATTRIBUTES = {'"probe-stack"="inline-asm"', '"stack-probe-size"="3072"', '"target-cpu"="x86-64-v2"'} | set("cold nocallback nofree noreturn nosync nounwind speculatable willreturn".split())
+ATTRIBUTES = {'"probe-stack"="inline-asm"', '"stack-probe-size"="3072"', '"target-cpu"="x86-64"'} | set("cold nocallback nofree noreturn nosync nounwind speculatable willreturn".split())
 # places are counted in bytes: then no pointer's width is in them
 PLACES = re.compile(r"getelementptr (inbounds |nuw |nusw )*i8, |alloca (\[\d+ x i8\]|i\d+|ptr), ")
 LINKAGES = re.compile(r"(internal|private) (unnamed_addr )?constant ")
@@ -167,5 +167,5 @@ def for_target(text, calls, known, triple, layout, probes):
     text = text[:first] + "".join(between(call, inner[call.name], known, attributes) + "\n" for call in calls) + text[first:]
     text = once(r"^target datalayout = .*$", f'target datalayout = "{layout}"', text)
     text = once(r"^target triple = .*$", f'target triple = "{triple}"', text)
-    text = text.replace(' "target-cpu"="x86-64-v2"', "")
+    text = text.replace(' "target-cpu"="x86-64"', "")
     return text if probes else text.replace(' "probe-stack"="inline-asm"', "").replace(' "stack-probe-size"="3072"', "")

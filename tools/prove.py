@@ -69,7 +69,7 @@ def proved(name, way, log):
     if way == "gate" and kit.left_by_ci(crate, crates):
         status = module(crate, crates, log, start)
     else:
-        status = followed(["rt", "lib"], folder, log, start)
+        status = followed(["rt", "lib", *kit.CPU], folder, log, start)
         if status == 0 and way != "lib":
             status = module(crate, crates, log, start)
     if status == 0:

@@ -91,14 +91,14 @@ class Prove(Tools):
         """The archive of the crate itself, or of the crate that has its functions for C."""
         for name, crate in (("high", "high_c"), ("other", "other")):
             self.assertEqual(self.said("--lib", name)[-1], f"built target/staticlib/lib{name}.a")
-            self.assertEqual(self.asked()[-1], f"{crate}: rt lib")
+            self.assertEqual(self.asked()[-1], f"{crate}: rt lib --cpu x86-64")
             self.assertEqual((self.root / f"target/staticlib/lib{name}.a").read_text(), "made\n")
 
     def test_module(self):
         """Once more by rattle itself, with a clang that keeps what it is handed; no link is left in the repository."""
         self.said("--module", "high")
         first, second = self.asked()
-        self.assertEqual(first, "high_c: rt lib")
+        self.assertEqual(first, "high_c: rt lib --cpu x86-64")
         self.assertIn("high_c: rattle build --crate-name high_c src/lib.rt --extern high=../high/out/rlib/high.rlib", second)
         self.assertIn(f"--extern io={self.root}/rlibs/io.rlib -L dependency=../high/out/rlib -L dependency=../low/out/rlib", second)
         self.assertEqual((self.root / "target/cross/module.bc").read_text(), "module\n")
@@ -114,7 +114,7 @@ class Prove(Tools):
         self.assertEqual([line.split(" --")[0] for line in self.asked()], ["high_c: rattle build", "other: rattle build"])
         self.put("crates/low/out/rlib/stamp", "")
         self.said("--gate", "high")
-        self.assertEqual(self.asked()[2], "high_c: rt lib")
+        self.assertEqual(self.asked()[2], "high_c: rt lib --cpu x86-64")
 
     def test_not_proved(self):
         status, said = self.run_tool("prove.py", BAD, 1, "high")

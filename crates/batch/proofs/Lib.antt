@@ -1,5 +1,5 @@
 -- Laws that the proofs of this crate share.
-pub mod Answers
+pub mod Refusing
 pub mod Turning
 pub mod Together
 pub mod Whole

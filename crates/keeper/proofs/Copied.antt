@@ -1,25 +1,15 @@
 -- A loop that copies a list over another from the front, one store a turn: after i turns the list is `copied i src dst`.
---     copied_next      a store of src[i] at i makes it the same at i + 1.        copied-length     its length is dst's
---     left-next, left-all      the index i = n - t, where t of n turns are left
---     capped_le, capped-64     the number of frames that are copied
---     goes_on, stops           the test at the head of the loop
+--     copied_next              a store of src[i] at i makes it the same at i + 1
+--     copied_length            its length is dst's
+--     capped_le, capped_64     the number of frames that are copied
 -- Assumes nothing.
 use mathlib.Core.Path.{◌≡◌, refl, ap}
-use mathlib.Core.Bool.{Bool, true, false}
 use mathlib.Core.List.{List, [], ◌∷◌}
-use Prim.Native.Nat.{ℕ, zero, suc, ◌-◌, ◌≤◌, ◌<◌}
-use native.Mathlib.Nat.{lt_irrefl, not-suc-le-zero, le_of_suc-le-suc}
+use Prim.Native.Nat.{ℕ, zero, suc, ◌≤◌, ◌<◌}
+use native.Mathlib.Nat.{not-suc-le-zero, le_of_suc-le-suc}
 use native.Mathlib.Omega.{arith}
-use lib.Dec.{T as Holds, ltb, lt→ltb, ltb→lt}
 use lib.ListN.{length, get_or, set}
 use Rattle.keeper.specs.Copies.{capped, copied}
-
--- the index where t of n are left
-pub left_next : (n t : ℕ) → suc t ≤ n → n - t ≡ suc (n - suc t)
-left_next n t h = omega (arith, h)
-
-pub left_all : (n : ℕ) → n - n ≡ 0
-left_all n = omega arith
 
 pub capped_le : (n : ℕ) → capped n ≤ n
 unfolding capped
@@ -28,20 +18,6 @@ capped_le n = omega arith
 pub capped_64 : (n : ℕ) → capped n ≤ 64
 unfolding capped
 capped_64 n = omega arith
-
-holds : (t : Bool) → Holds t → t ≡ true
-holds true _ = refl
-holds false a = absurd a
-
-fails : (t : Bool) → (Holds t → ⊥) → t ≡ false
-fails true f = absurd (f tt)
-fails false _ = refl
-
-pub goes_on_holds : (i m : ℕ) → i < m → ltb i m ≡ true
-goes_on_holds i m l = holds (ltb i m) (lt→ltb i m l)
-
-pub stops : (m : ℕ) → ltb m m ≡ false
-stops m = fails (ltb m m) (λ a. lt_irrefl m (ltb→lt m m a))
 
 module _ {X : Type 0} where
   pub copied_next : (src dst : List X) (i : ℕ) (d : X) → i < length src → i < length dst → set (copied i src dst) i (get_or src i d) ≡ copied (suc i) src dst

@@ -1,11 +1,10 @@
 use native.Mathlib.Omega.{arith}
-use Prim.Native.Nat.{◌+◌, ◌<◌}
 use mathlib.Core.Path.{◌≡◌, ap, ◌∙◌}
 use native.Mathlib.Numerals.{add-one}
 use Rattle.model.specs.State.{no_frame}
-use lib.ListN.{length, set, length-replicate}
-use Rattle.keeper.specs.Copies.{capped, copied}
-use Rattle.keeper.proofs.Copied.{capped_le, capped_64, copied_next, copied_length}
+use lib.ListN.{length, length-replicate}
+use Rattle.keeper.specs.Copies.{capped}
+use Rattle.keeper.proofs.Copied.{capped_le, capped_64, copied_next}
 use Rattle.keeper.proofs.frames.load.Goals as goal
 
 pub offset_bounds-frames-i : goal.offset_bounds-frames-i

@@ -1,10 +1,9 @@
 use native.Mathlib.Omega.{arith}
 use native.Mathlib.Numerals.{add-one}
-use Prim.Native.Nat.{◌+◌, ◌<◌}
-use mathlib.Core.Path.{◌≡◌, ap, ◌∙◌}
-use lib.ListN.{length, set, length-set}
-use Rattle.keeper.specs.Copies.{capped, copied}
-use Rattle.keeper.proofs.Copied.{capped_le, capped_64, copied_next, copied_length}
+use mathlib.Core.Path.{◌≡◌}
+use lib.ListN.{length}
+use Rattle.keeper.specs.Copies.{capped}
+use Rattle.keeper.proofs.Copied.{capped_le, capped_64, copied_next}
 use Rattle.keeper.proofs.frames.save.Goals as goal
 
 pub offset_bounds-values-i : goal.offset_bounds-values-i
