@@ -87,7 +87,7 @@ mutants:
 
 docs:
 	python3 tools/tables.py --write
-	python3 tools/walks.py --write
+	python3 tools/rows.py --write
 	python3 tools/pictures.py --write
 	python3 tools/spread.py --write
 	python3 tools/starts.py --write

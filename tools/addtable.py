@@ -19,13 +19,13 @@ ROOT = pathlib.Path(__file__).resolve().parent.parent
 CHIP, LINE = ["chip_words", "chip_records", "chip_next"], ["line"]
 # what takes the tables in order: how many things stand before the first table of the disk part, and which it leaves out
 WHOLE = {"state_in": (4, CHIP + LINE), "state_of": (2, CHIP + LINE), "same_state": (2, CHIP + LINE)}
-WHOLE |= {head: (2, CHIP + LINE) for head in ("given", "entered", "left")}
-WHOLE |= {"lined_" + end: (2, CHIP) for end in ("of", "given", "entered", "left")}
-WHOLE |= {"all_" + end: (2, []) for end in ("of", "given", "entered", "left")}
+WHOLE |= {head: (2, CHIP + LINE) for head in ("given", "entered")}
+WHOLE |= {"lined_of": (2, CHIP), "all_of": (2, [])}
 # what takes the disk part alone
 DISK = ("disk_of", "lent_of")
 ATOM = re.compile(r"[\w\[\]«»'₀-₉.-]+")
-# made or done by hand before
+FUNCTION = re.compile(r"\s*(?:pub )?(?:extern \"C\" )?fn (\w+)")
+# done by hand before, or made by tools/rows.py after
 LEFT_OUT = ("model/specs/Lent.antt", "model/specs/Setters.antt", "keeper/proofs/")
 
 
@@ -140,7 +140,7 @@ def with_parameters(text, place):
     follows = "|".join(place.follows)
     function, out, lines = None, [], text.split("\n")
     for line, following in zip(lines, lines[1:] + [""]):
-        found = re.match(r"\s*(?:pub )?(?:extern \"C\" )?fn (\w+)", line)
+        found = FUNCTION.match(line)
         function = found.group(1) if found else function
         ends = re.match(rf"\s*(?:(?:&mut |&)?(?:{follows})[:,]|\))", following) if follows else re.match(r"\s*\)", following)
         out.append(re.sub(rf"({place.before} {place.after})(?= «?(?:{follows})»?\b|$)", rf"\1 {place.new}", line))
@@ -154,12 +154,25 @@ def with_parameters(text, place):
     return re.sub(rf"({', '.join(place.all_before)}, {place.after})(?=\))", rf"\1, {place.new}", text)
 
 
+def with_moments(text, place):
+    """The text of a source file whose contracts name the new table as it is lent: now, where it is only read; else old or new, as the others of
+    its line."""
+    function, out = None, []
+    for line in text.split("\n"):
+        found = FUNCTION.match(line)
+        function = found.group(1) if found else function
+        moment = "now" if function not in place.changing else "new" if ".new" in line else "old"
+        out.append(re.sub(rf"(?<![\w.]){place.new}\.(?:old|new|now)\b", f"{place.new}.{moment}", line))
+    return "\n".join(out)
+
+
 def changed(path, place):
     """A file's new text, and what is left to do there by hand."""
     text, by_hand = path.read_text(), []
     if path.suffix == ".rt":
         text = with_parameters(text, place)
-    return with_rows(text, place, by_hand), by_hand
+    text = with_rows(text, place, by_hand)
+    return with_moments(text, place) if path.suffix == ".rt" else text, by_hand
 
 
 def main(words):

@@ -14,6 +14,7 @@ import addtable
 ROOT = pathlib.Path(__file__).resolve().parent.parent
 PLACE = addtable.Place("serial", "highest", "u32", ["format"])
 DISK = "records numbers accounts maps limits parents highest"
+LINE = "serial | disk | u32 | 1 | serial | mut | ref | ref | ref | ref | ref | the number of the disk\n"
 
 
 class Texts(unittest.TestCase):
@@ -24,12 +25,13 @@ class Texts(unittest.TestCase):
 
     def test_rows(self):
         self.row(f"disk_of {DISK}", f"disk_of {DISK} serial")
-        self.row(f"all_given fs last.pool {DISK} words", f"all_given fs last.pool {DISK} serial words")
+        self.row(f"all_of fs last.pool {DISK} words", f"all_of fs last.pool {DISK} serial words")
+        self.row("all_of fs p r.new n.new a.new m.new l.new p.now highest.new\n  w.new", "all_of fs p r.new n.new a.new m.new l.new p.now highest.new serial.new\n  w.new")
         self.row("given f p a.r a.n a.c a.m a.l a.p\n  a.highest.now w", "given f p a.r a.n a.c a.m a.l a.p\n  a.highest.now a.serial.now w")
         self.row("same_state f p refl refl refl refl refl refl refl w", "same_state f p refl refl refl refl refl refl refl refl w")
 
     def test_what_is_no_row(self):
-        for text in ("st.given a b", "given_all a b c d e f g h i", "all_given a b", "all_given f p (a b", f"disk_of {DISK} serial"):
+        for text in ("st.given a b", "given_all a b c d e f g h i", "all_of a b", "all_of f p (a b", f"disk_of {DISK} serial"):
             with self.subTest(text):
                 self.row(text, text)
 
@@ -55,8 +57,16 @@ class Texts(unittest.TestCase):
 
     def test_contracts(self):
         for end in (" «frame_words» rest", ""):
-            self.assertEqual(addtable.with_parameters(f"(left f p {DISK}{end}", PLACE), f"(left f p {DISK} serial{end}")
+            self.assertEqual(addtable.with_parameters(f"(given f p {DISK}{end}", PLACE), f"(given f p {DISK} serial{end}")
         self.assertEqual(addtable.with_parameters("of parents highest q", PLACE), "of parents highest q")
+
+    def test_moments(self):
+        """A contract has the new table as it is lent."""
+        text = "fn {}(\n) -> u8\n    requires {{ f highest.{} serial.{} }}\n    ensures {{ f highest.new serial.{} }}\n"
+        for name, before, after in (("format", "old", "new"), ("apply", "now", "now")):
+            copied = text.format(name, "old", "old", "new")
+            self.assertEqual(addtable.with_moments(copied, PLACE), text.format(name, "old", before, after))
+        self.assertEqual(addtable.with_moments("fn format()\n g parents.now serial.now\n", PLACE), "fn format()\n g parents.now serial.old\n")
 
     def test_memory_table(self):
         place = addtable.Place("recent", "images", "u16", [])
@@ -68,24 +78,32 @@ class Texts(unittest.TestCase):
         self.assertEqual(place.follows, ["chip_words", "line", "used"])
         for after in ("line", "chip_next"):
             place = addtable.Place("recent", after, "u16", [])
-            self.assertEqual(("given" in place.rows, "lined_given" in place.rows, "all_given" in place.rows), (False, after == "line", True))
+            self.assertEqual(("given" in place.rows, "lined_of" in place.rows, "all_of" in place.rows), (False, after == "line", True))
         self.assertEqual(addtable.Place("recent", "used", "u16", []).rows["given"], 20)
 
 
 class Crates(unittest.TestCase):
+    def run_tool(self, root, tool, *words):
+        return subprocess.run([sys.executable, root / "tools" / tool, *words], capture_output=True, text=True, check=True).stdout
+
     def test_a_copy(self):
         """Every function that takes or hands on all tables has one more."""
         with tempfile.TemporaryDirectory() as folder:
             root = pathlib.Path(folder)
             shutil.copytree(ROOT / "crates", root / "crates", ignore=shutil.ignore_patterns("out"))
             shutil.copytree(ROOT / "tools", root / "tools", ignore=shutil.ignore_patterns("__pycache__"))
-            run = [sys.executable, root / "tools" / "addtable.py", "serial", "highest", "u32"]
-            said = subprocess.run(run, capture_output=True, text=True, check=True).stdout
+            said = self.run_tool(root, "addtable.py", "serial", "highest", "u32")
+            table = root / "tools" / "tables.txt"
+            table.write_text(re.sub(r"^highest .*\n", lambda line: line[0] + LINE, table.read_text(), flags=re.M))
+            self.run_tool(root, "rows.py", "--write")
+            answers = [path.read_text() for path in (root / "crates" / "keeper" / "proofs").glob("*/*/Answers.antt")]
             text = "".join(path.read_text() for path in sorted((root / "crates").rglob("*.rt")))
         self.assertGreater(said.count("\n"), 60)
         self.assertNotRegex(text, r"highest: &(?:mut )?\[u32\],\n\s*frame_words:")
         self.assertNotRegex(text, r"\bhighest,\n\s*frame_words,")
+        self.assertEqual(re.findall(r"parents\.\w+ highest\.\w+\b(?! serial\.now| used).*", text), [])
         self.assertGreater(len(re.findall(r"serial: &\[u32\]", text)), 25)
+        self.assertEqual(sum("a.highest.now a.serial.now\n" in answer for answer in answers), 7)
 
     def test_words(self):
         for words in ([], ["new", "nothing", "u8"]):

@@ -9,8 +9,6 @@ import re
 import sys
 import unittest
 
-import walks
-
 ROOT = pathlib.Path(__file__).resolve().parent.parent
 LONGEST_LINE = 400
 LONGEST_FILE = 300
@@ -49,17 +47,6 @@ def counted_places(text):
     return [(text.count("\n", 0, match.start()) + 1, match.group()) for match in re.finditer(r"\b[A-Z][\w-]*-(?:arg|t)\d+\b", text)]
 
 
-def by_place():
-    """The proofs that count by place, as docs/DECISIONS.md says."""
-    part = DECISIONS[DECISIONS.index("proofs count by place") :].split(". ")[0]
-    return {ROOT / "crates" / name for name in re.findall(r"`([\w/]+\.antt)`", part)}
-
-
-def by_hand():
-    """The files that a person writes: the walks are made from the list of tables."""
-    return sorted({*sources()} - {walks.proof(name) for name in walks.TEXTS} - by_place())
-
-
 def functions(text):
     """Each function: its name, and how many lines it has with parameters and contract, and its body alone, braces counted."""
     lines = text.split("\n")
@@ -95,7 +82,7 @@ def excused(by):
 
 def excused_files():
     """The files that docs/DECISIONS.md names as longer, below crates."""
-    part = DECISIONS[DECISIONS.index("No file is longer") :].split("The walks")[0]
+    part = DECISIONS[DECISIONS.index("No file is longer") :].split(". ")[0]
     return set(re.findall(r"`([\w/]+\.\w+)`", part))
 
 
@@ -126,8 +113,8 @@ class Found(unittest.TestCase):
 
 
 class Text(unittest.TestCase):
-    def nowhere(self, search, words, paths=None):
-        found = [(path.relative_to(ROOT), *place) for path in paths or sources() for place in search(path.read_text())]
+    def nowhere(self, search, words):
+        found = [(path.relative_to(ROOT), *place) for path in sources() for place in search(path.read_text())]
         if found:
             self.fail("\n" + "\n".join(words.format(*place) for place in found))
 
@@ -143,12 +130,10 @@ class Text(unittest.TestCase):
 
     def test_no_long_chain(self):
         self.nowhere(long_chains(".before"), "{}:{}: a chain of {} times {}")
-        self.nowhere(long_chains(".1"), "{}:{}: a chain of {} times {}", by_hand())
-        needed = {path for path in by_place() if long_chains(".1")(path.read_text()) or counted_places(path.read_text())}
-        self.assertEqual(by_place(), needed)
+        self.nowhere(long_chains(".1"), "{}:{}: a chain of {} times {}")
 
     def test_no_counted_place(self):
-        self.nowhere(counted_places, "{}:{}: a place named by a number, {}", by_hand())
+        self.nowhere(counted_places, "{}:{}: a place named by a number, {}")
 
     def test_long_functions(self):
         self.assertEqual(excused("body"), long_functions(True))
