@@ -1,5 +1,5 @@
 -- A request carried out, by what the calls' contracts say.
-use Rattle.std.proofs.Common.{◌≡◌, ℕ, List, refl, ap, ◌∙◌, eq-eqb, ne_eqb}
+use Rattle.std.proofs.Common.{◌≡◌, ap, ◌∙◌, eq-eqb, ne_eqb}
 use Rattle.model.specs.declared.sizes.Sizes.{Sizes}
 use Rattle.model.specs.declared.event.Answer.{Answer}
 use Rattle.model.specs.declared.frame.Pool.{Pool}

@@ -1,5 +1,5 @@
 -- Bytes moved to the front of a buffer.
-use Rattle.std.proofs.Common.{◌≡◌, ℕ, zero, suc, ◌+◌, ◌-◌, ◌<◌, ◌≤◌, eqb, List, ◌++◌, length, get_or, take, drop, set, sym, refl, ap, ◌∙◌, zero-add, add-one, arith, length-append, length-drop, length-take-le, get_or-drop, take_at, get_or-append-add, eq-eqb, ne_eqb}
+use Rattle.std.proofs.Common.{◌≡◌, ℕ, zero, suc, ◌+◌, ◌-◌, ◌<◌, ◌≤◌, eqb, List, ◌++◌, length, get_or, take, drop, set, sym, ap, ◌∙◌, zero-add, arith, length-append, length-drop, length-take-le, get_or-drop, take_at, get_or-append-add, eq-eqb, ne_eqb}
 use lib.Seq.{paste, paste-suc}
 use borrow.Rule.Slice.PartMut.{put_mid, take_put}
 

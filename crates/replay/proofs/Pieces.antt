@@ -1,21 +1,19 @@
 -- The pieces make the whole: whatever pieces the reads bring, what goes out is what the definition prints for all of the input.
-use Rattle.std.proofs.Common.{◌≡◌, ℕ, zero, suc, ◌+◌, ◌-◌, ◌≤◌, Bool, true, false, not, T, eqb, List, [], ◌∷◌, ◌++◌, length, take, drop, sym, refl, ap, ◌∙◌, append_assoc, append-nil, add-zero, zero-add, arith, length-append, length-drop, take-append-drop, length-take-le, take-take, take_at, eq-eqb, ne_eqb}
-use lib.Seq.{sets, sets-eq, drop-append-le}
+use Rattle.std.proofs.Common.{◌≡◌, ℕ, zero, suc, ◌+◌, ◌-◌, ◌≤◌, Bool, true, false, not, T, eqb, List, [], ◌∷◌, ◌++◌, length, take, drop, sym, refl, ap, ◌∙◌, append_assoc, append-nil, add-zero, arith, length-drop, take-append-drop, length-take-le, take-take, take_at, eq-eqb, ne_eqb}
+use lib.Seq.{sets-eq, drop-append-le}
 use Rattle.tables.specs.Base.{if}
 use Rattle.model.specs.declared.request.Request.{Request}
 use Rattle.model.specs.State.{State}
-use Rattle.model.specs.Step.{Outcome}
 use Rattle.fields.specs.Fields.{field_at}
 use Rattle.fields.specs.declared.Field.{Field}
 use Rattle.fields.specs.declared.Field.TheVariants.{End, Whole, Cut, Short, Wrong}
 use Rattle.fields.proofs.Cases.{ends}
 use Rattle.fields.proofs.Pieces.{settled, followed, on_by, dropped}
-use Rattle.lines.specs.Lines.{Wrote, header, bad_field}
+use Rattle.lines.specs.Lines.{header, bad_field}
 use Rattle.replay.specs.declared.input.Reader.{Reader}
 use Rattle.replay.specs.declared.input.Next.{Next}
-use Rattle.replay.specs.declared.input.Next.TheVariants as Next
-use Rattle.replay.specs.Input.{cut, is_whole, request_of, next_of, follows, unread, Refilled}
-use Rattle.replay.specs.Output.{carried, line_of_event, last_line, printed, printed_from, Ran, blank, started_from, output}
+use Rattle.replay.specs.Input.{cut, is_whole, request_of, next_of, follows, Refilled}
+use Rattle.replay.specs.Output.{carried, line_of_event, last_line, printed, printed_from, blank, started_from, output}
 use Rattle.replay.proofs.Front.{none_more}
 use Rattle.replay.specs.Pieces.{joined, is_none, coming, Round, out, Prints, again, more, stop, bad}
 

@@ -2,7 +2,6 @@
 use Rattle.std.proofs.Common.{◌≡◌, ℕ, zero, suc, ◌+◌, ◌-◌, ◌<◌, ◌≤◌, Bool, true, false, ◌&&◌, ltb, leb, List, [], ◌++◌, length, sym, refl, ap, ◌∙◌, append_assoc, suc-add, add-one, arith, ltb-true, leb-true}
 use Rattle.tables.specs.Base.{if}
 use Rattle.model.specs.declared.event.Answer.{Answer}
-use Rattle.model.specs.declared.request.Request.{Request}
 use Rattle.model.specs.State.{State}
 use Rattle.model.specs.Step.{Outcome}
 use Rattle.fields.specs.Fields.{field_at}

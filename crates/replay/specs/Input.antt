@@ -7,7 +7,6 @@ use Rattle.fields.specs.declared.Field.{Field}
 use Rattle.fields.specs.declared.Field.TheVariants.{End, Whole, Cut, Short, Wrong}
 use Rattle.replay.specs.declared.input.Reader.{Reader}
 use Rattle.replay.specs.declared.input.Next.{Next}
-use Rattle.replay.specs.declared.input.Next.TheVariants as Next
 use Rattle.replay.specs.declared.input.Step.{Step}
 
 -- the reader past what ends at that place; offsets count modulo 2 ^ 64

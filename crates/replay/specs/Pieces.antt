@@ -5,7 +5,6 @@ use Rattle.model.specs.State.{State}
 use Rattle.fields.specs.Fields.{field_at}
 use Rattle.lines.specs.Lines.{bad_field}
 use Rattle.replay.specs.declared.input.Next.{Next}
-use Rattle.replay.specs.declared.input.Next.TheVariants as Next
 use Rattle.replay.specs.Input.{follows}
 use Rattle.replay.specs.Output.{Ran}
 

@@ -1,5 +1,6 @@
 // The event program: reads, carries out what has come, prints, until the input ends or a field is bad.
-ghost use Rattle.std.specs.Prelude.{◌<◌, ◌≤◌, length, IfOk};
+ghost use Rattle.std.specs.Prelude.{◌≡◌, ◌-◌, ◌<◌, ◌≤◌, ◌⊎◌, length, take, IfOk, OnErr};
+ghost use Rattle.replay.specs.Input.{unread};
 
 use crate::input::{Next, Reader, next_at, refill};
 use crate::machine::start;
@@ -47,7 +48,8 @@ fn follow<P: Print, R: Read>(
     turns: u64,
 ) -> io::Result<Followed>
     requires { (reader.place ≤ reader.filled) × (reader.filled ≤ length buffer.old) × (34 ≤ length out.old) × (0 < turns) }
-    ensures { IfOk result (λ done. (done.reader.place ≤ done.reader.filled) × (done.reader.filled ≤ length buffer.new) × (done.turns < turns)) }
+    ensures ok { IfOk result (λ done. (done.reader.place ≤ done.reader.filled) × (done.reader.filled ≤ length buffer.new) × (done.turns < turns)) }
+    ensures err { OnErr result ((buffer.new ≡ buffer.old) ⊎ (take (reader.filled - reader.place) buffer.new ≡ unread reader buffer.old)) }
 {
     let filled = reader.filled;
     let place = reader.place;
