@@ -36,6 +36,8 @@ JOBS = int(os.environ.get("RT_JOBS", str(os.cpu_count() or 1)))
 ERROR = re.compile(r"^(?:\./)?crates/([^\s:]+)(?::(\d+):\d+)?: error: (?:(`[^`]*`): )?(.*)", re.M)
 GOAL = re.compile(r"^note: (?:\./)?crates/([^\s:]+):(\d+):\d+: it is not proved that", re.M)
 QUOTED = re.compile(r"`[^`]*`")
+# a part of a pair that is none any more is no name: it says that the fact is another
+PART = re.compile(r"has no field `\d+`.*")
 UNREAD = re.compile(r"is not in scope|has no field|is no name|operand is missing|expected the end|cannot continue")
 # a name that is missing, and what cannot be checked for it
 NAMES = re.compile(r"is not in scope|has no field|has no +that can be named|is no name|declarations? that depends? on|this file exports no")
@@ -93,7 +95,7 @@ def prove(crate, work):
 def errors(text):
     """The errors of a check: each file and line, whether it has a name, and what is said without what is quoted."""
     for file, line, name, said in (found.groups() for found in ERROR.finditer(text)):
-        yield file, int(line or 0), bool(name), QUOTED.sub("", said)
+        yield file, int(line or 0), bool(name), QUOTED.sub("", PART.sub("is no pair", said))
 
 
 def unread(edit, text):
