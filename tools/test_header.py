@@ -106,8 +106,10 @@ class Header(unittest.TestCase):
         self.assertEqual(len(header), 7)
 
     def test_refusals(self):
-        text = (MODEL / "refusals.rt").read_text() + (ROOT / "crates" / "mending" / "src" / "lib.rt").read_text()
-        source = re.findall(r"pub const (\w+): u32 = (\d+);", text)
+        source = [
+            (re.sub(r"(?<!^)(?=[A-Z])", "_", name).upper(), number)
+            for name, number in re.findall(r"Refusal::(\w+) => (\d+),", (MODEL / "refusals.rt").read_text())
+        ]
         header = re.findall(r"KEEPER_(\w+) = (\d+)", HEADER.read_text().partition("/* The refusals. */")[2])
         source = sorted(source, key=lambda refusal: int(refusal[1]))
         self.assertEqual([("DONE", "0")] + source, header)

@@ -48,7 +48,7 @@ def counted_places(text):
 
 
 def functions(text):
-    """Each function: its name, and how many lines it has with parameters and contract, and its body alone, braces counted."""
+    """Each function with a body: its name, and how many lines it has with parameters and contract, and its body alone, braces counted."""
     lines = text.split("\n")
     for start, line in enumerate(lines):
         found = re.match(r"(\s*)(?:pub )?(?:extern \"C\" )?fn (\w+)", line)
@@ -56,6 +56,9 @@ def functions(text):
             continue
         margin, name = found.groups()
         body = start if line.endswith("{") else start + 1
+        # a trait's function ends before its next line that is not a clause
+        if re.match(rf"{margin}    \S.*;$|$", lines[body]) and not line.endswith("{") or line.endswith(";"):
+            continue
         while body > start and not (lines[body] == margin + "{" or lines[body].startswith(margin + ")") and lines[body].endswith("{")):
             body += 1
         end = body

@@ -3,16 +3,14 @@ ghost use Rattle.std.specs.Prelude.{◌≡◌, ◌<◌, ◌≤◌, length};
 ghost use Rattle.tables.specs.Base.{at, tab};
 ghost use Rattle.tables.specs.Rule.{Holds, each, below};
 
-use leaves::cells::at16;
+use leaves::cells::at;
 
 // Each entry of the table is that of the source, 0 past its end.
 pub fn copy16(source: &[u16], table: &mut [u16])
     ensures { table.new ≡ tab (length table.old) (at source.now) 0 }
 {
-    let mut i = 0;
-    while i < table.len() {
-        table[i] = at16(source, i);
-        i += 1;
+    for i in 0..table.len() {
+        table[i] = at(source, i);
     }
 }
 
@@ -21,9 +19,7 @@ pub fn put_counts(totals: &[usize], used: &mut [u16])
     requires { (length used.old ≤ length totals.now) × Holds (each (length used.old) (λ q. below (at totals.now q) 65536)) }
     ensures { used.new ≡ tab (length used.old) (at totals.now) 0 }
 {
-    let mut q = 0;
-    while q < used.len() {
+    for q in 0..used.len() {
         used[q] = totals[q] as u16;
-        q += 1;
     }
 }

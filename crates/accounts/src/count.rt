@@ -37,11 +37,9 @@ fn count_row(
 {
     let base = s * pages;
     let mut used = 0;
-    let mut p = 0;
-    while p < pages {
+    for p in 0..pages {
         let i = base + p;
         used += used_one(active, maps[i], addresses[i], states);
-        p += 1;
     }
     used
 }
@@ -60,12 +58,10 @@ fn count_slots(
     requires { SlotsGiven slots pages totals payers active maps addresses states }
     ensures { SlotsLeft slots pages totals payers active maps addresses states }
 {
-    let mut s = 0;
-    while s < slots {
+    for s in 0..slots {
         let used = count_row(pages, s, active[s], maps, addresses, states);
         let q = payers[s] as usize;
         totals[q] += used;
-        s += 1;
     }
 }
 
@@ -81,8 +77,7 @@ fn count_frames(
     requires { FramesGiven z frames totals payers addresses states }
     ensures { FramesLeft z frames totals payers addresses states }
 {
-    let mut f = 0;
-    while f < z.frames {
+    for f in 0..z.frames {
         charge(
             woven_page(frame_at(frames, f)),
             z.pages,
@@ -91,7 +86,6 @@ fn count_frames(
             addresses,
             states,
         );
-        f += 1;
     }
 }
 

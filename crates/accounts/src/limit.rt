@@ -3,6 +3,7 @@ ghost use Rattle.std.specs.Prelude.{◌≡◌};
 ghost use Rattle.tables.specs.Rule.{test};
 ghost use Rattle.model.specs.declared.event.Account.TheVariants as Account;
 ghost use Rattle.model.specs.declared.event.Event.TheVariants as Event;
+ghost use Rattle.model.specs.Refusals.{answered};
 ghost use Rattle.model.specs.Laws.Own.{own};
 ghost use Rattle.leaves.specs.Packed.{frames_entered};
 ghost use Rattle.accounts.specs.Asks.{stays_payer};
@@ -11,10 +12,8 @@ ghost use Rattle.accounts.specs.Promises.{LimitGiven};
 
 use crate::copies::put_counts;
 use crate::count::count_used;
-use leaves::cells::{at16, put16};
-use leaves::payer::wide;
-use model::event::Answer;
-use model::refusals::NO_RANGE;
+use leaves::cells::{at, put};
+use model::refusals::Refusal;
 use model::sizes::Sizes;
 
 // Who pays stays as it is: the account is 0, or its limit is above 0 before and after.
@@ -37,26 +36,20 @@ pub fn limit(
     states: &[u8],
     active: &[u8],
     used: &mut [u16],
-) -> Answer
+) -> Result<u32, Refusal>
     requires { LimitGiven sizes frames accounts maps limits parents addresses states active used }
-    ensures answer { result ≡ (own sizes (entered_account (frames_entered sizes frames) accounts maps limits parents addresses states active used) (Event.Account (Account.Limit account pages))).answer }
+    ensures answer { answered result ≡ (own sizes (entered_account (frames_entered sizes frames) accounts maps limits parents addresses states active used) (Event.Account (Account.Limit account pages))).answer }
     ensures limits { limits.new ≡ (own sizes (entered_account (frames_entered sizes frames) accounts maps limits parents addresses states active used) (Event.Account (Account.Limit account pages))).left.disk.limits }
     ensures used { used.new ≡ (own sizes (entered_account (frames_entered sizes frames) accounts maps limits parents addresses states active used) (Event.Account (Account.Limit account pages))).left.memory.used }
 {
     let in_range = (account < sizes.accounts) & (pages < 65536);
-    if in_range {} else {
-        return Answer {
-            refusal: NO_RANGE,
-            result: 0,
-        };
+    if !in_range {
+        return Err(Refusal::NoRange);
     }
-    let stays = stays_payer(account, wide(at16(limits, account)), pages);
-    put16(limits, account, pages as u16);
+    let stays = stays_payer(account, usize::from(at(limits, account)), pages);
+    put(limits, account, pages as u16);
     if stays {
-        return Answer {
-            refusal: 0,
-            result: 0,
-        };
+        return Ok(0);
     }
     let mut totals: [usize; Sizes::MOST_ACCOUNTS] = [0; Sizes::MOST_ACCOUNTS];
     count_used(
@@ -72,8 +65,5 @@ pub fn limit(
         active,
     );
     put_counts(&totals, used);
-    Answer {
-        refusal: 0,
-        result: 0,
-    }
+    Ok(0)
 }

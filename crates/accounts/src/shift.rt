@@ -3,10 +3,11 @@
 ghost use Rattle.std.specs.Prelude.{◌≡◌, ◌+◌, ◌≤◌, ◌<◌, length};
 ghost use Rattle.tables.specs.Base.{at, tab};
 ghost use Rattle.tables.specs.Questions.{first_no};
-ghost use Rattle.tables.specs.Rule.{same, below, ◌and◌, test};
+ghost use Rattle.tables.specs.Rule.{same, below, non, ◌and◌, ◌or◌, test};
 ghost use Rattle.model.specs.declared.event.Account.TheVariants as Account;
 ghost use Rattle.model.specs.declared.event.Event.TheVariants as Event;
 ghost use Rattle.model.specs.Accounts.{shifted};
+ghost use Rattle.model.specs.Refusals.{said, answered};
 ghost use Rattle.model.specs.Laws.Own.{own};
 ghost use Rattle.accounts.specs.Asks.{is_parent, kin, first_asked, enough};
 ghost use Rattle.leaves.specs.Packed.{frames_entered};
@@ -15,30 +16,28 @@ ghost use Rattle.accounts.specs.Promises.{ReadyGiven};
 
 use crate::copies::{copy16, put_counts};
 use crate::count::count_used;
-use leaves::cells::{at16, put16};
-use leaves::payer::wide;
-use model::event::Answer;
-use model::refusals::{NO_MOVE, NO_RANGE, OVER_LIMIT};
+use leaves::cells::{at, put};
+use model::refusals::Refusal;
 use model::sizes::Sizes;
 
 // Account a is b's parent.
 fn is_parent(a: usize, b: usize, parents: &[u16]) -> bool
     ensures { result ≡ test (is_parent (at parents.now) a b) }
 {
-    (0 < b) & (wide(at16(parents, b)) == a)
+    (0 < b) & (usize::from(at(parents, b)) == a)
 }
 
 // The two are parent and child, m is above 0, the giver has m, the taker stays at 65,535 or below.
 fn can_move(giver: usize, taker: usize, pages: usize, limits: &[u16], parents: &[u16]) -> bool
     ensures { result ≡ test (kin (at limits.now) (at parents.now) giver taker pages) }
 {
-    if is_parent(giver, taker, parents) | is_parent(taker, giver, parents) {} else {
+    if !(is_parent(giver, taker, parents) | is_parent(taker, giver, parents)) {
         return false;
     }
-    if (0 < pages) & !(wide(at16(limits, giver)) < pages) {} else {
+    if (pages == 0) | (usize::from(at(limits, giver)) < pages) {
         return false;
     }
-    wide(at16(limits, taker)) + pages < 65536
+    usize::from(at(limits, taker)) + pages < 65536
 }
 
 // Questions 3 and 25.
@@ -49,32 +48,32 @@ fn ask_move(
     pages: usize,
     limits: &[u16],
     parents: &[u16],
-) -> u32
-    ensures { result ≡ first_no (first_asked accounts (at limits.now) (at parents.now) giver taker pages) }
+) -> Result<(), Refusal>
+    ensures { said result ≡ first_no (first_asked accounts (at limits.now) (at parents.now) giver taker pages) }
 {
-    if (giver < accounts) & (taker < accounts) {} else {
-        return NO_RANGE;
+    if !((giver < accounts) & (taker < accounts)) {
+        return Err(Refusal::NoRange);
     }
-    if can_move(giver, taker, pages, limits, parents) {} else {
-        return NO_MOVE;
+    if !can_move(giver, taker, pages, limits, parents) {
+        return Err(Refusal::NoMove);
     }
-    0
+    Ok(())
 }
 
-// Question 26: each account whose limit or count changes has used at most its limit.
+// An account whose limit or count changes has used at most its limit.
+fn has_enough(limit: u16, used: u16, wanted: u16, total: usize) -> bool
+    ensures { result ≡ test ((same wanted limit and same total used) or non (below wanted total)) }
+{
+    let same = (wanted == limit) & (total == usize::from(used));
+    same | (total <= usize::from(wanted))
+}
+
+// Question 26: each account has enough.
 fn within(accounts: usize, limits: &[u16], used: &[u16], wanted: &[u16], totals: &[usize]) -> bool
     requires { (accounts ≤ length limits.now) × (accounts ≤ length used.now) × (accounts ≤ length wanted.now) × (accounts ≤ length totals.now) }
     ensures { result ≡ test (enough accounts (at limits.now) (at used.now) (at wanted.now) (at totals.now)) }
 {
-    let mut a = 0;
-    while a < accounts {
-        let same = (wanted[a] == limits[a]) & (totals[a] == wide(used[a]));
-        if same | !(wide(wanted[a]) < totals[a]) {} else {
-            return false;
-        }
-        a += 1;
-    }
-    true
+    (0..accounts).all(|a| has_enough(limits[a], used[a], wanted[a], totals[a]))
 }
 
 // The limits that there would be, past the accounts 0.
@@ -83,10 +82,10 @@ fn shift_limits(limits: &[u16], giver: usize, taker: usize, pages: usize, wanted
     ensures { wanted.new ≡ shifted (tab (length wanted.old) (at limits.now) 0) giver taker pages }
 {
     copy16(limits, wanted);
-    let less = wide(at16(wanted, giver)) - pages;
-    let more = wide(at16(wanted, taker)) + pages;
-    put16(wanted, giver, less as u16);
-    put16(wanted, taker, more as u16);
+    let less = usize::from(at(wanted, giver)) - pages;
+    let more = usize::from(at(wanted, taker)) + pages;
+    put(wanted, giver, less as u16);
+    put(wanted, taker, more as u16);
 }
 
 pub fn move_pages(
@@ -103,16 +102,13 @@ pub fn move_pages(
     states: &[u8],
     active: &[u8],
     used: &mut [u16],
-) -> Answer
+) -> Result<u32, Refusal>
     requires { ReadyGiven sizes frames accounts maps limits addresses states active used }
-    ensures answer { result ≡ (own sizes (entered_account (frames_entered sizes frames) accounts maps limits parents addresses states active used) (Event.Account (Account.Move giver taker pages))).answer }
+    ensures answer { answered result ≡ (own sizes (entered_account (frames_entered sizes frames) accounts maps limits parents addresses states active used) (Event.Account (Account.Move giver taker pages))).answer }
     ensures limits { limits.new ≡ (own sizes (entered_account (frames_entered sizes frames) accounts maps limits parents addresses states active used) (Event.Account (Account.Move giver taker pages))).left.disk.limits }
     ensures used { used.new ≡ (own sizes (entered_account (frames_entered sizes frames) accounts maps limits parents addresses states active used) (Event.Account (Account.Move giver taker pages))).left.memory.used }
 {
-    let refusal = ask_move(sizes.accounts, giver, taker, pages, limits, parents);
-    if refusal != 0 {
-        return Answer { refusal, result: 0 };
-    }
+    ask_move(sizes.accounts, giver, taker, pages, limits, parents)?;
     let mut wanted: [u16; Sizes::MOST_ACCOUNTS] = [0; Sizes::MOST_ACCOUNTS];
     shift_limits(limits, giver, taker, pages, &mut wanted);
     let mut totals: [usize; Sizes::MOST_ACCOUNTS] = [0; Sizes::MOST_ACCOUNTS];
@@ -128,16 +124,10 @@ pub fn move_pages(
         states,
         active,
     );
-    if within(sizes.accounts, limits, used, &wanted, &totals) {} else {
-        return Answer {
-            refusal: OVER_LIMIT,
-            result: 0,
-        };
+    if !within(sizes.accounts, limits, used, &wanted, &totals) {
+        return Err(Refusal::OverLimit);
     }
     copy16(&wanted, limits);
     put_counts(&totals, used);
-    Answer {
-        refusal: 0,
-        result: 0,
-    }
+    Ok(0)
 }

@@ -1,4 +1,5 @@
 -- One request of a list on tables that questions 1 and 2 say yes to: what its own questions answer is its turn.
+use Rattle.std.specs.Prelude.{Option, Some, None}
 use mathlib.Core.Path.{◌≡◌, ap, sym, ◌∙◌}
 use mathlib.Core.List.{List}
 use Prim.Native.Nat.{ℕ}
@@ -7,8 +8,6 @@ use Rattle.model.specs.declared.frame.Pool.{Pool}
 use Rattle.model.specs.declared.event.Answer.{Answer}
 use Rattle.model.specs.declared.event.Event.{Event}
 use Rattle.model.specs.declared.request.Request.{Request}
-use Rattle.model.specs.declared.request.Decoded.{Decoded}
-use Rattle.model.specs.declared.request.Decoded.TheVariants.{Known, Unknown}
 use Rattle.model.specs.State.{Held, State}
 use Rattle.model.specs.Setters.{on_held}
 use Rattle.model.specs.Requests.{decoded}
@@ -35,18 +34,18 @@ module _ (z : Sizes) (requests answers : List ℕ) (k : ℕ) (last : Answer) (st
   abbrev before : Listed
   before = record { answer = last; answers = answers; left = st }
 
-  by_own : (d : Decoded) (r : Request) → d ≡ decoded r → r ≡ request_at requests k → put (owned z st d) ≡ turned z requests k before
+  by_own : (d : Option Event) (r : Request) → d ≡ decoded r → r ≡ request_at requests k → put (owned z st d) ≡ turned z requests k before
   unfolding turned
-  by_own d r e q = ap (λ (x : Decoded). put (owned z st x)) (e ∙ ap decoded q) ∙ ap put (sym (apply_own z st (good z st g) (request_at requests k)))
+  by_own d r e q = ap (λ (x : Option Event). put (owned z st x)) (e ∙ ap decoded q) ∙ ap put (sym (apply_own z st (good z st g) (request_at requests k)))
 
   -- a kind that is no event
-  pub turned_unknown : (r : Request) {now : List ℕ} → r ≡ request_at requests k → Unknown ≡ decoded r → now ≡ put_answer k (record { refusal = 3; result = 0 }) answers
+  pub turned_unknown : (r : Request) {now : List ℕ} → r ≡ request_at requests k → None ≡ decoded r → now ≡ put_answer k (record { refusal = 3; result = 0 }) answers
       → ◌≡◌ {A = Listed} (record { answer = record { refusal = 3; result = 0 }; answers = now; left = st }) (turned z requests k before)
-  turned_unknown r q e a = ap (λ (ns : List ℕ). record { answer = record { refusal = 3; result = 0 }; answers = ns; left = st }) a ∙ by_own Unknown r e q
+  turned_unknown r q e a = ap (λ (ns : List ℕ). record { answer = record { refusal = 3; result = 0 }; answers = ns; left = st }) a ∙ by_own None r e q
 
   -- an event; its pool is put together after the work
-  pub turned_known : (r : Request) (event : Event) (o : Outcome State) {p : Pool} {now : List ℕ} → r ≡ request_at requests k → Known event ≡ decoded r
+  pub turned_known : (r : Request) (event : Event) (o : Outcome State) {p : Pool} {now : List ℕ} → r ≡ request_at requests k → Some event ≡ decoded r
       → o ≡ own_whole z st event → p ≡ o.left.memory.held.pool → now ≡ put_answer k o.answer answers
       → ◌≡◌ {A = Listed} (record { answer = o.answer; answers = now; left = on_held (set_pool p) o.left }) (turned z requests k before)
   turned_known r event o q e h pool a =
-      (λ x. record { answer = o.answer; answers = a x; left = on_held (set_pool (pool x)) o.left }) ∙ ap put h ∙ by_own (Known event) r e q
+      (λ x. record { answer = o.answer; answers = a x; left = on_held (set_pool (pool x)) o.left }) ∙ ap put h ∙ by_own (Some event) r e q

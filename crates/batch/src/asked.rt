@@ -11,6 +11,7 @@ use crate::turn::Last;
 use crate::turns::turns;
 use calls::common::common;
 use model::frame::Pool;
+use model::lent::{DiskTables, MemoryTables};
 use model::sizes::Sizes;
 
 // The first n of them, each refused by question 1 or 2, or all carried out.
@@ -58,11 +59,7 @@ pub fn ask_turns(
         frame_words.old free_queue.old removal_list.old addresses.old states.old owners.old free_map.old active.old updating.old images.old chip_words.old chip_records.old chip_next.old line.old used.old) n }
     ensures one { n ≡ 1 → result.pool ≡ deposited result.deposited (taken sizes result.taken pool) }
 {
-    let refusal = common(
-        sizes,
-        lent,
-        frames,
-        pool,
+    let disk = DiskTables {
         records,
         numbers,
         accounts,
@@ -70,6 +67,8 @@ pub fn ask_turns(
         limits,
         parents,
         highest,
+    };
+    let memory = MemoryTables {
         frame_words,
         free_queue,
         removal_list,
@@ -85,9 +84,9 @@ pub fn ask_turns(
         chip_next,
         line,
         used,
-    );
-    if refusal != 0 {
-        let answer = refuse_all(answers, n, refusal);
+    };
+    if let Err(no) = common(sizes, lent, frames, pool, disk, memory) {
+        let answer = refuse_all(answers, n, no.number());
         return Last {
             pool,
             taken: 0,

@@ -9,9 +9,7 @@ use model::request::Request;
 pub fn request_count(requests: usize, answers: usize) -> usize
     ensures { result ≡ request_count requests answers }
 {
-    let asked = requests / 5;
-    let told = answers / 2;
-    if asked <= told { asked } else { told }
+    (requests / 5).min(answers / 2)
 }
 
 // Request k.
@@ -61,11 +59,9 @@ pub fn refuse_all(answers: &mut [u32], n: usize, refusal: u32) -> Answer
         refusal: 0,
         result: 0,
     };
-    let mut k: usize = 0;
-    while k < n {
+    for k in 0..n {
         last = Answer { refusal, result: 0 };
         put_answer(answers, k, last);
-        k += 1;
     }
     last
 }

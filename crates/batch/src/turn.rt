@@ -10,8 +10,8 @@ use crate::numbers::{put_answer, request_at};
 use events::whole::carry_whole;
 use model::event::Answer;
 use model::frame::Pool;
-use model::refusals::NO_RANGE;
-use model::request::{Decoded, decode};
+use model::refusals::Refusal;
+use model::request::decode;
 use model::sizes::Sizes;
 
 // After a request: the pool, what the request took out of it and deposited in it, and its answer.
@@ -74,11 +74,8 @@ pub fn turn(
 {
     let pool = last.pool;
     let decoded = decode(request_at(requests, k));
-    let Decoded::Known(event) = decoded else {
-        let answer = Answer {
-            refusal: NO_RANGE,
-            result: 0,
-        };
+    let Some(event) = decoded else {
+        let answer = Answer::from(Refusal::NoRange);
         put_answer(answers, k, answer);
         return Last {
             pool,

@@ -67,8 +67,7 @@ pub fn turns(
         deposited: 0,
         answer,
     };
-    let mut k: usize = 0;
-    while k < n {
+    for k in 0..n {
         last = turn(
             sizes,
             requests,
@@ -99,7 +98,6 @@ pub fn turns(
             line,
             used,
         );
-        k += 1;
     }
     last
 }

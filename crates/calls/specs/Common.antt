@@ -1,5 +1,6 @@
 -- The answer to questions 1 and 2 alone, which every event and a page look are asked first; and what a call is by that answer.
-use Rattle.std.specs.Prelude.{◌≡◌, Bool, false, ℕ}
+use Rattle.model.specs.declared.event.Event.{Event}
+use Rattle.std.specs.Prelude.{◌≡◌, Bool, false, ℕ, Option, Some, None}
 use Rattle.std.proofs.Math.Path.{ap, sym}
 use Rattle.std.proofs.Common.{◌∙◌}
 use Rattle.std.proofs.Math.Bool.{true}
@@ -9,8 +10,6 @@ use Rattle.tables.specs.Questions.{Questions, none, ask, first_no, all_yes}
 use Rattle.tables.specs.Also.{also_yes, also_no}
 use Rattle.model.specs.declared.sizes.Sizes.{Sizes}
 use Rattle.model.specs.declared.request.Request.{Request}
-use Rattle.model.specs.declared.request.Decoded.{Decoded}
-use Rattle.model.specs.declared.request.Decoded.TheVariants.{Known, Unknown}
 use Rattle.model.specs.declared.applied.Part.{Part}
 use Rattle.model.specs.State.{State}
 use Rattle.model.specs.Rules.{all_rules}
@@ -59,15 +58,15 @@ module _ (z : Sizes) (st : State) where
   unfolding apply step_of step answer unknown
   unfit_apply request n e d = go (decoded request)
     where
-      go : (k : Decoded) → refusal n st ≡ step_of z st k
-      go (Known event) = sym (outcome_no n (result z st event) st (whole z st event) d) ∙ ap (λ (m : ℕ). outcome m (result z st event) st (whole z st event)) (common_refuses (questions z st event) n e d)
-      go Unknown = sym (outcome_no n 0 st st d) ∙ ap (λ (m : ℕ). outcome m 0 st st) (common_refuses (ask 3 (same 0 1) none) n e d)
+      go : (k : Option Event) → refusal n st ≡ step_of z st k
+      go (Some event) = sym (outcome_no n (result z st event) st (whole z st event) d) ∙ ap (λ (m : ℕ). outcome m (result z st event) st (whole z st event)) (common_refuses (questions z st event) n e d)
+      go None = sym (outcome_no n 0 st st d) ∙ ap (λ (m : ℕ). outcome m 0 st st) (common_refuses (ask 3 (same 0 1) none) n e d)
 
-  pub unknown_apply : (request : Request) → common z st ≡ 0 → Unknown ≡ decoded request → refusal 3 st ≡ apply z st request
+  pub unknown_apply : (request : Request) → common z st ≡ 0 → None ≡ decoded request → refusal 3 st ≡ apply z st request
   unfolding apply step_of unknown first_no test
   unknown_apply request e k = ap (λ (m : ℕ). outcome m 0 st st) (sym (common_passes (ask 3 (same 0 1) none) e)) ∙ ap (step_of z st) k
 
-  pub known_apply : (request : Request) (event : _) → common z st ≡ 0 → Known event ≡ decoded request → own_whole z st event ≡ apply z st request
+  pub known_apply : (request : Request) (event : _) → common z st ≡ 0 → Some event ≡ decoded request → own_whole z st event ≡ apply z st request
   unfolding apply step_of
   known_apply request event e k = let h = common_gives e in sym (step_own z st event h.0 h.1) ∙ ap (step_of z st) k
 

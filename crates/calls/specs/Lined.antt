@@ -1,7 +1,7 @@
 -- The line and the chip beside the other tables: questions 1 and 2 of everything lent are those of the other tables, with nobody waiting and no chip, and the line's and the chip's own.
-use Rattle.std.specs.Prelude.{◌≡◌, Bool, true, false, ◌&&◌, List, ℕ, ◌*◌, ◌≤◌, length, replicate}
+use Rattle.std.specs.Prelude.{◌≡◌, Bool, ◌&&◌, List, ℕ, ◌*◌, ◌≤◌, length, replicate}
 use Rattle.std.proofs.Math.Path.{refl}
-use Rattle.std.proofs.Common.{ap, sym, ◌∙◌, mul-le-mul, arith}
+use Rattle.std.proofs.Common.{ap, ◌∙◌, mul-le-mul, arith}
 use Rattle.std.proofs.Math.Dec.{eqb}
 use Rattle.tables.specs.Queue.{packed, queue_of}
 use Rattle.tables.specs.Rule.{Holds, test, alike, same, ◌and◌}

@@ -3,7 +3,7 @@ ghost use Rattle.std.specs.Prelude.{◌≡◌, List, length, take};
 ghost use Rattle.tables.specs.Rule.{Holds, test};
 ghost use Rattle.model.specs.declared.frame.Frame.{Frame};
 ghost use Rattle.model.specs.declared.frame.Pool.{Pool};
-ghost use Rattle.model.specs.Lent.{chip_of, all_of};
+ghost use Rattle.model.specs.Lent.{chip_of, all_read};
 ghost use Rattle.model.specs.Rules.{all_rules};
 ghost use Rattle.model.specs.Sizes.{sizes_fit};
 ghost use Rattle.model.specs.Step.{chip_lengths, all_fit};
@@ -11,77 +11,30 @@ ghost use Rattle.leaves.specs.Packed.{unpacked};
 
 use chips::ruled::chip_ruled;
 use model::frame::Pool;
+use model::lent::{DiskTables, MemoryTables};
 use model::sizes::{LINE, Sizes};
 use questions::question1::all_fit;
 use questions::question2::all_rules;
 use rules::queues::queue;
 
 // The chip's three tables have their lengths.
-fn chip_fit(sizes: Sizes, chip_words: &[u32], chip_records: &[u16], chip_next: &[u16]) -> bool
+fn chip_fit(sizes: Sizes, memory: MemoryTables<'_>) -> bool
     requires { Holds (sizes_fit sizes) }
-    ensures { result ≡ test (chip_lengths sizes (chip_of chip_words.now chip_records.now chip_next.now)) }
+    ensures { result ≡ test (chip_lengths sizes (chip_of memory.entry.chip_words.now memory.entry.chip_records.now memory.entry.chip_next.now)) }
 {
-    (chip_words.len() == sizes.chip * sizes.words)
-        & (chip_records.len() == sizes.chip)
-        & (chip_next.len() == 1)
+    (memory.chip_words.len() == sizes.chip * sizes.words)
+        & (memory.chip_records.len() == sizes.chip)
+        & (memory.chip_next.len() == 1)
 }
 
 // Question 1; `lent` frames are lent.
-pub fn lent_fit(
-    sizes: Sizes,
-    lent: usize,
-    records: &[u32],
-    numbers: &[u32],
-    accounts: &[u16],
-    maps: &[u16],
-    limits: &[u16],
-    parents: &[u16],
-    highest: &[u32],
-    frame_words: &[u32],
-    free_queue: &[u16],
-    removal_list: &[u16],
-    addresses: &[u16],
-    states: &[u8],
-    owners: &[u8],
-    free_map: &[u32],
-    active: &[u8],
-    updating: &[u8],
-    images: &[u16],
-    chip_words: &[u32],
-    chip_records: &[u16],
-    chip_next: &[u16],
-    line: &[u16],
-    used: &[u16],
-) -> bool
-    ensures { (frames : List Frame) (pool : Pool) → length frames ≡ lent → result ≡ test (all_fit sizes
-        (all_of frames pool records.now numbers.now accounts.now maps.now limits.now parents.now highest.now
-        frame_words.now free_queue.now removal_list.now addresses.now states.now owners.now free_map.now active.now updating.now images.now chip_words.now chip_records.now chip_next.now line.now used.now)) }
+pub fn lent_fit(sizes: Sizes, lent: usize, disk: DiskTables<'_>, memory: MemoryTables<'_>) -> bool
+    ensures { (frames : List Frame) (pool : Pool) → length frames ≡ lent → result ≡ test (all_fit sizes (all_read frames pool disk.entry memory.entry)) }
 {
-    if all_fit(
-        sizes,
-        lent,
-        records,
-        numbers,
-        accounts,
-        maps,
-        limits,
-        parents,
-        highest,
-        frame_words,
-        free_queue,
-        removal_list,
-        addresses,
-        states,
-        owners,
-        free_map,
-        active,
-        updating,
-        images,
-        used,
-    ) {} else {
+    if !all_fit(sizes, lent, disk, memory) {
         return false;
     }
-    (line.len() == LINE) & chip_fit(sizes, chip_words, chip_records, chip_next)
+    (memory.line.len() == LINE) & chip_fit(sizes, memory)
 }
 
 // Question 2, where question 1 said yes.
@@ -90,60 +43,21 @@ pub fn lent_rules(
     frames: &[u64],
     lent: usize,
     pool: Pool,
-    records: &[u32],
-    numbers: &[u32],
-    accounts: &[u16],
-    maps: &[u16],
-    limits: &[u16],
-    parents: &[u16],
-    highest: &[u32],
-    frame_words: &[u32],
-    free_queue: &[u16],
-    removal_list: &[u16],
-    addresses: &[u16],
-    states: &[u8],
-    owners: &[u8],
-    free_map: &[u32],
-    active: &[u8],
-    updating: &[u8],
-    images: &[u16],
-    chip_words: &[u32],
-    chip_records: &[u16],
-    chip_next: &[u16],
-    line: &[u16],
-    used: &[u16],
+    disk: DiskTables<'_>,
+    memory: MemoryTables<'_>,
 ) -> bool
-    requires { Holds (all_fit sizes
-        (all_of (take lent (unpacked frames.now)) pool records.now numbers.now accounts.now maps.now limits.now parents.now highest.now
-        frame_words.now free_queue.now removal_list.now addresses.now states.now owners.now free_map.now active.now updating.now images.now chip_words.now chip_records.now chip_next.now line.now used.now)) }
-    ensures { result ≡ test (all_rules sizes
-        (all_of (take lent (unpacked frames.now)) pool records.now numbers.now accounts.now maps.now limits.now parents.now highest.now
-        frame_words.now free_queue.now removal_list.now addresses.now states.now owners.now free_map.now active.now updating.now images.now chip_words.now chip_records.now chip_next.now line.now used.now)) }
+    requires { Holds (all_fit sizes (all_read (take lent (unpacked frames.now)) pool disk memory)) }
+    ensures { result ≡ test (all_rules sizes (all_read (take lent (unpacked frames.now)) pool disk.entry memory.entry)) }
 {
     let pages = sizes.slots * sizes.pages;
-    all_rules(
-        sizes,
-        frames,
-        lent,
-        pool,
-        records,
-        numbers,
-        accounts,
-        maps,
-        limits,
-        parents,
-        highest,
-        frame_words,
-        free_queue,
-        removal_list,
-        addresses,
-        states,
-        owners,
-        free_map,
-        active,
-        updating,
-        images,
-        used,
-    ) & queue(LINE, pages, line)
-        & chip_ruled(sizes, records, states, chip_words, chip_records, chip_next)
+    all_rules(sizes, frames, lent, pool, disk, memory)
+        & queue(LINE, pages, memory.line)
+        & chip_ruled(
+            sizes,
+            disk.records,
+            memory.states,
+            memory.chip_words,
+            memory.chip_records,
+            memory.chip_next,
+        )
 }

@@ -5,6 +5,7 @@ ghost use Rattle.std.specs.Prelude.{◌≡◌, length, replicate};
 ghost use Rattle.model.specs.Lent.{disk_of, all_of};
 ghost use Rattle.model.specs.Calls.{frames_of};
 ghost use Rattle.model.specs.Step.{restart, format};
+ghost use Rattle.model.specs.Refusals.{answered};
 ghost use Rattle.model.specs.Laws.Own.{leaves};
 
 use crate::common::common;
@@ -12,18 +13,18 @@ use crate::lent::lent_fit;
 use model::applied::Pooled;
 use model::event::Answer;
 use model::frame::{Frame, Pool};
-use model::refusals::{NO_FIT, NO_RANGE, NO_RULE};
+use model::lent::{DiskTables, MemoryTables};
+use model::refusals::Refusal;
 use model::sizes::Sizes;
 use questions::question1::disk_fit;
 use questions::question2::disk_rules;
 use restarts::format::format_tables;
 use restarts::numbers::raise_highest;
 use restarts::restart::restart_tables;
-use restarts::zero::{zero16, zero32};
 use rules::slots::parents_ok;
 
 pub mod lent; // questions 1 and 2 with the line and the chip
-pub mod common; // questions 1 and 2, as a number
+pub mod common; // questions 1 and 2 of every event and a look
 pub mod looks; // a page look
 pub mod packing; // the frames, packed and back
 
@@ -39,10 +40,10 @@ fn empty_beside(
     ensures next { chip_next.new ≡ replicate (length chip_next.old) 0 }
     ensures line { line.new ≡ replicate (length line.old) 0 }
 {
-    zero32(chip_words);
-    zero16(chip_records);
-    zero16(chip_next);
-    zero16(line);
+    chip_words.fill(0);
+    chip_records.fill(0);
+    chip_next.fill(0);
+    line.fill(0);
 }
 
 // Questions 1 and 2 (the disk rules only), then the highest number raised, its own one store, and every table of the memory part set anew.
@@ -81,9 +82,7 @@ pub fn restart_core(
         (all_of (frames_of frames lent) pool records.now numbers.now accounts.now maps.now limits.now parents.now highest.old
         frame_words.old free_queue.old removal_list.old addresses.old states.old owners.old free_map.old active.old updating.old images.old chip_words.old chip_records.old chip_next.old line.old used.old) }
 {
-    if lent_fit(
-        sizes,
-        lent,
+    let disk = DiskTables {
         records,
         numbers,
         accounts,
@@ -91,6 +90,8 @@ pub fn restart_core(
         limits,
         parents,
         highest,
+    };
+    let memory = MemoryTables {
         frame_words,
         free_queue,
         removal_list,
@@ -106,28 +107,19 @@ pub fn restart_core(
         chip_next,
         line,
         used,
-    ) {} else {
-        let answer = Answer {
-            refusal: NO_FIT,
-            result: 0,
-        };
+    };
+    if !lent_fit(sizes, lent, disk, memory) {
         return Pooled {
             frames,
             pool,
-            answer,
+            answer: Answer::from(Refusal::NoFit),
         };
     }
-    if disk_rules(
-        sizes, records, numbers, accounts, maps, limits, parents, highest,
-    ) {} else {
-        let answer = Answer {
-            refusal: NO_RULE,
-            result: 0,
-        };
+    if !disk_rules(sizes, disk) {
         return Pooled {
             frames,
             pool,
-            answer,
+            answer: Answer::from(Refusal::NoRule),
         };
     }
     raise_highest(sizes, numbers, highest);
@@ -163,30 +155,27 @@ pub fn format(
     limits: &mut [u16],
     parents: &mut [u16],
     highest: &mut [u32],
-) -> Answer
-    ensures { record { answer = result; left = disk_of records.new numbers.new accounts.new maps.new limits.new parents.new highest.new }
+) -> Result<u32, Refusal>
+    ensures { record { answer = answered result; left = disk_of records.new numbers.new accounts.new maps.new limits.new parents.new highest.new }
         ≡ format sizes wanted.now (disk_of records.old numbers.old accounts.old maps.old limits.old parents.old highest.old) }
 {
-    if disk_fit(
-        sizes, records, numbers, accounts, maps, limits, parents, highest,
-    ) & (wanted.len() == sizes.accounts)
-    {} else {
-        return Answer {
-            refusal: NO_FIT,
-            result: 0,
-        };
+    let disk = DiskTables {
+        records,
+        numbers,
+        accounts,
+        maps,
+        limits,
+        parents,
+        highest,
+    };
+    if !(disk_fit(sizes, disk) & (wanted.len() == sizes.accounts)) {
+        return Err(Refusal::NoFit);
     }
-    if parents_ok(sizes.accounts, wanted) {} else {
-        return Answer {
-            refusal: NO_RANGE,
-            result: 0,
-        };
+    if !parents_ok(sizes.accounts, wanted) {
+        return Err(Refusal::NoRange);
     }
     format_tables(
         records, numbers, accounts, maps, limits, wanted, parents, highest,
     );
-    Answer {
-        refusal: 0,
-        result: 0,
-    }
+    Ok(0)
 }

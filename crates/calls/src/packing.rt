@@ -10,10 +10,8 @@ pub fn pack_all(frames: [Frame; 64]) -> [u64; 64]
     ensures { unpacked result ≡ frames }
 {
     let mut packed: [u64; 64] = [0; 64];
-    let mut f = 0;
-    while f < 64 {
+    for f in 0..64 {
         put_frame(&mut packed, f, frames[f]);
-        f += 1;
     }
     packed
 }
@@ -24,10 +22,8 @@ pub fn unpack_all(packed: [u64; 64]) -> [Frame; 64]
 {
     let none = no_frame();
     let mut frames = [none; 64];
-    let mut f = 0;
-    while f < 64 {
+    for f in 0..64 {
         frames[f] = frame_at(&packed, f);
-        f += 1;
     }
     frames
 }

@@ -1,17 +1,16 @@
 -- The questions about a sheet, by what its parser says.
-use mathlib.Core.Path.{◌≡◌, refl, ap, sym, ◌∙◌, subst}
-use mathlib.Core.Bool.{Bool, true, false, not, ◌&&◌}
+use mathlib.Core.Path.{◌≡◌, refl, ap, sym, ◌∙◌}
+use mathlib.Core.Bool.{Bool, true, false}
 use mathlib.Core.List.{List, []}
-use Prim.Native.Nat.{ℕ, suc, ◌+◌, ◌-◌, ◌<◌}
+use Prim.Native.Nat.{ℕ, suc, ◌+◌, ◌-◌, ◌<◌, ◌≤◌}
 use native.Mathlib.Omega.{arith}
 use native.Mathlib.Decide.{dec_lt}
-use lib.Dec.{T, eqb, eqb→eq, ltb}
-use borrow.Author.Tests.{lt-ltb, le-ltb, eq-eqb}
-use Rattle.tables.specs.Laws.{and_left, and_right}
+use lib.Dec.{leb}
+use borrow.Author.Tests.{lt-leb, le-leb}
 use Rattle.tables.specs.Base.{at, if}
-use Rattle.tables.specs.Rule.{Rule, Holds, test, below, sound, complete, told, untold}
-use Rattle.sheets.specs.declared.read.Parsed.{Parsed}
-use Rattle.sheets.specs.declared.read.Parsed.TheVariants.{Of, Wrong}
+use Rattle.tables.specs.Rule.{Holds, test, below, sound, complete, told, untold}
+use Rattle.std.specs.Prelude.{Some, None}
+use Rattle.sheets.specs.declared.read.Sheet.{Sheet}
 use Rattle.sheets.specs.Sheet.{words_in, pages_in, number_in, count_in, form, parsed}
 use Rattle.tables.specs.Questions.{Questions, first_no, yes_all}
 use Rattle.model.specs.declared.sizes.Sizes.{Sizes}
@@ -19,40 +18,40 @@ use Rattle.model.specs.Payer.{payer}
 use Rattle.model.specs.Questions.{sheet_questions}
 use Rattle.model.specs.Laws.Own.{first_yes, first_no_holds}
 use Rattle.carrying.specs.Seen.{seen_asked}
-use Rattle.carrying.specs.Asks.{Says, pages_asked}
+use Rattle.carrying.specs.Asks.{pages_asked}
+
+abbrev sheet_in : List ℕ → Sheet
+sheet_in s = record { words = words_in s; pages = pages_in s; number = number_in s; count = count_in s }
 
 -- a sheet of the form, and what it says
-pub record Told (s : List ℕ) (w n number count : ℕ) : Type 0 where
+pub record Told (s : List ℕ) (x : Sheet) : Type 0 where
   pub of : Holds (form s)
-  pub words : w ≡ words_in s
-  pub pages : n ≡ pages_in s
-  pub number_is : number ≡ number_in s
-  pub count_is : count ≡ count_in s
+  pub is : x ≡ sheet_in s
 
-pub of_form : (s : List ℕ) (w n number count : ℕ) → Of w n number count ≡ parsed s → Told s w n number count
+pub of_form : (s : List ℕ) (x : Sheet) → Some x ≡ parsed s → Told s x
 unfolding parsed
-of_form s w n number count e = go (test (form s)) refl e
+of_form s x e = go (test (form s)) refl e
   where
-    go : (b : Bool) → test (form s) ≡ b → Of w n number count ≡ if b (Of (words_in s) (pages_in s) (number_in s) (count_in s)) Wrong → Told s w n number count
-    go true f q = record { of = sound (form s) (rw f tt); words = cc; pages = cc; number_is = cc; count_is = cc }
+    go : (b : Bool) → test (form s) ≡ b → Some x ≡ if b (Some (sheet_in s)) None → Told s x
+    go true f q = record { of = sound (form s) (rw f tt); is = cc }
     go false f q = let z : ◌≡◌ {A = ℕ} 0 1 = cc in absurd (omega (arith, z))
 
-pub no_form : (s : List ℕ) → Wrong ≡ parsed s → ¬ (Holds (form s))
+pub no_form : (s : List ℕ) → None ≡ parsed s → ¬ (Holds (form s))
 unfolding parsed
 no_form s e h = go (test (form s)) (told (form s) h) e
   where
-    go : (b : Bool) → b ≡ true → Wrong ≡ if b (Of (words_in s) (pages_in s) (number_in s) (count_in s)) Wrong → ⊥
+    go : (b : Bool) → b ≡ true → None ≡ if b (Some (sheet_in s)) None → ⊥
     go true f q = let z : ◌≡◌ {A = ℕ} 0 1 = cc in omega (arith, z)
     go false f q = let z : ◌≡◌ {A = ℕ} 0 1 = cc in omega (arith, z)
 
 -- used and count together, without their sum
-pub past_limit : (limit used count : ℕ) → limit < used → false ≡ test (below (used + count) (suc limit))
-past_limit limit used count h = sym (untold (below (used + count) (suc limit)) (λ l. omega (arith, h, l)))
+pub past_limit : (limit used count : ℕ) → limit < used → leb used limit ≡ test (below (used + count) (suc limit))
+past_limit limit used count h = lt-leb used limit h ∙ sym (untold (below (used + count) (suc limit)) (λ l. omega (arith, h, l)))
 
-pub within_limit : (limit used count : ℕ) → ¬ (limit < used) → not (ltb (limit - used) count) ≡ test (below (used + count) (suc limit))
+pub within_limit : (limit used count : ℕ) → used ≤ limit → leb count (limit - used) ≡ test (below (used + count) (suc limit))
 within_limit limit used count h = elim (dec_lt (limit - used) count) [
-  | yes l ↦ rw (lt-ltb (limit - used) count l) (sym (untold (below (used + count) (suc limit)) (λ g. omega (arith, g, l, h))))
-  | no l ↦ rw (le-ltb (limit - used) count (omega (arith, l))) (sym (told (below (used + count) (suc limit)) (omega (arith, l, h))))
+  | yes l ↦ lt-leb count (limit - used) l ∙ sym (untold (below (used + count) (suc limit)) (λ g. omega (arith, g, l, h)))
+  | no l ↦ le-leb count (limit - used) (omega (arith, l)) ∙ sym (told (below (used + count) (suc limit)) (omega (arith, l, h)))
 ]
 
 -- ── 30, 18 and 19 ──
@@ -92,31 +91,23 @@ module _ (z : Sizes) (account w n count free : ℕ) (limits parents used : List 
 
 -- ── the whole sheet ──
 module _ (z : Sizes) (account : ℕ) (s : List ℕ) (free : ℕ) (limits parents used : List ℕ) where
-  abbrev Said : ℕ → ℕ → ℕ → Type 0
-  Said = Says (sheet_questions z (seen_asked free [] limits parents [] used) account s) s
+  abbrev asked : Questions
+  asked = sheet_questions z (seen_asked free [] limits parents [] used) account s
 
-  pub says_29 : Wrong ≡ parsed s → Said 29 0 0
-  says_29 e = record { asked = sym (first_no_holds 29 _ _ (no_form s e)); number_is = λ h. absurd (omega (arith, h)); count_is = λ h. absurd (omega (arith, h)) }
+  pub asks_29 : None ≡ parsed s → 29 ≡ first_no asked
+  asks_29 e = sym (first_no_holds 29 _ _ (no_form s e))
 
-  pub says_of : (w n number count r : ℕ) → Of w n number count ≡ parsed s → r ≡ first_no (pages_asked z account w n count free limits parents used) → Said r number count
-  says_of w n number count r e a =
-      let k = of_form s w n number count e in
-      record {
-        asked = a ∙ (λ i. first_no (pages_asked z account (k.words i) (k.pages i) (k.count_is i) free limits parents used)) ∙ sym (first_yes 29 _ _ k.of);
-        number_is = λ h. k.number_is;
-        count_is = λ h. k.count_is;
-      }
+  -- past 29, the others answer
+  pub asks_more : (x : Sheet) → Some x ≡ parsed s → first_no (pages_asked z account x.words x.pages x.count free limits parents used) ≡ first_no asked
+  asks_more x e =
+      let k = of_form s x e in
+      (λ i. first_no (pages_asked z account (k.is i).words (k.is i).pages (k.is i).count free limits parents used)) ∙ sym (first_yes 29 _ _ k.of)
+
+-- its own number, and how many pages it has
+pub told_of : (s : List ℕ) (x : Sheet) → Some x ≡ parsed s → (x.number ≡ number_in s) × (x.count ≡ count_in s)
+told_of s x e = let k = of_form s x e in (ap (λ (x : Sheet). x.number) k.is, ap (λ (x : Sheet). x.count) k.is)
 
 -- ── what the code's tests say ──
-pub both_no : (a b c d : ℕ) → (eqb a b && eqb c d) ≡ false → ¬ ((a ≡ b) × (c ≡ d))
-both_no a b c d e h = let z : true ≡ false = sym (rw (eq-eqb a b h.0, eq-eqb c d h.1)) ∙ e in never z
-  where
-    never : true ≡ false → ⊥
-    never z = subst (λ (x : Bool). T x) z tt
-
-pub both_yes : (a b c d : ℕ) → (eqb a b && eqb c d) ≡ true → (a ≡ b) × (c ≡ d)
-both_yes a b c d e = let t : T (eqb a b && eqb c d) = rw e tt in (eqb→eq a b (and_left (eqb a b) (eqb c d) t), eqb→eq c d (and_right (eqb a b) (eqb c d) t))
-
 pub told_by_holds : (limits parents used : List ℕ) (account count p l u : ℕ) (r : Bool) → p ≡ payer (at parents) (at limits) account → l ≡ at limits p → u ≡ at used p → r ≡ test (below (u + count) (suc l))
     → test (below (at used (payer (at parents) (at limits) account) + count) (suc (at limits (payer (at parents) (at limits) account)))) ≡ r
 told_by_holds limits parents used account count p l u r e f g h = sym (h ∙ (λ i. test (below ((g ∙ ap (at used) e) i + count) (suc ((f ∙ ap (at limits) e) i)))))

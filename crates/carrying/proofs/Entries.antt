@@ -3,22 +3,20 @@ use mathlib.Core.Path.{◌≡◌, refl, ap, sym, ◌∙◌}
 use mathlib.Core.Bool.{Bool, true, false}
 use mathlib.Core.List.{List}
 use mathlib.Core.Logic.{inl, inr}
-use Prim.Native.Nat.{ℕ, zero, suc, ◌+◌, ◌*◌, ◌/◌, ◌%◌, ◌<◌, ◌≤◌}
-use native.Mathlib.Nat.{mod-lt}
+use Prim.Native.Nat.{ℕ, zero, suc, ◌/◌, ◌%◌, ◌<◌, ◌≤◌}
 use native.Mathlib.Omega.{arith}
-use native.Mathlib.Decide.{ℕ_discrete}
 use lib.Dec.{T}
-use lib.ListN.{length, set, replicate, length-set}
+use lib.ListN.{length, set, length-set}
 use Rattle.tables.specs.Base.{at, if}
-use Rattle.tables.specs.Laws.{at_zeros, last, T→true, ¬T→false}
-use Rattle.tables.specs.Rule.{Holds, same, decided, is}
+use Rattle.tables.specs.Laws.{last}
+use Rattle.tables.specs.Rule.{same}
 use Rattle.tables.specs.Store.{store}
 use Rattle.tables.specs.StoreLoops.{store_same}
 use Rattle.model.specs.declared.sizes.Sizes.{Sizes}
 use Rattle.model.specs.State.{State}
 use Rattle.model.specs.Laws.Index.{split_set}
 use Rattle.model.specs.Import.{Sheet, taken, field_of, has, entry}
-use Rattle.model.specs.Laws.Fields.{field_of_holds, has_at, field_at}
+use Rattle.model.specs.Laws.Fields.{field_of_holds, has_at}
 use Rattle.carrying.specs.Seen.{entries_after}
 
 module _ (z : Sizes) (st : State) (s : ℕ) (h : Sheet) (es : List ℕ) (zeros : (p : ℕ) → at es p ≡ 0) (once : (j k : ℕ) → j < h.count → k < h.count → h.page j ≡ h.page k → j ≡ k) (pages : (k : ℕ) → k < h.count → h.page k < length es) where

@@ -10,13 +10,12 @@ use Rattle.tables.specs.Base.{at}
 use Rattle.tables.specs.Laws.{count_bound}
 use Rattle.tables.specs.Rule.{same}
 use Rattle.tables.specs.Store.{store, length_store}
-use Rattle.tables.specs.StoreLoops.{part_fits}
 use Rattle.model.specs.declared.sizes.Sizes.{Sizes}
 use Rattle.model.specs.Lines.{FREE, FILED}
 use Rattle.model.specs.State.{State, free_count}
-use Rattle.model.specs.Parts.{picked, set_part}
+use Rattle.model.specs.Parts.{picked}
 use Rattle.leaves.specs.FreeMap.{free_map_table}
-use Rattle.sheets.specs.Sheet.{words_in, place_of, page_in, word_in}
+use Rattle.sheets.specs.Sheet.{place_of, page_in, word_in}
 use Rattle.sheets.proofs.Cases.{place_room}
 use Rattle.model.specs.Import.{Sheet, sheet_of, taking, taken}
 use Rattle.model.specs.Laws.Takes.{picked_below, taken_below, left}

@@ -11,11 +11,13 @@ use Rattle.sheets.specs.Sheet.{words_in, pages_in, number_in, count_in, place_of
 use Rattle.sheets.specs.Laws.Formed.{Formed, formed}
 use Rattle.model.specs.declared.sizes.Sizes.{Sizes}
 use Rattle.model.specs.declared.frame.Pool.{Pool}
+use Rattle.model.specs.declared.refusals.Refusal.{Refusal}
 use Rattle.model.specs.State.{State}
 use Rattle.model.specs.Parts.{of_slot}
 use Rattle.model.specs.Payer.{payer}
 use Rattle.model.specs.Pool.{taken}
 use Rattle.model.specs.Questions.{import_questions}
+use Rattle.model.specs.Refusals.{number, refused, number_above}
 use Rattle.model.specs.Step.{outcome}
 use Rattle.model.specs.Laws.OwnLaws.{outcome_no}
 use Rattle.model.specs.Import.{Sheet, sheet_of, taking, entry}
@@ -28,9 +30,11 @@ module _ (z : Sizes) (s q n : ℕ) (b limits parents : List ℕ) (t : Tables) wh
   asked = first_no (import_questions z (seen_asked t.pool.free t.numbers limits parents t.highest t.used) s q n b)
 
   -- refused
-  pub import_no : (m : ℕ) → m ≡ asked → ¬ (m ≡ 0) → answered (record { refusal = m; result = 0 }) t ≡ import_of z s q n b limits parents t
+  pub import_no : (why : Refusal) → number why ≡ asked → answered (refused why) t ≡ import_of z s q n b limits parents t
   unfolding import_of
-  import_no m e d = sym (outcome_no m (number_in b) t (imported_tables z s q n b limits parents t) d) ∙ ap (λ (k : ℕ). outcome k (number_in b) t (imported_tables z s q n b limits parents t)) e
+  import_no why e =
+      sym (outcome_no (number why) (number_in b) t (imported_tables z s q n b limits parents t) (λ h. omega (arith, number_above why, h)))
+      ∙ ap (λ (k : ℕ). outcome k (number_in b) t (imported_tables z s q n b limits parents t)) e
 
   -- ── no question says no ──
   module _ (k : Importing z t.pool t.records t.maps t.states t.owners t.free_map) (e : 0 ≡ asked) where

@@ -1,7 +1,7 @@
 -- The record that an import takes, by the free map.
 use mathlib.Core.Path.{◌≡◌, refl, ap, sym, ◌∙◌}
 use mathlib.Core.List.{List}
-use Prim.Native.Nat.{ℕ, zero, suc, ◌+◌, ◌-◌, ◌*◌, ◌/◌, ◌%◌, ◌^◌, ◌<◌, ◌≤◌}
+use Prim.Native.Nat.{ℕ, zero, suc, ◌-◌, ◌/◌, ◌%◌, ◌^◌, ◌<◌}
 use native.Mathlib.Omega.{arith}
 use lib.Dec.{T, eqb, eqb→eq}
 use lib.ListN.{length, set}
@@ -13,21 +13,13 @@ use Rattle.tables.specs.Marks.{bit_of}
 use Rattle.model.specs.declared.sizes.Sizes.{Sizes}
 use Rattle.model.specs.Lines.{FREE, FILED, allowed}
 use Rattle.model.specs.State.{free_count, free_word, map_words}
-use Rattle.model.specs.Parts.{by_hand, nearest, picked}
+use Rattle.model.specs.Parts.{picked}
 use Rattle.model.specs.Laws.Index.{split_set}
 use mathlib.Core.Logic.{inl, inr}
 use Rattle.leaves.specs.FreeMap.{told_by, free_map_table, bit_on, word_inside, free_map_clear}
 use Rattle.leaves.specs.Picks.{hand_told, nearest_told}
 use Rattle.model.specs.Laws.Takes.{picked_below, picked_free}
 use Rattle.carrying.specs.Seen.{Choice}
-
--- by the hand, and near the last one
-pub by_hand_picked : (z : Sizes) (state : ℕ → ℕ) (hand a : ℕ) → a ≡ 0 → by_hand z state hand ≡ picked z state hand a
-by_hand_picked z state hand a e = ap (picked z state hand) (sym e)
-
-pub near_picked : (z : Sizes) (state : ℕ → ℕ) (hand a : ℕ) → ¬ (a ≡ 0) → nearest z state (a - 1) ≡ picked z state hand a
-near_picked z state hand zero d = absurd (d refl)
-near_picked z state hand (suc r) d = ap (nearest z state) (omega arith)
 
 picked_told : (z : Sizes) (state : ℕ → ℕ) (hand : ℕ) → 0 < z.records → (a : ℕ) → picked z (told_by (free_map_table z state)) hand a ≡ picked z state hand a
 picked_told z state hand pos zero = hand_told z state hand pos

@@ -1,15 +1,15 @@
 -- The sheet, page after page.
-use mathlib.Core.Path.{◌≡◌, refl, ap, sym, ◌∙◌}
+use mathlib.Core.Path.{◌≡◌, refl, ap, ◌∙◌}
 use mathlib.Core.List.{List, [], ◌∷◌, ◌++◌}
-use Prim.Native.Nat.{ℕ, zero, suc, ◌+◌, ◌*◌, ◌<◌, ◌≤◌}
+use Prim.Native.Nat.{ℕ, zero, suc, ◌+◌, ◌≤◌}
 use native.Mathlib.Omega.{arith}
 use native.Mathlib.Numerals.{add-one}
 use native.Mathlib.Decide.{ℕ_discrete}
 use lib.ListN.{length, length-append}
 use Rattle.sheets.specs.Sheet.{bytes, runs, field, shown_field, head, printed, laid}
 use Rattle.sheets.specs.Laws.Printed.{length_head}
-use Rattle.sheets.specs.Laws.Laying.{laid_none, laid_then, length_laid}
-use Rattle.carrying.specs.Texts.{text_of, shown_text, slot_text}
+use Rattle.sheets.specs.Laws.Laying.{laid_none, laid_then}
+use Rattle.carrying.specs.Texts.{shown_text, slot_text}
 
 module _ (pages w slot number : ℕ) (records maps : List ℕ) where
   abbrev word : ℕ → ℕ → ℕ

@@ -2,13 +2,12 @@
 use mathlib.Core.Path.{◌≡◌, refl, ap, sym, ◌∙◌, subst}
 use mathlib.Core.Bool.{Bool, true, false, not}
 use mathlib.Core.List.{List, []}
-use Prim.Native.Nat.{ℕ, zero, suc, pred, ◌+◌, ◌-◌, ◌*◌, ◌<◌, ◌≤◌}
+use Prim.Native.Nat.{ℕ, pred, ◌+◌, ◌-◌, ◌*◌, ◌≤◌}
 use native.Mathlib.Omega.{arith}
-use lib.Dec.{eqb}
 use lib.ListN.{length}
 use Rattle.tables.specs.Base.{at, if}
 use Rattle.tables.specs.Laws.{if_yes, if_no, not_zero}
-use Rattle.tables.specs.Rule.{Holds, test, each, same, told, untold, alike}
+use Rattle.tables.specs.Rule.{test, told}
 use Rattle.sheets.specs.Sheet.{blank, page_field, laid}
 use Rattle.sheets.specs.Laws.Printed.{length_page}
 use Rattle.sheets.specs.Laws.Laying.{laid_none}
@@ -27,9 +26,6 @@ module _ (w : ℕ) (records : List ℕ) (entry : ℕ) where
 
     pub room : Listed w entry records → (entry - 1) * w + w ≤ length records
     room l = subst (λ (r : ℕ). r * w + w ≤ length records) (sym before) (l (pred entry) (not_zero entry some))
-
-    pub shown_by : (b : Bool) → b ≡ test (each w (λ j. same (at records ((entry - 1) * w + j)) 0)) → not b ≡ not (test (blank w (text_of w records entry)))
-    shown_by b e = ap not (e ∙ alike (each w (λ j. same (at records ((entry - 1) * w + j)) 0)) (blank w (text_of w records entry)) (λ f j h. sym (text_is j) ∙ f j h) (λ f j h. text_is j ∙ f j h))
 
     pub field_is : (p : ℕ) → page_field w p (λ j. at records ((entry - 1) * w + j)) ≡ page_field w p (text_of w records entry)
     field_is p = λ i. page_field w p (λ j. text_is j i)

@@ -1,16 +1,13 @@
 -- What the code of an import leaves is what the definition leaves.
-use mathlib.Core.Path.{◌≡◌, refl, ap, sym, ◌∙◌}
-use mathlib.Core.List.{List}
-use Prim.Native.Nat.{ℕ, zero, suc, ◌%◌}
+use mathlib.Core.Path.{◌≡◌, refl, ap}
+use Prim.Native.Nat.{ℕ, zero, suc}
 use lib.ListN.{set}
 use Rattle.tables.specs.Base.{at, if}
-use Rattle.tables.specs.Store.{store}
 use Rattle.model.specs.declared.sizes.Sizes.{Sizes}
 use Rattle.model.specs.Lines.{FILED}
 use Rattle.model.specs.State.{Disk, State}
-use Rattle.model.specs.Setters.{counted}
-use Rattle.model.specs.Parts.{picked, set_part, of_slot}
-use Rattle.model.specs.Import.{Sheet, Taking, taking, taken, field_of, has, store_record, entry, store_slot, made, imported}
+use Rattle.model.specs.Parts.{picked, set_part}
+use Rattle.model.specs.Import.{Sheet, Taking, taking, taken, field_of, has, store_record, entry, made}
 use Rattle.model.specs.Ledger.{found}
 use Rattle.sheets.specs.Sheet.{printed}
 use Rattle.model.specs.Export.{exported}

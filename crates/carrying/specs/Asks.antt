@@ -1,9 +1,8 @@
--- The questions about a sheet, in the parts in which the code asks them, and what these hand back.
-use Rattle.std.specs.Prelude.{◌≡◌, List, ℕ, suc, ◌+◌}
+-- The questions about a sheet, in the parts in which the code asks them.
+use Rattle.std.specs.Prelude.{List, ℕ, suc, ◌+◌}
 use Rattle.tables.specs.Base.{at}
-use Rattle.tables.specs.Questions.{Questions, none, ask, first_no}
+use Rattle.tables.specs.Questions.{Questions, none, ask}
 use Rattle.tables.specs.Rule.{same, below, non, ◌and◌, ◌then◌}
-use Rattle.sheets.specs.Sheet.{number_in, count_in}
 use Rattle.model.specs.declared.sizes.Sizes.{Sizes}
 use Rattle.model.specs.Payer.{payer}
 
@@ -12,9 +11,3 @@ abbrev pub pages_asked : Sizes → (account words pages count free : ℕ) (limit
 pages_asked z account words pages count free limits parents used =
     let p = payer (at parents) (at limits) account in
     ask 30 (same words z.words and same pages z.pages) (ask 18 (below 0 count then below (at used p + count) (suc (at limits p))) (ask 19 (below 0 count then non (below free count)) none))
-
--- the number of the first question that fails; where none does, the sheet's own number and how many pages it has
-pub record Says (questions : Questions) (sheet : List ℕ) (refusal number count : ℕ) : Type 0 where
-  pub asked : refusal ≡ first_no questions
-  pub number_is : refusal ≡ 0 → number ≡ number_in sheet
-  pub count_is : refusal ≡ 0 → count ≡ count_in sheet

@@ -1,15 +1,15 @@
 // Export: its questions, then the sheet of the design in a slot, laid over a buffer.
 ghost use Rattle.std.specs.Prelude.{◌≡◌, not, ℕ, ◌+◌, ◌*◌, ◌≤◌, ◌<◌, length};
 ghost use Rattle.tables.specs.Rule.{test};
+ghost use Rattle.model.specs.Refusals.{answered};
 ghost use Rattle.sheets.specs.Sheet.{blank, laid, printed};
 ghost use Rattle.carrying.specs.Texts.{text_of, Listed, shown_text, slot_text, Printing};
 ghost use Rattle.carrying.specs.Exports.{Exporting, entered_export, handed, export_of};
 
 use designs::asks::ask_activate;
-use leaves::cells::at32;
+use leaves::cells::at;
 use leaves::words::all_zero;
-use model::event::Answer;
-use model::refusals::SHEET_SHORT;
+use model::refusals::Refusal;
 use model::sizes::Sizes;
 use sheets::print::{put_end, put_page, put_start};
 
@@ -18,10 +18,7 @@ fn is_shown(records: &[u32], w: usize, entry: u16) -> bool
     requires { (0 < w) × Listed w entry records.now }
     ensures { result ≡ not (test (blank w (text_of w records.now entry))) }
 {
-    if entry == 0 {
-        return false;
-    }
-    !all_zero(records, w, entry as usize - 1)
+    entry != 0 && !all_zero(records, w, usize::from(entry) - 1)
 }
 
 // The field of a page that is not all zeros; nothing of one that is. The result is where the next one starts.
@@ -38,7 +35,7 @@ fn put_shown(
     ensures buffer { buffer.new ≡ laid buffer.old from (shown_text w page (text_of w records.now entry)) }
 {
     if is_shown(records, w, entry) {
-        let start = (entry as usize - 1) * w;
+        let start = (usize::from(entry) - 1) * w;
         put_page(buffer, from, page, w, records, start);
         return from + (5 + 4 * w);
     }
@@ -52,9 +49,10 @@ fn shown_bytes(w: usize, entry: u16, records: &[u32]) -> usize
     ensures most { result ≤ 5 + 4 * w }
 {
     if is_shown(records, w, entry) {
-        return 5 + 4 * w;
+        5 + 4 * w
+    } else {
+        0
     }
-    0
 }
 
 // How many bytes the sheet takes, whatever its number is.
@@ -65,10 +63,8 @@ fn sheet_bytes(pages: usize, w: usize, slot: usize, records: &[u32], maps: &[u16
 {
     let start = slot * pages;
     let mut bytes = 17;
-    let mut p = 0;
-    while p < pages {
-        bytes += shown_bytes(w, maps[start + p], records);
-        p += 1;
+    for entry in &maps[start..start + pages] {
+        bytes += shown_bytes(w, *entry, records);
     }
     bytes
 }
@@ -90,10 +86,8 @@ fn put_sheet(
     put_start(buffer, w as u32, pages as u32, number);
     let start = slot * pages;
     let mut from = 14;
-    let mut p = 0;
-    while p < pages {
-        from = put_shown(buffer, from, p as u32, w, maps[start + p], records);
-        p += 1;
+    for (p, entry) in maps[start..start + pages].iter().enumerate() {
+        from = put_shown(buffer, from, p as u32, w, *entry, records);
     }
     put_end(buffer, from);
     from + 3
@@ -108,23 +102,16 @@ pub fn export(
     numbers: &[u32],
     maps: &[u16],
     active: &[u8],
-) -> Answer
+) -> Result<u32, Refusal>
     requires { Exporting sizes records.now maps.now }
-    ensures { handed result sheet.new ≡ export_of sizes (entered_export records numbers maps active) slot sheet.old }
+    ensures { handed (answered result) sheet.new ≡ export_of sizes (entered_export records numbers maps active) slot sheet.old }
 {
-    let refusal = ask_activate(sizes, slot, numbers, active);
-    if refusal != 0 {
-        return Answer { refusal, result: 0 };
-    }
+    ask_activate(sizes, slot, numbers, active)?;
     let bytes = sheet_bytes(sizes.pages, sizes.words, slot, records, maps);
     if sheet.len() < bytes {
-        return Answer {
-            refusal: SHEET_SHORT,
-            result: 0,
-        };
+        return Err(Refusal::SheetShort);
     }
-    let number = at32(numbers, slot);
+    let number = at(numbers, slot);
     let length = put_sheet(sheet, sizes.pages, sizes.words, slot, number, records, maps);
-    let result = length as u32;
-    Answer { refusal: 0, result }
+    Ok(length as u32)
 }

@@ -13,9 +13,9 @@ ghost use Rattle.carrying.specs.Imports.{Importing, Affords, used_more, answered
 use crate::asks::ask_import;
 use crate::pages::carry_pages;
 use crate::steps::store_slot;
-use leaves::cells::{at16, put16};
+use leaves::cells::{at, put};
 use leaves::numbers::store_highest;
-use leaves::payer::{payer_of, wide};
+use leaves::payer::payer_of;
 use leaves::pool::take;
 use model::event::Answer;
 use model::frame::Pool;
@@ -89,8 +89,8 @@ fn charge(used: &mut [u16], limits: &[u16], parents: &[u16], account: usize, cou
         return;
     }
     let payer = payer_of(parents, limits, account);
-    let pages = wide(at16(used, payer)) + count;
-    put16(used, payer, pages as u16);
+    let pages = usize::from(at(used, payer)) + count;
+    put(used, payer, pages as u16);
 }
 
 // The hand just past the last record taken (record + 1; 0 for none); so many records are free less.
@@ -137,16 +137,15 @@ pub fn import(
         ≡ import_of sizes slot account number sheet.now limits.now parents.now
         (entered_tables pool records.old numbers.old accounts.old maps.old highest.old states.old owners.old free_map.old used.old) }
 {
-    let asked = ask_import(
+    let told = match ask_import(
         sizes, slot, account, number, sheet, pool.free, numbers, limits, parents, highest, used,
-    );
-    if asked.refusal != 0 {
-        let answer = Answer {
-            refusal: asked.refusal,
-            result: 0,
-        };
-        return Imported { pool, answer };
-    }
+    ) {
+        Ok(told) => told,
+        Err(no) => {
+            let answer = Answer::from(no);
+            return Imported { pool, answer };
+        }
+    };
     let last = import_design(
         sizes,
         slot,
@@ -154,7 +153,7 @@ pub fn import(
         number,
         pool.hand as usize,
         sheet,
-        asked.count,
+        told.count,
         records,
         numbers,
         accounts,
@@ -164,13 +163,9 @@ pub fn import(
         owners,
         free_map,
     );
-    charge(used, limits, parents, account, asked.count);
-    let answer = Answer {
-        refusal: 0,
-        result: asked.number,
-    };
+    charge(used, limits, parents, account, told.count);
     Imported {
-        pool: take_all(sizes, last, asked.count, pool),
-        answer,
+        pool: take_all(sizes, last, told.count, pool),
+        answer: Answer::from(Ok(told.number)),
     }
 }

@@ -12,7 +12,7 @@ ghost use Rattle.carrying.specs.Seen.{seen, records_after, entries_after, Carryi
 
 use crate::steps::store_record;
 use crate::take::take_record;
-use leaves::cells::put16;
+use leaves::cells::put;
 use model::sizes::Sizes;
 use sheets::read::page_in;
 
@@ -41,7 +41,7 @@ fn carry_page(
     let w = sizes.words;
     let taken = take_record(sizes, slot, hand, last, states, owners, map);
     let page = page_in(sheet, w, k) as usize;
-    put16(entries, page, taken as u16);
+    put(entries, page, taken as u16);
     let target = taken as usize - 1;
     store_record(records, w, target, sheet, k);
     taken
@@ -69,12 +69,10 @@ pub fn carry_pages(
     ensures entries { entries.new ≡ entries_after sizes (seen hand states.old owners.old) slot (sheet_of sheet.now) count entries.old }
 {
     let mut last: u32 = 0;
-    let mut k = 0;
-    while k < count {
+    for k in 0..count {
         last = carry_page(
             sizes, slot, hand, last, sheet, k, records, states, owners, map, entries,
         );
-        k += 1;
     }
     last
 }

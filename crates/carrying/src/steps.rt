@@ -6,7 +6,7 @@ ghost use Rattle.tables.specs.Store.{store};
 ghost use Rattle.tables.specs.StoreLoops.{between};
 ghost use Rattle.sheets.specs.Sheet.{words_in, place_of, word_in};
 
-use leaves::cells::{put16, put32};
+use leaves::cells::put;
 use sheets::read::word_in;
 
 // So many words of the k-th page of a sheet, from the first one named on, go to their places in a record.
@@ -23,10 +23,8 @@ fn store_words(
     ensures { records.new ≡ store records.old (between (target * w + first) (target * w + first + n)) (λ i. word_in sheet.now k (i % w)) }
 {
     let start = target * w + first;
-    let mut j = 0;
-    while j < n {
+    for j in 0..n {
         records[start + j] = word_in(sheet, w, k, first + j);
-        j += 1;
     }
 }
 
@@ -36,6 +34,7 @@ pub fn store_record(records: &mut [u32], w: usize, target: usize, sheet: &[u8], 
     ensures { records.new ≡ store records.old (λ i. same (i / w) target) (λ i. word_in sheet.now k (i % w)) }
 {
     let mut j = 0;
+    // No `for`: a step takes eight words.
     while w - j >= 8 {
         store_words(records, w, target, sheet, k, j, 8);
         j += 8;
@@ -49,11 +48,7 @@ fn store_map(maps: &mut [u16], pages: usize, slot: usize, entries: &[u16])
     ensures { maps.new ≡ store maps.old (λ i. same (i / pages) slot) (λ i. at entries.now (i % pages)) }
 {
     let start = slot * pages;
-    let mut p = 0;
-    while p < pages {
-        maps[start + p] = entries[p];
-        p += 1;
-    }
+    maps[start..start + pages].copy_from_slice(&entries[..pages]);
 }
 
 // One store, the last: number, account and whole map.
@@ -72,7 +67,7 @@ pub fn store_slot(
     ensures accounts { accounts.new ≡ set accounts.old slot account }
     ensures maps { maps.new ≡ store maps.old (λ i. same (i / pages) slot) (λ i. at entries.now (i % pages)) }
 {
-    put32(numbers, slot, number);
-    put16(accounts, slot, account);
+    put(numbers, slot, number);
+    put(accounts, slot, account);
     store_map(maps, pages, slot, entries);
 }

@@ -6,7 +6,7 @@ ghost use Rattle.model.specs.Parts.{picked};
 ghost use Rattle.leaves.specs.FreeMap.{told_by, free_map_table};
 ghost use Rattle.carrying.specs.Seen.{Choice};
 
-use leaves::cells::put8;
+use leaves::cells::put;
 use leaves::marks::clear_mark;
 use leaves::near::nearest;
 use leaves::pool::by_hand;
@@ -44,6 +44,6 @@ pub fn take_record(
     let taken = choose(sizes, map, hand, last);
     clear_mark(map, taken);
     move_record(states, taken, FILED);
-    put8(owners, taken, slot as u8);
+    put(owners, taken, slot as u8);
     (taken + 1) as u32
 }

@@ -10,7 +10,7 @@ ghost use Rattle.model.specs.Laws.Fit.{Within};
 ghost use Rattle.chips.specs.Seen.{Places, dropped};
 
 use crate::place::place_of;
-use leaves::cells::at8;
+use leaves::cells::at;
 use leaves::words::clear_part;
 use model::lines::LIVE;
 use model::sizes::Sizes;
@@ -40,10 +40,7 @@ pub fn drop_one(sizes: Sizes, r: usize, chip_words: &mut [u32], chip_records: &m
 fn is_stale(entry: u16, states: &[u8]) -> bool
     ensures { result ≡ test (names entry (λ r. non (same (at states.now r) LIVE))) }
 {
-    if entry == 0 {
-        return false;
-    }
-    at8(states, entry as usize - 1) != LIVE
+    entry != 0 && at(states, entry as usize - 1) != LIVE
 }
 
 // The copies of all records that are not live go.
@@ -51,11 +48,9 @@ pub fn drop_stale(sizes: Sizes, states: &[u8], chip_words: &mut [u32], chip_reco
     requires { Within sizes × Places sizes chip_words.old chip_records.old }
     ensures { (next : List ℕ) → chip_of chip_words.new chip_records.new next ≡ only_live sizes (at states.now) (chip_of chip_words.old chip_records.old next) }
 {
-    let mut place = 0;
-    while place < sizes.chip {
+    for place in 0..sizes.chip {
         if is_stale(chip_records[place], states) {
             empty_place(sizes, place, chip_words, chip_records);
         }
-        place += 1;
     }
 }

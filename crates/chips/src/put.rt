@@ -15,10 +15,7 @@ fn after(place: usize, places: usize) -> usize
     requires { place < places }
     ensures { result ≡ suc place % places }
 {
-    if place + 1 == places {
-        return 0;
-    }
-    place + 1
+    (place + 1) % places
 }
 
 // The record's words at a place.

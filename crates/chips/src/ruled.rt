@@ -8,24 +8,11 @@ ghost use Rattle.model.specs.Laws.Fit.{Within, ChipFit};
 ghost use Rattle.rules.specs.Passes.{distinct};
 ghost use Rattle.chips.specs.Seen.{Places, Kept, place_kept, chip_given, chip_entered};
 
-use leaves::cells::at16;
+use leaves::cells::at;
 use leaves::words::all_zero;
 use model::lines::LIVE;
 use model::sizes::Sizes;
-
-// w words of a from i up, and of b from j up: all are looked at, so that many are compared at once.
-fn equal(a: &[u32], i: usize, b: &[u32], j: usize, w: usize) -> bool
-    requires { (i + w ≤ length a.now) × (j + w ≤ length b.now) }
-    ensures { result ≡ test (each w (λ k. same (at a.now (i + k)) (at b.now (j + k)))) }
-{
-    let mut ok = true;
-    let mut k = 0;
-    while k < w {
-        ok = ok & (a[i + k] == b[j + k]);
-        k += 1;
-    }
-    ok
-}
+use rules::clean::equal;
 
 // Whether no two places have copies of one record, and each of a record that there is: one mark a record.
 fn named_once(sizes: Sizes, chip_records: &[u16]) -> bool
@@ -70,20 +57,10 @@ fn places_ok(
     requires { Kept sizes records.now states.now chip_words.now × (length chip_records.now ≡ sizes.chip) × Holds (fit sizes.chip sizes.records (at chip_records.now)) }
     ensures { result ≡ test (each sizes.chip (λ b. place_kept sizes (at states.now) (at records.now) (at chip_words.now) b (at chip_records.now b))) }
 {
-    let n = sizes.chip;
-    let mut place = 0;
-    while place < n {
-        if place_ok(
-            sizes,
-            place,
-            chip_records[place],
-            records,
-            states,
-            chip_words,
-        ) {} else {
+    for (place, entry) in chip_records.iter().enumerate() {
+        if !place_ok(sizes, place, *entry, records, states, chip_words) {
             return false;
         }
-        place += 1;
     }
     true
 }
@@ -102,11 +79,11 @@ pub fn chip_ruled(
         and copy_empty sizes (at states.now) (at records.now) (chip_entered chip_words.now chip_records.now chip_next.now)
         and copy_live sizes (at states.now) (at records.now) (chip_entered chip_words.now chip_records.now chip_next.now)) }
 {
-    let next = at16(chip_next, 0);
+    let next = at(chip_next, 0);
     if next as usize >= sizes.chip {
         return false;
     }
-    if named_once(sizes, chip_records) {} else {
+    if !named_once(sizes, chip_records) {
         return false;
     }
     places_ok(sizes, records, states, chip_words, chip_records)

@@ -7,7 +7,7 @@ ghost use Rattle.leaves.specs.Packed.{frames_in};
 ghost use Rattle.chips.specs.Seen.{Awaiting, entered_take, chip_by};
 
 use crate::place::place_of;
-use leaves::cells::at16;
+use leaves::cells::at;
 use leaves::packed::{frame_at, put_frame};
 use leaves::queue::push_front;
 use leaves::words::copy_part;
@@ -19,10 +19,7 @@ fn named(entry: u16) -> usize
     ensures within { result < 65535 }
     ensures is { result ≡ pred entry }
 {
-    if entry == 0 {
-        return 0;
-    }
-    entry as usize - 1
+    usize::from(entry).saturating_sub(1)
 }
 
 // The record of the page that an entry names.
@@ -30,7 +27,7 @@ pub fn record_of(addresses: &[u16], page: u16) -> usize
     ensures within { result < 65535 }
     ensures is { result ≡ pred (at addresses.now (pred page)) }
 {
-    named(at16(addresses, named(page)))
+    named(at(addresses, named(page)))
 }
 
 // The page is newly in service: initial on, used and modified off.

@@ -12,6 +12,8 @@ use Rattle.model.specs.declared.sizes.Sizes.{Sizes}
 use Rattle.model.specs.declared.event.Design.{Design}
 use Rattle.model.specs.declared.event.Design.TheVariants.{Create, Delete, Activate, Deactivate}
 use Rattle.model.specs.declared.event.Event.TheVariants as Event
+use Rattle.model.specs.declared.refusals.Refusal.{Refusal}
+use Rattle.model.specs.Refusals.{number, refused, number_above}
 use Rattle.model.specs.Lines.{FILED, LIVE, led, allowed}
 use Rattle.model.specs.State.{State}
 use Rattle.model.specs.Setters.{counted}
@@ -20,7 +22,7 @@ use Rattle.model.specs.Questions.{questions}
 use Rattle.model.specs.Designs
 use Rattle.model.specs.Step.{Outcome, carried, result}
 use Rattle.model.specs.Laws.Own.{own}
-use Rattle.model.specs.Laws.OwnLaws.{own_yes}
+use Rattle.model.specs.Laws.OwnLaws.{own_yes, own_no}
 
 -- the two lines
 pub filed_live : T (allowed FILED LIVE)
@@ -33,10 +35,15 @@ live_filed = complete (led LIVE FILED) (6, omega arith, (refl, refl))
 
 module _ (z : Sizes) (st : State) where
   -- carried out, with no result
-  pub carried_out_holds : (d : Design) (n : ℕ) → n ≡ first_no (questions z st (Event.Design d)) → n ≡ 0
+  pub carried_out_holds : (d : Design) → 0 ≡ first_no (questions z st (Event.Design d))
       → ◌≡◌ {A = Outcome State} (record { answer = record { refusal = 0; result = 0 }; left = carried z st (Event.Design d) }) (own z st (Event.Design d))
   unfolding result
-  carried_out_holds d n q e = own_yes z st (Event.Design d) n q e
+  carried_out_holds d q = own_yes z st (Event.Design d) 0 q refl
+
+  -- refused: nothing is changed
+  pub refused_holds : (d : Design) (e : Refusal) → number e ≡ first_no (questions z st (Event.Design d))
+      → ◌≡◌ {A = Outcome State} (record { answer = refused e; left = st }) (own z st (Event.Design d))
+  refused_holds d e q = let above = number_above e in own_no z st (Event.Design d) (number e) q (λ h. omega (arith, above, h))
 
   pub create_numbers : (s q n : ℕ) → set st.disk.numbers s n ≡ (carried z st (Event.Design (Create s q n))).disk.numbers
   unfolding carried Designs.create counted

@@ -8,7 +8,6 @@ use native.Mathlib.Decide.{ℕ_discrete}
 use lib.Dec.{T, ltb, ltb→lt}
 use lib.ListN.{set}
 use lib.Seq.{get_or-set_other}
-use Rattle.tables.specs.Base.{at}
 use Rattle.tables.specs.Laws.{if_no}
 use Rattle.tables.specs.Questions.{Asked}
 use Rattle.tables.specs.Rule.{test}

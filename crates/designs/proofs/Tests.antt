@@ -17,9 +17,6 @@ use Rattle.designs.specs.Asks.{unframed}
 pub two_yes : (a b c d : ℕ) → (ltb a b && ltb c d) ≡ true → Holds (below a b and below c d)
 two_yes a b c d = said_yes (below a b and below c d) (two_below a b c d)
 
-pub two_no : (a b c d : ℕ) → (ltb a b && ltb c d) ≡ false → ¬ Holds (below a b and below c d)
-two_no a b c d = said_no (below a b and below c d) (two_below a b c d)
-
 pub three_yes : (a b c d e f : ℕ) → (ltb a b && (ltb c d && ltb e f)) ≡ true → Holds (below a b and below c d and below e f)
 three_yes a b c d e f = said_yes (below a b and below c d and below e f) (three_below a b c d e f)
 

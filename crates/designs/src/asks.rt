@@ -1,10 +1,11 @@
-// The questions about a design, in parts: each part answers 0, or the number of its first question that fails.
+// The questions about a design, in parts: each part finds its first question that fails.
 ghost use Rattle.std.specs.Prelude.{◌≡◌, [], ◌<◌, ◌≤◌, length};
 ghost use Rattle.tables.specs.Questions.{first_no};
 ghost use Rattle.tables.specs.Rule.{test};
 ghost use Rattle.model.specs.declared.event.Design.TheVariants as Design;
 ghost use Rattle.model.specs.declared.event.Event.TheVariants as Event;
 ghost use Rattle.model.specs.Laws.Fit.{Within};
+ghost use Rattle.model.specs.Refusals.{said};
 ghost use Rattle.model.specs.Questions.{questions};
 ghost use Rattle.leaves.specs.Packed.{frames_entered};
 ghost use Rattle.designs.specs.Asks.{new_number, held_asked};
@@ -13,24 +14,19 @@ ghost use Rattle.designs.specs.Seen.{seen_create, seen_files, seen_turns, entere
 use crate::frames::none_framed;
 use crate::maps::{map_true, map_zero, records_settled};
 use leaves::asks::{ask_filled, ask_idle};
-use leaves::cells::{at8, at32};
+use leaves::cells::at;
 use leaves::numbers::HIGH;
-use model::refusals::{
-    ACTIVE, MAP_NOT_EMPTY, MAP_OLD, NO_RANGE, NUMBER_GIVEN, NUMBER_HIGH, NUMBER_TAKEN, PAGES_IN,
-    SLOT_FILLED,
-};
+use model::refusals::Refusal;
 use model::sizes::Sizes;
 
 // Whether the number stands in no slot.
 pub fn number_new(slots: usize, numbers: &[u32], number: u32) -> bool
     ensures { result ≡ test (new_number slots numbers.now number) }
 {
-    let mut s = 0;
-    while s < slots {
-        if at32(numbers, s) == number {
+    for s in 0..slots {
+        if at(numbers, s) == number {
             return false;
         }
-        s += 1;
     }
     true
 }
@@ -43,58 +39,63 @@ pub fn ask_create(
     number: u32,
     numbers: &[u32],
     highest: &[u32],
-) -> u32
-    ensures { result ≡ first_no (questions sizes (seen_create numbers.now [] highest.now) (Event.Design (Design.Create slot account number))) }
+) -> Result<(), Refusal>
+    ensures { said result ≡ first_no (questions sizes (seen_create numbers.now [] highest.now) (Event.Design (Design.Create slot account number))) }
 {
     let in_range = (slot < sizes.slots) & ((account < sizes.accounts) & (0 < number));
-    if in_range {} else {
-        return NO_RANGE;
+    if !in_range {
+        return Err(Refusal::NoRange);
     }
-    if number < HIGH {} else {
-        return NUMBER_HIGH;
+    if number >= HIGH {
+        return Err(Refusal::NumberHigh);
     }
-    if at32(numbers, slot) != 0 {
-        return SLOT_FILLED;
+    if at(numbers, slot) != 0 {
+        return Err(Refusal::SlotFilled);
     }
-    if number_new(sizes.slots, numbers, number) {} else {
-        return NUMBER_TAKEN;
+    if !number_new(sizes.slots, numbers, number) {
+        return Err(Refusal::NumberTaken);
     }
-    if at32(highest, 0) < number {} else {
-        return NUMBER_GIVEN;
+    if at(highest, 0) >= number {
+        return Err(Refusal::NumberGiven);
     }
-    0
+    Ok(())
 }
 
 // Questions 3, 4, 7 and 9.
-pub fn ask_delete(sizes: Sizes, slot: usize, numbers: &[u32], maps: &[u16], active: &[u8]) -> u32
+pub fn ask_delete(
+    sizes: Sizes,
+    slot: usize,
+    numbers: &[u32],
+    maps: &[u16],
+    active: &[u8],
+) -> Result<(), Refusal>
     requires { Within sizes }
-    ensures { result ≡ first_no (questions sizes (seen_files numbers.now [] maps.now active.now) (Event.Design (Design.Delete slot))) }
+    ensures { said result ≡ first_no (questions sizes (seen_files numbers.now [] maps.now active.now) (Event.Design (Design.Delete slot))) }
 {
-    let no = ask_filled(slot < sizes.slots, slot, numbers);
-    if no != 0 {
-        return no;
+    ask_filled(slot < sizes.slots, slot, numbers)?;
+    if !map_zero(maps, sizes.pages, slot) {
+        return Err(Refusal::MapNotEmpty);
     }
-    if map_zero(maps, sizes.pages, slot) {} else {
-        return MAP_NOT_EMPTY;
+    if at(active, slot) == 1 {
+        return Err(Refusal::Active);
     }
-    if at8(active, slot) == 1 {
-        return ACTIVE;
-    }
-    0
+    Ok(())
 }
 
 // Questions 3, 4 and 9.
-pub fn ask_activate(sizes: Sizes, slot: usize, numbers: &[u32], active: &[u8]) -> u32
-    ensures { result ≡ first_no (questions sizes (seen_turns [] numbers.now [] [] [] [] active.now []) (Event.Design (Design.Activate slot))) }
+pub fn ask_activate(
+    sizes: Sizes,
+    slot: usize,
+    numbers: &[u32],
+    active: &[u8],
+) -> Result<(), Refusal>
+    ensures { said result ≡ first_no (questions sizes (seen_turns [] numbers.now [] [] [] [] active.now []) (Event.Design (Design.Activate slot))) }
 {
-    let no = ask_filled(slot < sizes.slots, slot, numbers);
-    if no != 0 {
-        return no;
+    ask_filled(slot < sizes.slots, slot, numbers)?;
+    if at(active, slot) == 1 {
+        return Err(Refusal::Active);
     }
-    if at8(active, slot) == 1 {
-        return ACTIVE;
-    }
-    0
+    Ok(())
 }
 
 // Questions 11 and 12.
@@ -106,20 +107,20 @@ pub fn ask_held(
     addresses: &[u16],
     states: &[u8],
     owners: &[u8],
-) -> u32
+) -> Result<(), Refusal>
     requires { Within sizes × (slot < sizes.slots) × (length states.now ≤ length owners.now) }
-    ensures { result ≡ first_no (held_asked sizes slot (frames_entered sizes frames) maps.now addresses.now states.now owners.now) }
+    ensures { said result ≡ first_no (held_asked sizes slot (frames_entered sizes frames) maps.now addresses.now states.now owners.now) }
 {
-    if none_framed(frames, sizes.frames, sizes.pages, slot) {} else {
-        return PAGES_IN;
+    if !none_framed(frames, sizes.frames, sizes.pages, slot) {
+        return Err(Refusal::PagesIn);
     }
-    if map_true(maps, addresses, states, sizes.pages, slot) {} else {
-        return MAP_OLD;
+    if !map_true(maps, addresses, states, sizes.pages, slot) {
+        return Err(Refusal::MapOld);
     }
-    if records_settled(sizes.records, states, owners, slot) {} else {
-        return MAP_OLD;
+    if !records_settled(sizes.records, states, owners, slot) {
+        return Err(Refusal::MapOld);
     }
-    0
+    Ok(())
 }
 
 // Questions 3, 4, 8, 10, 11 and 12.
@@ -134,13 +135,10 @@ pub fn ask_deactivate(
     owners: &[u8],
     active: &[u8],
     updating: &[u8],
-) -> u32
+) -> Result<(), Refusal>
     requires { Within sizes × (length states.now ≤ length owners.now) }
-    ensures { result ≡ first_no (questions sizes (entered_deactivate (frames_entered sizes frames) numbers.now maps.now addresses.now states.now owners.now active.now updating.now) (Event.Design (Design.Deactivate slot))) }
+    ensures { said result ≡ first_no (questions sizes (entered_deactivate (frames_entered sizes frames) numbers.now maps.now addresses.now states.now owners.now active.now updating.now) (Event.Design (Design.Deactivate slot))) }
 {
-    let no = ask_idle(slot < sizes.slots, slot, numbers, active, updating);
-    if no != 0 {
-        return no;
-    }
+    ask_idle(slot < sizes.slots, slot, numbers, active, updating)?;
     ask_held(sizes, slot, frames, maps, addresses, states, owners)
 }

@@ -4,11 +4,12 @@ ghost use Rattle.model.specs.declared.event.Design.TheVariants as Design;
 ghost use Rattle.model.specs.declared.event.Event.TheVariants as Event;
 ghost use Rattle.model.specs.Laws.Fit.{Within};
 ghost use Rattle.model.specs.Laws.Own.{own};
+ghost use Rattle.model.specs.Refusals.{answered};
 ghost use Rattle.designs.specs.Seen.{entered_create};
 
 use crate::asks::ask_create;
 use leaves::numbers::{fill_slot, store_highest};
-use model::event::Answer;
+use model::refusals::Refusal;
 use model::sizes::Sizes;
 
 pub fn create(
@@ -19,21 +20,15 @@ pub fn create(
     numbers: &mut [u32],
     accounts: &mut [u16],
     highest: &mut [u32],
-) -> Answer
+) -> Result<u32, Refusal>
     requires { Within sizes }
-    ensures answer { result ≡ (own sizes (entered_create numbers.old accounts.old highest.old) (Event.Design (Design.Create slot account number))).answer }
+    ensures answer { answered result ≡ (own sizes (entered_create numbers.old accounts.old highest.old) (Event.Design (Design.Create slot account number))).answer }
     ensures numbers { numbers.new ≡ (own sizes (entered_create numbers.old accounts.old highest.old) (Event.Design (Design.Create slot account number))).left.disk.numbers }
     ensures accounts { accounts.new ≡ (own sizes (entered_create numbers.old accounts.old highest.old) (Event.Design (Design.Create slot account number))).left.disk.accounts }
     ensures highest { highest.new ≡ (own sizes (entered_create numbers.old accounts.old highest.old) (Event.Design (Design.Create slot account number))).left.disk.highest }
 {
-    let refusal = ask_create(sizes, slot, account, number, numbers, highest);
-    if refusal != 0 {
-        return Answer { refusal, result: 0 };
-    }
+    ask_create(sizes, slot, account, number, numbers, highest)?;
     store_highest(highest, number);
     fill_slot(slot, account as u16, number, numbers, accounts);
-    Answer {
-        refusal: 0,
-        result: 0,
-    }
+    Ok(0)
 }

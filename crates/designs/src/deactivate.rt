@@ -3,16 +3,17 @@ ghost use Rattle.std.specs.Prelude.{◌≡◌};
 ghost use Rattle.model.specs.declared.event.Design.TheVariants as Design;
 ghost use Rattle.model.specs.declared.event.Event.TheVariants as Event;
 ghost use Rattle.model.specs.Laws.Own.{own};
+ghost use Rattle.model.specs.Refusals.{answered};
 ghost use Rattle.leaves.specs.Packed.{frames_entered};
 ghost use Rattle.designs.specs.Needs.{Turning};
 ghost use Rattle.designs.specs.Seen.{entered_deactivate};
 
 use crate::asks::ask_deactivate;
-use leaves::cells::put8;
+use leaves::cells::put;
 use leaves::slots::clear_slot;
 use leaves::states::move_all;
-use model::event::Answer;
 use model::lines::{FILED, LIVE};
+use model::refusals::Refusal;
 use model::sizes::Sizes;
 
 pub fn deactivate(
@@ -26,24 +27,18 @@ pub fn deactivate(
     owners: &[u8],
     active: &mut [u8],
     updating: &[u8],
-) -> Answer
+) -> Result<u32, Refusal>
     requires { Turning sizes maps.now addresses.old states.old owners.now }
-    ensures answer { result ≡ (own sizes (entered_deactivate (frames_entered sizes frames) numbers.now maps.now addresses.old states.old owners.now active.old updating.now) (Event.Design (Design.Deactivate slot))).answer }
+    ensures answer { answered result ≡ (own sizes (entered_deactivate (frames_entered sizes frames) numbers.now maps.now addresses.old states.old owners.now active.old updating.now) (Event.Design (Design.Deactivate slot))).answer }
     ensures addresses { addresses.new ≡ (own sizes (entered_deactivate (frames_entered sizes frames) numbers.now maps.now addresses.old states.old owners.now active.old updating.now) (Event.Design (Design.Deactivate slot))).left.memory.held.addresses }
     ensures states { states.new ≡ (own sizes (entered_deactivate (frames_entered sizes frames) numbers.now maps.now addresses.old states.old owners.now active.old updating.now) (Event.Design (Design.Deactivate slot))).left.memory.held.states }
     ensures active { active.new ≡ (own sizes (entered_deactivate (frames_entered sizes frames) numbers.now maps.now addresses.old states.old owners.now active.old updating.now) (Event.Design (Design.Deactivate slot))).left.memory.slots.active }
 {
-    let refusal = ask_deactivate(
+    ask_deactivate(
         sizes, slot, frames, numbers, maps, addresses, states, owners, active, updating,
-    );
-    if refusal != 0 {
-        return Answer { refusal, result: 0 };
-    }
+    )?;
     clear_slot(addresses, sizes.pages, slot);
     move_all(states, owners, slot, LIVE, FILED);
-    put8(active, slot, 0);
-    Answer {
-        refusal: 0,
-        result: 0,
-    }
+    put(active, slot, 0);
+    Ok(0)
 }

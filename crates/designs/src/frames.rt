@@ -13,14 +13,12 @@ pub fn none_framed(frames: &[u64], count: usize, pages: usize, slot: usize) -> b
 {
     let start = slot * pages;
     let end = start + pages + 1;
-    let mut f = 0;
-    while f < count {
+    for f in 0..count {
         let frame = frame_at(frames, f);
         let page = frame.page as usize;
         if (start < page) & (page < end) {
             return false;
         }
-        f += 1;
     }
     true
 }

@@ -4,7 +4,7 @@ ghost use Rattle.tables.specs.Rule.{test};
 ghost use Rattle.designs.specs.Asks.{zero_map, true_map, settled_record, settled};
 
 use leaves::addresses::live_address;
-use leaves::cells::at16;
+use leaves::cells::at;
 use model::lines::{NULLED, RELEASED};
 
 // Whether the slot's map is all 0.
@@ -13,12 +13,10 @@ pub fn map_zero(maps: &[u16], pages: usize, slot: usize) -> bool
     ensures { result ≡ test (zero_map maps.now pages slot) }
 {
     let start = slot * pages;
-    let mut p = 0;
-    while p < pages {
-        if at16(maps, start + p) != 0 {
+    for p in 0..pages {
+        if at(maps, start + p) != 0 {
             return false;
         }
-        p += 1;
     }
     true
 }
@@ -29,26 +27,14 @@ pub fn map_true(maps: &[u16], addresses: &[u16], states: &[u8], pages: usize, sl
     ensures { result ≡ test (true_map maps.now addresses.now states.now pages slot) }
 {
     let start = slot * pages;
-    let mut p = 0;
-    while p < pages {
-        let entry = at16(maps, start + p);
+    for p in 0..pages {
+        let entry = at(maps, start + p);
         let live = live_address(addresses, states, start + p);
         if entry != live {
             return false;
         }
-        p += 1;
     }
     true
-}
-
-// The smaller of two.
-fn smaller(a: usize, b: usize) -> usize
-    ensures { (result ≤ a) × (result ≤ b) × (result < a → result ≡ b) }
-{
-    if a < b {
-        return a;
-    }
-    b
 }
 
 // Whether the record is not the slot's, or neither nulled nor released.
@@ -63,16 +49,13 @@ pub fn records_settled(records: usize, states: &[u8], owners: &[u8], slot: usize
     requires { length states.now ≤ length owners.now }
     ensures { result ≡ test (settled records states.now owners.now slot) }
 {
-    if slot > 255 {
+    let Ok(own) = u8::try_from(slot) else {
         return true;
-    }
-    let own = slot as u8;
-    let end = smaller(records, states.len());
+    };
+    let end = records.min(states.len());
     let mut all = true;
-    let mut r = 0;
-    while r < end {
-        all = all & is_settled(states[r], owners[r], own);
-        r += 1;
+    for r in 0..end {
+        all &= is_settled(states[r], owners[r], own);
     }
     all
 }

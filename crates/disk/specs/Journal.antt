@@ -1,9 +1,9 @@
 -- The journal for C: areas of 125 sectors, a number for each of its cases, and the answers where it has none.
-use Rattle.std.specs.Prelude.{List, ℕ, ltb, leb, length}
+use Rattle.std.specs.Prelude.{List, ℕ, ltb, leb, length, Option, Some, None, Result, Ok, Err}
 use Rattle.tables.specs.Base.{if}
 use Rattle.journal.specs.declared.Ask.{Ask}
-use Rattle.journal.specs.declared.Look.{Look}
-use Rattle.journal.specs.declared.Recovery.{Recovery}
+use Rattle.journal.specs.declared.Committed.{Committed}
+use Rattle.journal.specs.declared.Refusal.{Refusal}
 use Rattle.journal.specs.Device.{Content}
 use Rattle.journal.specs.Layout.{most_homes, area_at, home_at, commit_words}
 use Rattle.disk.specs.declared.stores.Step.{Step}
@@ -21,16 +21,19 @@ step_of Ask.Sync = record { what = 2; number = 0 }
 step_of Ask.Commit = record { what = 3; number = 0 }
 step_of (Ask.Home i) = record { what = 4; number = i }
 
-abbrev pub recovery_of : Recovery → Step
-recovery_of Recovery.Done = record { what = 0; number = 0 }
-recovery_of (Recovery.Copy i) = record { what = 5; number = i }
+abbrev pub recovery_of : Option ℕ → Step
+recovery_of None = record { what = 0; number = 0 }
+recovery_of (Some i) = record { what = 5; number = i }
 
-abbrev pub found_of : Look → Found
-found_of (Look.Store n count) = record { what = 0; sequence = n; count = count }
-found_of Look.Foreign = record { what = 1; sequence = 0; count = 0 }
-found_of Look.TooMany = record { what = 2; sequence = 0; count = 0 }
-found_of Look.NoHome = record { what = 3; sequence = 0; count = 0 }
-found_of Look.NotZero = record { what = 4; sequence = 0; count = 0 }
+abbrev pub refusal_number : Refusal → ℕ
+refusal_number Refusal.Foreign = 1
+refusal_number Refusal.TooMany = 2
+refusal_number Refusal.NoHome = 3
+refusal_number Refusal.NotZero = 4
+
+abbrev pub found_of : Result Committed Refusal → Found
+found_of (Ok s) = record { what = 0; sequence = s.sequence; count = s.count }
+found_of (Err e) = record { what = refusal_number e; sequence = 0; count = 0 }
 
 -- ── where there is none ──
 -- content i of store n; 0, the commit's sector, past the area

@@ -7,14 +7,8 @@ fn fill_bytes(bytes: &mut [u8], words: &[u32; 128])
     requires { length bytes.old ≡ 512 }
     ensures { bytes.new ≡ bytes_of words.now }
 {
-    let mut i = 0;
-    while i < 128 {
-        let v = words[i];
-        bytes[4 * i] = (v % 256) as u8;
-        bytes[4 * i + 1] = (v / 256 % 256) as u8;
-        bytes[4 * i + 2] = (v / 65536 % 256) as u8;
-        bytes[4 * i + 3] = (v / 16777216 % 256) as u8;
-        i += 1;
+    for i in 0..128 {
+        bytes[4 * i..4 * i + 4].copy_from_slice(&words[i].to_le_bytes());
     }
 }
 
@@ -23,10 +17,12 @@ fn number_at(bytes: &[u8], from: usize) -> u32
     requires { from + 4 ≤ length bytes.now }
     ensures { result ≡ number_at bytes.now from }
 {
-    bytes[from] as u32
-        + bytes[from + 1] as u32 * 256
-        + bytes[from + 2] as u32 * 65536
-        + bytes[from + 3] as u32 * 16777216
+    u32::from_le_bytes([
+        bytes[from],
+        bytes[from + 1],
+        bytes[from + 2],
+        bytes[from + 3],
+    ])
 }
 
 // The words of 512 bytes.
@@ -34,10 +30,8 @@ fn fill_words(words: &mut [u32], bytes: &[u8])
     requires { (length words.old ≡ 128) × (length bytes.now ≡ 512) }
     ensures { words.new ≡ words_of bytes.now }
 {
-    let mut i = 0;
-    while i < 128 {
+    for i in 0..128 {
         words[i] = number_at(bytes, 4 * i);
-        i += 1;
     }
 }
 

@@ -1,5 +1,5 @@
 // The header sector: filled for given sizes, looked at, and the sizes that it says.
-ghost use Rattle.std.specs.Prelude.{◌≡◌, ◌≤◌, length, replicate};
+ghost use Rattle.std.specs.Prelude.{◌≡◌, ◌≤◌, length};
 ghost use Rattle.tables.specs.Base.{if};
 ghost use Rattle.tables.specs.Rule.{test, Holds};
 ghost use Rattle.layout.specs.Laid.{header};
@@ -13,7 +13,7 @@ const MAGIC2: u32 = 0x4B534944;
 
 const VERSION: u32 = 5;
 
-// What a look at the header sector finds, for given sizes.
+// What a look at the header sector finds, for given sizes. All that is read of it is its number for C: so it is no Result.
 #[derive(Drop)]
 pub enum Header {
     // the header of a disk of these sizes
@@ -56,24 +56,12 @@ pub fn sizes_fit(sizes: Sizes) -> bool
     disk.within()
 }
 
-// All zeros.
-fn clear(words: &mut [u32])
-    requires { length words.old ≡ 128 }
-    ensures { words.new ≡ replicate 128 0 }
-{
-    let mut i = 0;
-    while i < 128 {
-        words[i] = 0;
-        i += 1;
-    }
-}
-
 // The header of these sizes.
 fn fill(words: &mut [u32], sizes: Sizes)
     requires { (length words.old ≡ 128) × Holds (disk_fits sizes) }
     ensures { words.new ≡ header sizes }
 {
-    clear(words);
+    words.fill(0);
     words[0] = MAGIC1;
     words[1] = MAGIC2;
     words[2] = VERSION;
@@ -102,15 +90,7 @@ fn zeros_from(words: &[u32], from: usize) -> bool
     requires { (length words.now ≡ 128) × (from ≤ 128) }
     ensures { result ≡ test (zeros_from from words.now) }
 {
-    let rest = 128 - from;
-    let mut i = 0;
-    while i < rest {
-        if words[from + i] == 0 {} else {
-            return false;
-        }
-        i += 1;
-    }
-    true
+    words[from..].iter().all(|word| *word == 0)
 }
 
 // The sizes in the header are these.
@@ -141,13 +121,13 @@ fn look(words: &[u32], sizes: Sizes) -> Header
     if words[2] != VERSION {
         return Header::OtherVersion;
     }
-    if zeros_from(words, 8) {
-        if sizes_in(words, sizes) {
-            return Header::Ours;
-        }
+    if !zeros_from(words, 8) {
+        return Header::Foreign;
+    }
+    if !sizes_in(words, sizes) {
         return Header::OtherSizes;
     }
-    Header::Foreign
+    Header::Ours
 }
 
 // The number of what a look found.

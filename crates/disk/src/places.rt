@@ -79,11 +79,8 @@ fn before_table(sizes: Sizes, count: usize) -> usize
     ensures { result ≡ before sizes count }
 {
     let mut sum = 1;
-    let mut t = 0;
-    while t < count {
-        let more = sectors_of(sizes, t);
-        sum += more;
-        t += 1;
+    for t in 0..count {
+        sum += sectors_of(sizes, t);
     }
     sum
 }

@@ -69,10 +69,8 @@ fn fill_u32(words: &mut [u32], table: &[u32], start: usize, count: usize)
     requires { (length words.old ≡ 128) × (start + 128 < 18446744073709551616) }
     ensures { words.new ≡ tab 128 (λ j. if (ltb j count) (at table.now (start + j)) 0) 0 }
 {
-    let mut j = 0;
-    while j < 128 {
+    for j in 0..128 {
         words[j] = word_of_u32(table, start, count, j);
-        j += 1;
     }
 }
 
@@ -80,10 +78,8 @@ fn fill_u16(words: &mut [u32], table: &[u16], start: usize, count: usize)
     requires { (length words.old ≡ 128) × (start + 128 < 18446744073709551616) }
     ensures { words.new ≡ tab 128 (λ j. if (ltb j count) (at table.now (start + j)) 0) 0 }
 {
-    let mut j = 0;
-    while j < 128 {
+    for j in 0..128 {
         words[j] = word_of_u16(table, start, count, j);
-        j += 1;
     }
 }
 
@@ -110,11 +106,7 @@ fn end_of(start: usize, count: usize, len: usize) -> usize
     requires { start + count < 18446744073709551616 }
     ensures { End start count len result }
 {
-    let end = start + count;
-    if len < end {
-        return len;
-    }
-    end
+    len.min(start + count)
 }
 
 // The entries from `start` up to `end`.
@@ -122,10 +114,8 @@ fn take_u32(table: &mut [u32], words: &[u32], start: usize, end: usize)
     requires { (end ≤ length table.old) × (end ≤ start + length words.now) }
     ensures { table.new ≡ store table.old (between start end) (λ i. at words.now (i - start)) }
 {
-    let mut i = start;
-    while i < end {
+    for i in start..end {
         table[i] = words[i - start];
-        i += 1;
     }
 }
 
@@ -133,10 +123,8 @@ fn take_u16(table: &mut [u16], words: &[u32], start: usize, end: usize)
     requires { (end ≤ length table.old) × (end ≤ start + length words.now) × ((j : ℕ) → j < length words.now → at words.now j < 65536) }
     ensures { table.new ≡ store table.old (between start end) (λ i. at words.now (i - start)) }
 {
-    let mut i = start;
-    while i < end {
+    for i in start..end {
         table[i] = words[i - start] as u16;
-        i += 1;
     }
 }
 
@@ -145,14 +133,7 @@ fn all_halves(words: &[u32]) -> bool
     requires { length words.now ≡ 128 }
     ensures { result ≡ test (halves words.now) }
 {
-    let mut j = 0;
-    while j < 128 {
-        if words[j] < 65536 {} else {
-            return false;
-        }
-        j += 1;
-    }
-    true
+    words.iter().all(|word| *word < 65536)
 }
 
 // A sector's entries put into the table; its other entries stay.

@@ -2,9 +2,9 @@
 ghost use Rattle.std.specs.Prelude.{◌≡◌};
 ghost use Rattle.journal.specs.Layout.{next_sequence};
 ghost use Rattle.journal.specs.Steps.{asked, looked, recovers};
-ghost use Rattle.disk.specs.Journal.{most, step_of, recovery_of, found_of, area_of, home_of, commit_answer, commit_left};
+ghost use Rattle.disk.specs.Journal.{most, step_of, recovery_of, refusal_number, found_of, area_of, home_of, commit_answer, commit_left};
 
-use journal::{Ask, Look, Recovery};
+use journal::{Ask, Committed, Refusal};
 
 // How many sectors an area has: as many as a commit sector can name.
 const MOST: u32 = 125;
@@ -90,32 +90,28 @@ pub extern "C" fn disk_fill_commit(sequence: u32, homes: &[u32], words: &mut [u3
     1
 }
 
-fn look_numbers(look: Look) -> Found
+fn refusal_number(refusal: Refusal) -> u32
+    ensures { result ≡ refusal_number refusal }
+{
+    match refusal {
+        Refusal::Foreign => 1,
+        Refusal::TooMany => 2,
+        Refusal::NoHome => 3,
+        Refusal::NotZero => 4,
+    }
+}
+
+fn look_numbers(look: Result<Committed, Refusal>) -> Found
     ensures { result ≡ found_of look }
 {
     match look {
-        Look::Store(sequence, count) => Found {
+        Ok(store) => Found {
             what: 0,
-            sequence,
-            count,
+            sequence: store.sequence,
+            count: store.count,
         },
-        Look::Foreign => Found {
-            what: 1,
-            sequence: 0,
-            count: 0,
-        },
-        Look::TooMany => Found {
-            what: 2,
-            sequence: 0,
-            count: 0,
-        },
-        Look::NoHome => Found {
-            what: 3,
-            sequence: 0,
-            count: 0,
-        },
-        Look::NotZero => Found {
-            what: 4,
+        Err(refusal) => Found {
+            what: refusal_number(refusal),
             sequence: 0,
             count: 0,
         },
@@ -130,12 +126,12 @@ pub extern "C" fn disk_look_commit(words: &[u32; 128], room: u32) -> Found
     look_numbers(journal::journal_look(words, MOST, room))
 }
 
-fn recovery_numbers(ask: Recovery) -> Step
-    ensures { result ≡ recovery_of ask }
+fn recovery_numbers(next: Option<u32>) -> Step
+    ensures { result ≡ recovery_of next }
 {
-    match ask {
-        Recovery::Done => Step { what: 0, number: 0 },
-        Recovery::Copy(i) => Step { what: 5, number: i },
+    match next {
+        None => Step { what: 0, number: 0 },
+        Some(i) => Step { what: 5, number: i },
     }
 }
 

@@ -5,9 +5,7 @@ use Prim.Native.Nat.{ℕ}
 use Rattle.model.specs.declared.sizes.Sizes.{Sizes}
 use Rattle.model.specs.declared.event.Answer.{Answer}
 use Rattle.model.specs.declared.event.Event.{Event}
-use Rattle.model.specs.declared.event.Event.TheVariants as Event
 use Rattle.model.specs.declared.event.Account.TheVariants as Account
-use Rattle.model.specs.Payer as Payer
 use Rattle.model.specs.State.{State, files, frames, payer, charged, used_of}
 use Rattle.model.specs.Setters.{counted}
 use Rattle.model.specs.Accounts as Accounts

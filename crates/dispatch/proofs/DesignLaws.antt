@@ -6,7 +6,6 @@ use native.Mathlib.Omega.{arith}
 use Rattle.model.specs.declared.sizes.Sizes.{Sizes}
 use Rattle.model.specs.declared.event.Answer.{Answer}
 use Rattle.model.specs.declared.event.Event.{Event}
-use Rattle.model.specs.declared.event.Event.TheVariants as Event
 use Rattle.model.specs.declared.event.Design.TheVariants as Design
 use Rattle.model.specs.State.{State}
 use Rattle.model.specs.Setters.{counted}

@@ -15,18 +15,17 @@ use Rattle.tables.specs.Base.{if, at}
 use Rattle.tables.specs.Queue.{first}
 use Rattle.tables.specs.QueueLaws.{first_below, first_once}
 use Rattle.tables.specs.Questions.{Asked, first_no, all_yes}
-use Rattle.tables.specs.Rule.{Holds, same, test, sound, complete, told, alike}
+use Rattle.tables.specs.Rule.{Holds, same, test, sound, alike}
 use Rattle.model.specs.declared.sizes.Sizes.{Sizes}
 use Rattle.model.specs.declared.frame.Frame.{Frame}
 use Rattle.model.specs.declared.frame.Pool.{Pool}
 use Rattle.model.specs.declared.event.Answer.{Answer}
 use Rattle.model.specs.declared.event.Event.{Event}
-use Rattle.model.specs.declared.event.Event.TheVariants as Event
 use Rattle.model.specs.declared.event.Page.TheVariants as Page
 use Rattle.model.specs.Lines.{FREE, NULLED, LIVE}
-use Rattle.model.specs.State.{Core, Held, State, Files, Frames, files, frames, no_frame, frame_at, page_of, slot_of, all_pages, framed, live, charged, payer, free_count}
+use Rattle.model.specs.State.{Core, Held, State, Files, Frames, files, frames, frame_at, page_of, all_pages, live, charged, payer, free_count}
 use Rattle.model.specs.Setters.{counted}
-use Rattle.model.specs.Laws.Index.{slot_of_page, page_below}
+use Rattle.model.specs.Laws.Index.{page_below}
 use Rattle.model.specs.Questions.{questions}
 use Rattle.model.specs.Pages as Pages
 use Rattle.model.specs.Lent.{state_in, same_state}

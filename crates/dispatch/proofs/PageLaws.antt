@@ -8,7 +8,6 @@ use Rattle.model.specs.declared.sizes.Sizes.{Sizes}
 use Rattle.model.specs.declared.frame.Frame.{Frame}
 use Rattle.model.specs.declared.event.Answer.{Answer}
 use Rattle.model.specs.declared.event.Event.{Event}
-use Rattle.model.specs.declared.event.Event.TheVariants as Event
 use Rattle.model.specs.declared.event.Page.TheVariants as Page
 use Rattle.model.specs.State.{Core, State}
 use Rattle.model.specs.Setters.{on_core, set_frames, set_removal_list}

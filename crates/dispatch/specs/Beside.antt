@@ -16,7 +16,6 @@ use Rattle.model.specs.declared.event.Account.TheVariants.{Limit, Move}
 use Rattle.model.specs.declared.event.Page.TheVariants.{Fault, Read, Write, Wire, Unwire}
 use Rattle.model.specs.declared.event.Writeback.TheVariants.{Claim, Truncate, Update, PageDone, MapDone}
 use Rattle.model.specs.declared.event.Event.{Event}
-use Rattle.model.specs.declared.event.Event.TheVariants as Event
 use Rattle.model.specs.Lines.{FREE, NULLED, RELEASED}
 use Rattle.model.specs.State.{State, files, frames, READING, WRITING, LINE, all_pages, page_of, live}
 use Rattle.model.specs.Lent.{no_line}

@@ -3,13 +3,15 @@ ghost use Rattle.std.specs.Prelude.{◌≡◌};
 ghost use Rattle.model.specs.declared.event.Event.TheVariants as Event;
 ghost use Rattle.model.specs.Lent.{state_of};
 ghost use Rattle.model.specs.Laws.Own.{own, leaves};
+ghost use Rattle.model.specs.Refusals.{answered};
 ghost use Rattle.leaves.specs.Packed.{frames_in};
 ghost use Rattle.dispatch.specs.Kept.{Kept};
 
 use accounts::limit::limit;
 use accounts::shift::move_pages;
-use model::event::{Account, Answer};
+use model::event::Account;
 use model::frame::Pool;
+use model::refusals::Refusal;
 use model::sizes::Sizes;
 
 // Frames and pool stay as they were.
@@ -36,11 +38,11 @@ pub fn account_event(
     updating: &[u8],
     images: &[u16],
     used: &mut [u16],
-) -> Answer
+) -> Result<u32, Refusal>
     requires { Kept sizes
         (state_of (frames_in sizes frames.now) pool records.now numbers.now accounts.now maps.now limits.old parents.now highest.now
         frame_words.now free_queue.now removal_list.now addresses.now states.now owners.now free_map.now active.now updating.now images.now used.old) }
-    ensures { leaves result
+    ensures { leaves (answered result)
         (state_of (frames_in sizes frames.now) pool records.now numbers.now accounts.now maps.now limits.new parents.now highest.now
         frame_words.now free_queue.now removal_list.now addresses.now states.now owners.now free_map.now active.now updating.now images.now used.new)
         ≡ own sizes

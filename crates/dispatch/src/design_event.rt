@@ -3,6 +3,7 @@ ghost use Rattle.std.specs.Prelude.{◌≡◌};
 ghost use Rattle.model.specs.declared.event.Event.TheVariants as Event;
 ghost use Rattle.model.specs.Lent.{state_of};
 ghost use Rattle.model.specs.Laws.Own.{own, leaves};
+ghost use Rattle.model.specs.Refusals.{answered};
 ghost use Rattle.leaves.specs.Packed.{frames_in};
 ghost use Rattle.dispatch.specs.Kept.{Kept};
 
@@ -10,8 +11,9 @@ use designs::activate::activate;
 use designs::create::create;
 use designs::deactivate::deactivate;
 use designs::delete::delete;
-use model::event::{Answer, Design};
+use model::event::Design;
 use model::frame::Pool;
+use model::refusals::Refusal;
 use model::sizes::Sizes;
 
 // Frames and pool stay as they were.
@@ -38,11 +40,11 @@ pub fn design_event(
     updating: &[u8],
     images: &[u16],
     used: &[u16],
-) -> Answer
+) -> Result<u32, Refusal>
     requires { Kept sizes
         (state_of (frames_in sizes frames.now) pool records.now numbers.old accounts.old maps.now limits.now parents.now highest.old
         frame_words.now free_queue.now removal_list.now addresses.old states.old owners.now free_map.now active.old updating.now images.now used.now) }
-    ensures { leaves result
+    ensures { leaves (answered result)
         (state_of (frames_in sizes frames.now) pool records.now numbers.new accounts.new maps.now limits.now parents.now highest.new
         frame_words.now free_queue.now removal_list.now addresses.new states.new owners.now free_map.now active.new updating.now images.now used.now)
         ≡ own sizes

@@ -1,20 +1,22 @@
 // What an event hands back, put together with nothing taken or deposited.
 ghost use Rattle.std.specs.Prelude.{◌≡◌};
+ghost use Rattle.model.specs.Refusals.{answered};
 
 use model::applied::Worked;
 use model::event::Answer;
+use model::refusals::Refusal;
 use writeback::claim::ClaimDone;
 use writeback::map_done::Freed;
 
 // The pool stays.
-pub fn told(answer: Answer) -> Worked
-    ensures { result ≡ record { taken = 0; deposited = 0; nulled = 0; answer = answer } }
+pub fn told(found: Result<u32, Refusal>) -> Worked
+    ensures { result ≡ record { taken = 0; deposited = 0; nulled = 0; answer = answered found } }
 {
     Worked {
         taken: 0,
         deposited: 0,
         nulled: 0,
-        answer,
+        answer: Answer::from(found),
     }
 }
 

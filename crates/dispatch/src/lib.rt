@@ -3,6 +3,6 @@
 
 pub mod account_event; // limit, move
 pub mod design_event; // create, delete, activate, deactivate
-mod handed; // what an event hands back, put together
+pub mod handed; // what an event hands back, put together
 pub mod page_event; // fault, read, write, wire, unwire
 pub mod writeback_event; // claims, truncates, updates and dones

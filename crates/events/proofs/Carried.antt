@@ -1,11 +1,10 @@
 -- From what an event's own work leaves to what the event leaves: refused, all is as it was; carried out, it is tended by its chore.
-use mathlib.Core.Path.{◌≡◌, refl, ap, sym, ◌∙◌, subst}
+use mathlib.Core.Path.{◌≡◌, refl, ap, sym, ◌∙◌}
 use mathlib.Core.List.{List, [], ◌∷◌}
 use Prim.Native.Nat.{ℕ, zero, suc, ◌<◌, pred}
 use native.Mathlib.Omega.{arith}
-use native.Mathlib.Decide.{ℕ_discrete}
-use lib.Dec.{T, eqb}
-use Rattle.tables.specs.Base.{at, if}
+use lib.Dec.{eqb}
+use Rattle.tables.specs.Base.{at}
 use Rattle.tables.specs.Laws.{if_elim, not_zero}
 use lib.ListN.{length}
 use Rattle.tables.specs.Queue.{members, head, first, size}
@@ -19,7 +18,6 @@ use Rattle.model.specs.declared.event.Page.TheVariants.{Fault, Read, Write, Wire
 use Rattle.model.specs.declared.event.Writeback.TheVariants.{Claim, Truncate, Update, PageDone, MapDone}
 use Rattle.model.specs.declared.event.Waiting.TheVariants.{Join, Turn}
 use Rattle.model.specs.declared.event.Event.{Event}
-use Rattle.model.specs.declared.event.Event.TheVariants as Event
 use Rattle.model.specs.State.{Chip, State, files, frames, frame_at, NONE, READING}
 use Rattle.model.specs.Questions.{Turning, nobody, serves, goes_back, faults, claims, sends_away, turning, questions, turn_questions}
 use Rattle.model.specs.Setters.{set_chip}
@@ -36,7 +34,7 @@ use Rattle.invariant.proofs.Stands.{seat_at, moving_place}
 use Rattle.writeback.proofs.Ready.{list_room}
 use Rattle.chips.specs.Seen.{Awaiting}
 use Rattle.events.specs.declared.chore.Chore.{Chore}
-use Rattle.events.specs.declared.chore.Chore.TheVariants.{Rest, Take, Put, Drop, Forget}
+use Rattle.events.specs.declared.chore.Chore.TheVariants.{Rest, Forget}
 use Rattle.events.specs.Chores.{chore_of, tended}
 use Rattle.events.specs.Tends.{Needed, Tending}
 use Rattle.events.proofs.Chores.{whole_tended}

@@ -1,41 +1,35 @@
 -- What an event leaves, the chip with it, is what its own work leaves, tended by the chore that the tables before it tell.
 use mathlib.Core.Path.{◌≡◌, refl, ap, sym, ◌∙◌}
-use mathlib.Core.Bool.{Bool, true, false, not}
+use mathlib.Core.Bool.{Bool, true, false}
 use mathlib.Core.List.{List, []}
-use Prim.Native.Nat.{ℕ, zero, suc, ◌+◌, ◌%◌, ◌<◌, pred}
+use Prim.Native.Nat.{ℕ, suc, ◌<◌, pred}
 use native.Mathlib.Omega.{arith}
 use native.Mathlib.Decide.{ℕ_discrete}
 use lib.Dec.{T, eqb}
 use borrow.Author.Tests.{eq-eqb, ne_eqb}
 use Rattle.tables.specs.Base.{at, if}
-use Rattle.tables.specs.Queue.{members, times, size, first}
+use Rattle.tables.specs.Queue.{size, first}
 use Rattle.tables.specs.QueueLaws.{first_in, first_below}
 use Rattle.tables.specs.QueueEntries.{size_more, size_zero}
-use Rattle.tables.specs.Laws.{if_elim}
 use Rattle.tables.specs.Questions.{Questions, Asked, none, ask, first_no, yes_all}
-use Rattle.tables.specs.Rule.{Holds, test, below, decided, untold}
+use Rattle.tables.specs.Rule.{below, untold}
 use Rattle.model.specs.declared.sizes.Sizes.{Sizes}
 use Rattle.model.specs.declared.frame.Frame.{Frame}
 use Rattle.model.specs.declared.event.Design.TheVariants.{Create, Delete, Activate, Deactivate}
-use Rattle.model.specs.declared.event.Account.TheVariants.{Limit, Move}
 use Rattle.model.specs.declared.event.Page.TheVariants.{Fault, Read, Write, Wire, Unwire}
 use Rattle.model.specs.declared.event.Writeback.TheVariants.{Claim, Truncate, Update, PageDone, MapDone}
 use Rattle.model.specs.declared.event.Waiting.TheVariants.{Join, Turn}
 use Rattle.model.specs.declared.event.Event.{Event}
-use Rattle.model.specs.declared.event.Event.TheVariants as Event
-use Rattle.model.specs.Lines.{LIVE}
-use Rattle.model.specs.State.{Core, Chip, State, files, frames, frame_at, NONE, READING, slot_of}
+use Rattle.model.specs.State.{Core, Chip, State, files, frames, frame_at, NONE}
 use Rattle.model.specs.Setters.{on_core, set_chip, set_line}
-use Rattle.model.specs.Parts.{word_at}
-use Rattle.model.specs.Questions.{Turning, nobody, serves, goes_back, faults, claims, sends_away, next_page, next_fault, turning, questions, page_questions, turn_questions}
-use Rattle.model.specs.Chip.{copied, found, arrives, only_live}
-use Rattle.model.specs.Pages
+use Rattle.model.specs.Questions.{Turning, nobody, serves, goes_back, faults, claims, sends_away, next_fault, turning, questions, page_questions, turn_questions}
+use Rattle.model.specs.Chip.{found, arrives, only_live}
 use Rattle.model.specs.Pages.{fault_frame}
 use Rattle.model.specs.Writeback
 use Rattle.model.specs.Writeback.{looking, begins_write, record_in}
 use Rattle.model.specs.Line
 use Rattle.model.specs.Step.{carried, turn_faults, is_fault, supplied, filled, whole}
-use Rattle.model.specs.Laws.LineLaws.{Treats, empty, served, back, faulting, claiming, away, treats}
+use Rattle.model.specs.Laws.LineLaws.{Treats, faulting, claiming, treats}
 use Rattle.model.specs.Laws.Nulled.{claim_nulls, turn_nulls, nulled_by}
 use Rattle.model.specs.Laws.Unasked.{needless, not_asked}
 use Rattle.model.specs.Laws.Ruled.{Ruled}
@@ -45,7 +39,7 @@ use Rattle.invariant.proofs.ChipKept.{Copies}
 use Rattle.invariant.proofs.ChipLaws.{leaves, chip_stays, put_keeps, dropped, claim_drops}
 use Rattle.invariant.proofs.Stands.{seat_at, still}
 use Rattle.events.specs.declared.chore.Chore.{Chore}
-use Rattle.events.specs.declared.chore.Chore.TheVariants.{Rest, Take, Put, Drop, Forget}
+use Rattle.events.specs.declared.chore.Chore.TheVariants.{Take, Put, Forget}
 use Rattle.events.specs.Chores.{chore_of, forgotten, tended}
 
 -- all questions but the last

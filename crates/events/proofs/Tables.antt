@@ -1,5 +1,5 @@
 -- The tables that the chip's part of an event leaves, beside those that it does not look at, are the state tended.
-use mathlib.Core.Path.{◌≡◌, refl}
+use mathlib.Core.Path.{◌≡◌}
 use mathlib.Core.Bool.{Bool, true, false}
 use mathlib.Core.List.{List}
 use Prim.Native.Nat.{ℕ}

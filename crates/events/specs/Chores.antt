@@ -13,7 +13,6 @@ use Rattle.model.specs.declared.event.Writeback.TheVariants.{Claim, Truncate, Up
 use Rattle.model.specs.declared.event.Waiting.{Waiting}
 use Rattle.model.specs.declared.event.Waiting.TheVariants.{Join, Turn}
 use Rattle.model.specs.declared.event.Event.{Event}
-use Rattle.model.specs.declared.event.Event.TheVariants as Event
 use Rattle.model.specs.State.{Chip, State, files, frame_at}
 use Rattle.model.specs.Setters.{on_core, set_chip}
 use Rattle.model.specs.Parts.{word_at}

@@ -9,6 +9,7 @@ ghost use Rattle.dispatch.specs.Kept.{Kept};
 
 use dispatch::account_event::account_event;
 use dispatch::design_event::design_event;
+use dispatch::handed::told;
 use dispatch::page_event::page_event;
 use dispatch::writeback_event::writeback_event;
 use model::applied::Worked;
@@ -57,70 +58,54 @@ pub fn carry(
         frame_words.old free_queue.old removal_list.old addresses.old states.old owners.old free_map.old active.old updating.old images.old line.old used.old) event }
 {
     match event {
-        Event::Design(e) => {
-            let answer = design_event(
-                sizes,
-                e,
-                frames,
-                pool,
-                records,
-                numbers,
-                accounts,
-                maps,
-                limits,
-                parents,
-                highest,
-                frame_words,
-                free_queue,
-                removal_list,
-                addresses,
-                states,
-                owners,
-                free_map,
-                active,
-                updating,
-                images,
-                used,
-            );
-            Worked {
-                taken: 0,
-                deposited: 0,
-                nulled: 0,
-                answer,
-            }
-        }
-        Event::Account(e) => {
-            let answer = account_event(
-                sizes,
-                e,
-                frames,
-                pool,
-                records,
-                numbers,
-                accounts,
-                maps,
-                limits,
-                parents,
-                highest,
-                frame_words,
-                free_queue,
-                removal_list,
-                addresses,
-                states,
-                owners,
-                free_map,
-                active,
-                updating,
-                images,
-                used,
-            );
-            Worked {
-                taken: 0,
-                deposited: 0,
-                nulled: 0,
-                answer,
-            }
-        }
+        Event::Design(e) => told(design_event(
+            sizes,
+            e,
+            frames,
+            pool,
+            records,
+            numbers,
+            accounts,
+            maps,
+            limits,
+            parents,
+            highest,
+            frame_words,
+            free_queue,
+            removal_list,
+            addresses,
+            states,
+            owners,
+            free_map,
+            active,
+            updating,
+            images,
+            used,
+        )),
+        Event::Account(e) => told(account_event(
+            sizes,
+            e,
+            frames,
+            pool,
+            records,
+            numbers,
+            accounts,
+            maps,
+            limits,
+            parents,
+            highest,
+            frame_words,
+            free_queue,
+            removal_list,
+            addresses,
+            states,
+            owners,
+            free_map,
+            active,
+            updating,
+            images,
+            used,
+        )),
         Event::Page(e) => page_event(
             sizes,
             e,

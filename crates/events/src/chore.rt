@@ -4,7 +4,7 @@ ghost use Rattle.leaves.specs.Packed.{unpacked};
 ghost use Rattle.events.specs.Chores.{design_chore, page_chore, writeback_chore, waiting_chore, chore_of};
 
 use chips::take::record_of;
-use leaves::cells::at16;
+use leaves::cells::at;
 use leaves::packed::frame_at;
 use leaves::queue::first;
 use model::event::{Design, Event, Page, Waiting, Writeback};
@@ -25,14 +25,8 @@ fn design_chore(event: Design) -> Chore
     ensures { result ≡ design_chore event }
 {
     match event {
-        Design::Create {
-            slot: _,
-            account: _,
-            number: _,
-        } => Chore::Rest,
-        Design::Delete { slot: _ } => Chore::Rest,
-        Design::Activate { slot: _ } => Chore::Rest,
-        Design::Deactivate { slot: _ } => Chore::Drop,
+        Design::Create { .. } | Design::Delete { .. } | Design::Activate { .. } => Chore::Rest,
+        Design::Deactivate { .. } => Chore::Drop,
     }
 }
 
@@ -41,22 +35,12 @@ fn page_chore(event: Page, free_queue: &[u16]) -> Chore
     ensures { result ≡ page_chore free_queue.now event }
 {
     match event {
-        Page::Fault { slot: _, page: _ } => Chore::Take {
+        Page::Fault { .. } => Chore::Take {
             frame: first(free_queue),
         },
-        Page::Read {
-            slot: _,
-            page: _,
-            word: _,
-        } => Chore::Rest,
-        Page::Write {
-            slot: _,
-            page: _,
-            word: _,
-            value: _,
-        } => Chore::Rest,
-        Page::Wire { slot: _, page: _ } => Chore::Rest,
-        Page::Unwire { slot: _, page: _ } => Chore::Rest,
+        Page::Read { .. } | Page::Write { .. } | Page::Wire { .. } | Page::Unwire { .. } => {
+            Chore::Rest
+        }
     }
 }
 
@@ -66,8 +50,8 @@ fn writeback_chore(event: Writeback, frames: &[u64], addresses: &[u16]) -> Chore
 {
     match event {
         Writeback::Claim => Chore::Forget,
-        Writeback::Truncate { slot: _, count: _ } => Chore::Drop,
-        Writeback::Update { slot: _ } => Chore::Rest,
+        Writeback::Truncate { .. } => Chore::Drop,
+        Writeback::Update { .. } => Chore::Rest,
         Writeback::PageDone { frame, good } => {
             if good == 1 {
                 let old = frame_at(frames, frame);
@@ -77,7 +61,7 @@ fn writeback_chore(event: Writeback, frames: &[u64], addresses: &[u16]) -> Chore
             }
             Chore::Rest
         }
-        Writeback::MapDone { slot: _, good: _ } => Chore::Rest,
+        Writeback::MapDone { .. } => Chore::Rest,
     }
 }
 
@@ -86,9 +70,9 @@ fn waiting_chore(event: Waiting, free_queue: &[u16]) -> Chore
     ensures { result ≡ waiting_chore free_queue.now event }
 {
     match event {
-        Waiting::Join { slot: _, page: _ } => Chore::Rest,
+        Waiting::Join { .. } => Chore::Rest,
         Waiting::Turn => {
-            if at16(free_queue, 0) == 0 {
+            if at(free_queue, 0) == 0 {
                 return Chore::Forget;
             }
             Chore::Take {

@@ -30,7 +30,7 @@ const WIDTHS: [[usize; 4]; TAGS] = [
     [0, 0, 0, 0],
 ];
 
-// What stands at a place of the input.
+// What stands at a place of the input. Two cases are good, and the end is no refusal: so it is no Result.
 #[derive(Drop)]
 pub enum Field {
     // Nothing: the input ends here.
@@ -59,10 +59,8 @@ fn number_at(s: &[u8], from: usize, n: usize) -> u32
     ensures { result ≡ number n 0 s.now from }
 {
     let mut value: u64 = 0;
-    let mut k = 0;
-    while k < n {
-        value = value * 256 + (s[from + k] as u64);
-        k = k + 1;
+    for byte in &s[from..from + n] {
+        value = value * 256 + (*byte as u64);
     }
     value as u32
 }
@@ -108,7 +106,7 @@ pub fn field_at(s: &[u8], place: usize) -> Field
         return Field::End;
     }
     let tag = s[place] as usize;
-    if is_tag(tag) {} else {
+    if !is_tag(tag) {
         return Field::Wrong;
     }
     let left = s.len() - place;

@@ -1,4 +1,6 @@
 -- A list of requests keeps both sets of rules and all lengths; so after one yes to questions 1 and 2 each request is answered by its own questions alone.
+use Rattle.model.specs.declared.event.Event.{Event}
+use Rattle.std.specs.Prelude.{Option, Some, None}
 use mathlib.Core.Path.{◌≡◌, refl, ap, ◌∙◌}
 use mathlib.Core.List.{List}
 use Prim.Native.Nat.{ℕ, zero, suc}
@@ -7,8 +9,6 @@ use Rattle.tables.specs.Rule.{same, test}
 use Rattle.model.specs.declared.sizes.Sizes.{Sizes}
 use Rattle.model.specs.declared.event.Answer.{Answer}
 use Rattle.model.specs.declared.request.Request.{Request}
-use Rattle.model.specs.declared.request.Decoded.{Decoded}
-use Rattle.model.specs.declared.request.Decoded.TheVariants.{Known, Unknown}
 use Rattle.model.specs.State.{State}
 use Rattle.model.specs.Rules.{all_rules}
 use Rattle.model.specs.Requests.{decoded}
@@ -21,24 +21,24 @@ use Rattle.invariant.proofs.Kept.{kept}
 
 -- ── one request ──
 -- by its own questions; a kind that is no event fails 3
-abbrev pub owned : Sizes → State → Decoded → Outcome State
-owned z st (Known e) = own_whole z st e
-owned z st Unknown = refusal 3 st
+abbrev pub owned : Sizes → State → Option Event → Outcome State
+owned z st (Some e) = own_whole z st e
+owned z st None = refusal 3 st
 
 module _ (z : Sizes) (st : State) (g : Good z st) where
-  by_own : (d : Decoded) → step_of z st d ≡ owned z st d
+  by_own : (d : Option Event) → step_of z st d ≡ owned z st d
   unfolding step_of unknown first_no test
-  by_own (Known e) = step_own z st e g.0 g.1
-  by_own Unknown = ap (λ (n : ℕ). outcome n 0 st st) (first_yes 1 (all_fit z st) (ask 2 (all_rules z st) (ask 3 (same 0 1) none)) g.0 ∙ first_yes 2 (all_rules z st) (ask 3 (same 0 1) none) g.1)
+  by_own (Some e) = step_own z st e g.0 g.1
+  by_own None = ap (λ (n : ℕ). outcome n 0 st st) (first_yes 1 (all_fit z st) (ask 2 (all_rules z st) (ask 3 (same 0 1) none)) g.0 ∙ first_yes 2 (all_rules z st) (ask 3 (same 0 1) none) g.1)
 
   pub apply_own : (r : Request) → apply z st r ≡ owned z st (decoded r)
   unfolding apply
   apply_own r = by_own (decoded r)
 
-  kept_step : (d : Decoded) → Good z (step_of z st d).left
+  kept_step : (d : Option Event) → Good z (step_of z st d).left
   unfolding step_of unknown
-  kept_step (Known e) = kept z st e g
-  kept_step Unknown = go (first_no (asked z st (ask 3 (same 0 1) none)))
+  kept_step (Some e) = kept z st e g
+  kept_step None = go (first_no (asked z st (ask 3 (same 0 1) none)))
     where
       go : (n : ℕ) → Good z (outcome n 0 st st).left
       go zero = g

@@ -1,4 +1,5 @@
 -- "The sum of all limits is the same after any moves; only the limit event and format alter it": over every event and every list of acts.
+use Rattle.std.specs.Prelude.{Option, Some, None}
 use mathlib.Core.Path.{◌≡◌, refl, ap, sym, ◌∙◌}
 use mathlib.Core.Bool.{Bool, true, false, not, ◌&&◌}
 use mathlib.Core.Logic.{inl, inr}
@@ -41,8 +42,6 @@ use Rattle.sheets.specs.Sheet.{count_in}
 use Rattle.model.specs.Import.{sheet_of, store_record, store_slot, import_answer}
 use Rattle.model.specs.Stores as S
 use Rattle.model.specs.Stores.{Call, stores, by_answer, made, first}
-use Rattle.model.specs.declared.request.Decoded.{Decoded}
-use Rattle.model.specs.declared.request.Decoded.TheVariants.{Known, Unknown}
 use Rattle.model.specs.Requests.{decoded, decoded_number}
 use Rattle.model.specs.Calls.{unknown, step_of, apply}
 use Rattle.model.specs.ApplyAll.{request_at, request_count, turned, after, apply_all}
@@ -202,10 +201,10 @@ limits_sums z w [] t = refl
 limits_sums z w (a ∷ acts) t = limits_sums z (act z w a) acts (and_right (no_limit a) (no_limits acts) t) ∙ act_sum z w a (and_left (no_limit a) (no_limits acts) t)
 
 -- ── a list of requests in one call ──
-apply_sum : (z : Sizes) (st : State) (d : Decoded) → T (not (asks_limit d)) → Sum st (step_of z st d).left
+apply_sum : (z : Sizes) (st : State) (d : Option Event) → T (not (asks_limit d)) → Sum st (step_of z st d).left
 unfolding step_of unknown
-apply_sum z st (Known e) t = limits_sum z st e t
-apply_sum z st Unknown t = go (first_no (asked z st (ask (decoded_number Unknown) (same 0 1) none)))
+apply_sum z st (Some e) t = limits_sum z st e t
+apply_sum z st None t = go (first_no (asked z st (ask (decoded_number None) (same 0 1) none)))
   where
     go : (n : ℕ) → Sum st (outcome n 0 st st).left
     go zero = refl

@@ -1,4 +1,5 @@
 -- Paper 02, wish 4: "No event but its done, a cut or a restart changes the words of a frame in transfer." Over every event, request, page look and list of acts.
+use Rattle.std.specs.Prelude.{Option, Some, None}
 use mathlib.Core.Path.{◌≡◌, refl, ap, sym, ◌∙◌}
 use mathlib.Core.Bool.{not}
 use mathlib.Core.List.{List, [], ◌∷◌}
@@ -25,8 +26,6 @@ use Rattle.model.specs.declared.event.Waiting.TheVariants.{Join, Turn}
 use Rattle.model.specs.declared.event.Event.{Event}
 use Rattle.model.specs.declared.event.Event.TheVariants as Event
 use Rattle.model.specs.declared.request.Request.{Request}
-use Rattle.model.specs.declared.request.Decoded.{Decoded}
-use Rattle.model.specs.declared.request.Decoded.TheVariants.{Known, Unknown}
 use Rattle.model.specs.State.{Core, Chip, State, files, frames, no_frame, frame_at, NONE, READING, page_of, framed, live}
 use Rattle.model.specs.Setters.{on_core, set_chip, counted, set_used_switch}
 use Rattle.model.specs.Questions.{questions}
@@ -247,9 +246,9 @@ transfer_words_apply z st q g f t o = go (decoded q) o
     refused zero = same_core z st st f refl
     refused (suc n) = same_core z st st f refl
 
-    go : (d : Decoded) → T (not (asks_done f d)) → Untouched z st (step_of z st d).left f
-    go (Known e) h = transfer_words z st e g f t h
-    go Unknown h = refused (first_no (asked z st (ask (decoded_number Unknown) (same 0 1) none)))
+    go : (d : Option Event) → T (not (asks_done f d)) → Untouched z st (step_of z st d).left f
+    go (Some e) h = transfer_words z st e g f t h
+    go None h = refused (first_no (asked z st (ask (decoded_number None) (same 0 1) none)))
 
 -- an import touches no frame
 import_untouched : (z : Sizes) (st : State) (s q n : ℕ) (b : List ℕ) (f : ℕ) → Untouched z st (import z st s q n b).left f

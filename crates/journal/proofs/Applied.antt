@@ -1,8 +1,8 @@
 -- The theorems applied: two stores, a kill with the second commit open, a cut inside the recovery; and the same with a cut that loses that commit. Home at the end is shown.
-use Rattle.std.proofs.Common.{◌≡◌, ℕ, Bool, false, ◌⊎◌, List, [], ◌∷◌, ◌++◌, refl, ap, ◌∙◌}
+use Rattle.std.proofs.Common.{◌≡◌, ℕ, Bool, false, ◌⊎◌, List, [], ◌∷◌, ◌++◌, Ok, Err, refl, ap, ◌∙◌}
 use Rattle.tables.specs.Base.{all, tab}
 use Rattle.tables.specs.Rule.{test}
-use Rattle.journal.specs.declared.Look.TheVariants as Look
+use Rattle.journal.specs.declared.Refusal.TheVariants.{Foreign, TooMany, NoHome, NotZero}
 use Rattle.journal.specs.Device.{Content, Sectors, sector_words, landed, now, carry, cut}
 use Rattle.journal.specs.Layout.{Store, MAGIC, odd, next_sequence, area_at, home_at, zeros, commit_words, homes_of, commit_of, fits, valid, named}
 use Rattle.journal.specs.Journal.{Protocol, journal, planned, syncs, to_area, to_home, read_back, idle, World, sequence, Act, begin, cutting, killing, look, go_on, take_up, act, run, opened, start}
@@ -107,11 +107,11 @@ foreign_stays acts = (untouched 2 4 0 old acts zeros_foreign).0
 abbrev sector : (magic count home behind : ℕ) → Content
 sector magic count home behind = magic ∷ 7 ∷ count ∷ home ∷ 1 ∷ behind ∷ zeros 122
 
-pub looks : (looked 2 4 (sector MAGIC 2 3 0) ≡ Look.Store 7 2) × (looked 2 4 (sector 0 2 3 0) ≡ Look.Foreign) × (looked 2 4 (sector MAGIC 3 3 0) ≡ Look.TooMany) × (looked 2 4 (sector MAGIC 2 4 0) ≡ Look.NoHome) × (looked 2 4 (sector MAGIC 2 3 1) ≡ Look.NotZero)
+pub looks : (looked 2 4 (sector MAGIC 2 3 0) ≡ Ok (record { sequence = 7; count = 2 })) × (looked 2 4 (sector 0 2 3 0) ≡ Err Foreign) × (looked 2 4 (sector MAGIC 3 3 0) ≡ Err TooMany) × (looked 2 4 (sector MAGIC 2 4 0) ≡ Err NoHome) × (looked 2 4 (sector MAGIC 2 3 1) ≡ Err NotZero)
 unfolding looked test all zeros
 looks = (refl, refl, refl, refl, refl)
 
 -- areas larger than a commit sector can name
-pub looks_over : looked 200 200 (MAGIC ∷ 7 ∷ 126 ∷ zeros 125) ≡ Look.TooMany
+pub looks_over : looked 200 200 (MAGIC ∷ 7 ∷ 126 ∷ zeros 125) ≡ Err TooMany
 unfolding looked
 looks_over = refl

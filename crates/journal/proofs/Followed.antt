@@ -1,10 +1,9 @@
 -- What the step functions ask, one after another, is what the protocol does: nothing else, and in that order.
-use Rattle.std.proofs.Common.{◌≡◌, ℕ, zero, suc, ◌+◌, ◌-◌, ◌<◌, ◌≤◌, Bool, List, [], ◌∷◌, ◌++◌, length, get_or, sym, refl, ap, ◌∙◌, ap₂, le_of_suc-le-suc, not-suc-le-zero, arith, le-ltb, lt-ltb}
+use Rattle.std.proofs.Common.{◌≡◌, ℕ, zero, suc, ◌+◌, ◌-◌, ◌<◌, ◌≤◌, Bool, List, [], ◌∷◌, ◌++◌, length, Some, None, get_or, sym, refl, ap, ◌∙◌, ap₂, le_of_suc-le-suc, not-suc-le-zero, arith, le-ltb, lt-ltb}
 use native.Mathlib.Decide.{dec_lt}
 use Rattle.tables.specs.Base.{if, at}
 use Rattle.tables.specs.Laws.{at_tab0, length_tab}
 use Rattle.journal.specs.declared.Ask.TheVariants.{Done}
-use Rattle.journal.specs.declared.Recovery.TheVariants as Recovery
 use Rattle.journal.specs.Device.{Sectors, put, Op, write, sync}
 use Rattle.journal.specs.Layout.{Store, area_at, home_at, named}
 use Rattle.journal.specs.Journal.{journal, planned, syncs, to_area, to_home, commit, read_back}
@@ -98,10 +97,10 @@ module _ (most : ℕ) (f : Sectors) (c : List ℕ) where
       let r : at (named c) i ≡ at c (3 + i) = at_tab0 (at c 2) (λ k. at c (3 + k)) i 0 l in
       copied most f (area_at most (at c 1)) 0 (named c) i (omega (arith, l, length_tab (at c 2) (λ k. at c (3 + k)) 0))
       ∙ ap₂ (λ (x j : ℕ). write (record { place = home_at most x; words = f (area_at most (at c 1) j) })) r e
-      ∙ ap (copying most f c) (ap (λ (b : Bool). if b (Recovery.Copy i) Recovery.Done) (sym (lt-ltb i (at c 2) l)))
+      ∙ ap (copying most f c) (ap (λ (b : Bool). if b (Some i) None) (sym (lt-ltb i (at c 2) l)))
 
   -- and then it is done
-  pub recovery_done : (i : ℕ) → length way ≤ i → recovers (at c 2) i ≡ Recovery.Done
+  pub recovery_done : (i : ℕ) → length way ≤ i → recovers (at c 2) i ≡ None
   unfolding recovers
   recovery_done i h = rw (le-ltb i (at c 2) (omega (arith, h, way_length)))
 

@@ -3,3 +3,4 @@ pub mod Sequence
 pub mod Commits
 pub mod Asks
 pub mod Looks
+pub mod Each

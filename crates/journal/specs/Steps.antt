@@ -1,13 +1,12 @@
 -- The step functions: what is asked of the firmware for a store and in a recovery, one operation after another, and what each means.
-use Rattle.std.specs.Prelude.{ℕ, zero, suc, ◌+◌, ◌-◌, Bool, true, false, List, [], ◌==◌, nat_lt, slice_index_or}
+use Rattle.std.specs.Prelude.{ℕ, zero, suc, ◌+◌, ◌-◌, Bool, true, false, List, [], ◌==◌, nat_lt, slice_index_or, Option, Some, None, Result, Ok, Err}
 use Rattle.tables.specs.Base.{if, at}
 use Rattle.tables.specs.Rule.{test}
 use Rattle.journal.specs.declared.Ask.{Ask}
 use Rattle.journal.specs.declared.Ask.TheVariants.{Content, Commit, Sync, Home, Done}
-use Rattle.journal.specs.declared.Look.{Look}
-use Rattle.journal.specs.declared.Look.TheVariants as Look
-use Rattle.journal.specs.declared.Recovery.{Recovery}
-use Rattle.journal.specs.declared.Recovery.TheVariants as Recovery
+use Rattle.journal.specs.declared.Committed.{Committed}
+use Rattle.journal.specs.declared.Refusal.{Refusal}
+use Rattle.journal.specs.declared.Refusal.TheVariants.{Foreign, TooMany, NoHome, NotZero}
 use Rattle.journal.specs.Device.{Sectors, Write, Op, write, sync}
 use Rattle.journal.specs.Layout.{Store, commit_at, MAGIC, area_at, home_at, commit_of, count_fits, homes_there, zeros_behind}
 
@@ -37,26 +36,23 @@ meant most n s Done = sync
 
 -- ── a recovery ──
 -- What a recovery finds in a commit sector: a store, or the first reason to refuse it.
-unfoldable pub looked : ℕ → ℕ → List ℕ → Look
+unfoldable pub looked : ℕ → ℕ → List ℕ → Result Committed Refusal
 looked most room c =
-    let behind = if (test (zeros_behind (at c 2) c)) (Look.Store (at c 1) (at c 2)) Look.NotZero in
-    let homes = if (test (homes_there (at c 2) room c)) behind Look.NoHome in
-    let count = if (count_fits most (at c 2)) homes Look.TooMany in
-    if (at c 0 == MAGIC) count Look.Foreign
+    let behind = if (test (zeros_behind (at c 2) c)) (Ok (record { sequence = at c 1; count = at c 2 })) (Err NotZero) in
+    let homes = if (test (homes_there (at c 2) room c)) behind (Err NoHome) in
+    let count = if (count_fits most (at c 2)) homes (Err TooMany) in
+    if (at c 0 == MAGIC) count (Err Foreign)
 
 -- it found a store
-unfoldable pub is_store : Look → Bool
-is_store (Look.Store n count) = true
-is_store Look.Foreign = false
-is_store Look.TooMany = false
-is_store Look.NoHome = false
-is_store Look.NotZero = false
+unfoldable pub is_store : Result Committed Refusal → Bool
+is_store (Ok s) = true
+is_store (Err e) = false
 
--- What is asked in a recovery of a store of `count` contents, of which `at` are home.
-unfoldable pub recovers : ℕ → ℕ → Recovery
-recovers count at = if (nat_lt at count) (Recovery.Copy at) Recovery.Done
+-- The content that is to be copied next in a recovery of a store of `count` contents, of which `at` are home.
+unfoldable pub recovers : ℕ → ℕ → Option ℕ
+recovers count at = if (nat_lt at count) (Some at) None
 
--- The operation that it stands for, by the commit sector c and the sectors f that are read. `Done` stands for none, as above.
-unfoldable pub copying : ℕ → Sectors → List ℕ → Recovery → Op
-copying most f c (Recovery.Copy i) = write (record { place = home_at most (at c (3 + i)); words = f (area_at most (at c 1) i) })
-copying most f c Recovery.Done = sync
+-- The operation that it stands for, by the commit sector c and the sectors f that are read. None stands for none, as above.
+unfoldable pub copying : ℕ → Sectors → List ℕ → Option ℕ → Op
+copying most f c (Some i) = write (record { place = home_at most (at c (3 + i)); words = f (area_at most (at c 1) i) })
+copying most f c None = sync

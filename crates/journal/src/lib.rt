@@ -8,8 +8,6 @@ ghost use Rattle.journal.specs.Layout.{next_sequence, area_at, home_at, commit_w
 ghost use Rattle.journal.specs.Steps.{asked, looked, recovers};
 
 const MAGIC: u32 = 0x4A524E4C;
-// how many home sectors a commit sector has words for
-const MOST_HOMES: usize = 125;
 
 // What the firmware is to do next for a store. Contents and home sectors are named by their number in the store.
 #[derive(Drop)]
@@ -75,45 +73,29 @@ pub fn journal_home(most: u32, x: u32) -> u32
     1 + most + most + x
 }
 
-// An entry, and 0 past the end.
-fn entry_or_zero(entries: &[u32], i: usize) -> u32
-    ensures { result ≡ at entries.now i }
-{
-    if i < entries.len() {
-        return entries[i];
-    }
-    0
-}
-
-// All words of a commit sector, zeros behind the last home sector.
-fn fill_commit(words: &mut [u32], sequence: u32, homes: &[u32])
-    requires { (length words.old ≡ 128) × (length homes.now ≤ 125) }
-    ensures { words.new ≡ commit_words sequence homes.now }
-{
-    let mut i = 0;
-    while i < MOST_HOMES {
-        words[3 + i] = entry_or_zero(homes, i);
-        i += 1;
-    }
-    words[0] = MAGIC;
-    words[1] = sequence;
-    words[2] = homes.len() as u32;
-}
-
-// The commit sector of store `sequence` with these home sectors.
+// The commit sector of store `sequence` with these home sectors, zeros behind the last.
 pub fn journal_commit(words: &mut [u32; 128], sequence: u32, homes: &[u32])
     requires { length homes.now ≤ 125 }
     ensures { words.new ≡ commit_words sequence homes.now }
 {
-    fill_commit(words, sequence, homes);
+    words.fill(0);
+    words[0] = MAGIC;
+    words[1] = sequence;
+    words[2] = homes.len() as u32;
+    words[3..3 + homes.len()].copy_from_slice(homes);
 }
 
-// What a recovery finds in the commit sector, once it has synced.
+// What a recovery finds in the commit sector, once it has synced: a store that is whole in its area.
 #[derive(Drop)]
-pub enum Look {
-    // the sequence number and the count of a store that is whole in its area
-    Store(u32, u32),
-    // Refused, and nothing is to be written: no journal wrote this sector,
+pub struct Committed {
+    pub sequence: u32,
+    pub count: u32,
+}
+
+// Why the commit sector is refused, and nothing is to be written:
+#[derive(Drop)]
+pub enum Refusal {
+    // no journal wrote this sector,
     Foreign,
     // .. it names more contents than an area has sectors, or than it has words for,
     TooMany,
@@ -128,14 +110,7 @@ fn homes_there(words: &[u32; 128], count: usize, room: u32) -> bool
     requires { count ≤ 125 }
     ensures { result ≡ test (homes_there count room words.now) }
 {
-    let mut i = 0;
-    while i < count {
-        if words[3 + i] < room {} else {
-            return false;
-        }
-        i += 1;
-    }
-    true
+    words[3..3 + count].iter().all(|home| *home < room)
 }
 
 // Every word behind them is zero.
@@ -143,55 +118,42 @@ fn zeros_behind(words: &[u32; 128], count: usize) -> bool
     requires { count ≤ 125 }
     ensures { result ≡ test (zeros_behind count words.now) }
 {
-    let rest = MOST_HOMES - count;
-    let mut i = 0;
-    while i < rest {
-        if words[3 + count + i] == 0 {} else {
-            return false;
-        }
-        i += 1;
-    }
-    true
+    words[3 + count..].iter().all(|word| *word == 0)
 }
 
 // The look at the commit sector, whatever it holds, for areas of `most` sectors and `room` home sectors.
-pub fn journal_look(words: &[u32; 128], most: u32, room: u32) -> Look
+pub fn journal_look(words: &[u32; 128], most: u32, room: u32) -> Result<Committed, Refusal>
     ensures { result ≡ looked most room words.now }
 {
     let count = words[2];
     if words[0] != MAGIC {
-        return Look::Foreign;
+        return Err(Refusal::Foreign);
     }
     if count > most {
-        return Look::TooMany;
+        return Err(Refusal::TooMany);
     }
     if count > 125 {
-        return Look::TooMany;
+        return Err(Refusal::TooMany);
     }
-    if homes_there(words, count as usize, room) {
-        if zeros_behind(words, count as usize) {
-            return Look::Store(words[1], count);
-        }
-        return Look::NotZero;
+    if !homes_there(words, count as usize, room) {
+        return Err(Refusal::NoHome);
     }
-    Look::NoHome
+    if !zeros_behind(words, count as usize) {
+        return Err(Refusal::NotZero);
+    }
+    Ok(Committed {
+        sequence: words[1],
+        count,
+    })
 }
 
-// What is to be done next in a recovery, once the look has found a store.
-#[derive(Drop)]
-pub enum Recovery {
-    // read this content from its area and write it to its home sector
-    Copy(u32),
-    // the journal is ready
-    Done,
-}
-
-// A recovery of a store of `count` contents, of which `at` are home.
-pub fn journal_recover(count: u32, at: u32) -> Recovery
+// In a recovery of a store of `count` contents, of which `at` are home: the content that is to be read from its area and
+// written to its home sector next; none once the journal is ready.
+pub fn journal_recover(count: u32, at: u32) -> Option<u32>
     ensures { result ≡ recovers count at }
 {
     if at < count {
-        return Recovery::Copy(at);
+        return Some(at);
     }
-    Recovery::Done
+    None
 }

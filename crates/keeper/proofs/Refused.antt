@@ -1,4 +1,6 @@
 -- Each call asks question 1 first.
+use Rattle.model.specs.declared.event.Event.{Event}
+use Rattle.std.specs.Prelude.{Option, Some, None}
 use mathlib.Core.Path.{◌≡◌, ap}
 use mathlib.Core.List.{List, []}
 use Prim.Native.Nat.{ℕ}
@@ -8,8 +10,6 @@ use Rattle.tables.specs.Rule.{Holds, same}
 use Rattle.sheets.specs.Sheet.{number_in, laid}
 use Rattle.model.specs.declared.sizes.Sizes.{Sizes}
 use Rattle.model.specs.declared.request.Request.{Request}
-use Rattle.model.specs.declared.request.Decoded.{Decoded}
-use Rattle.model.specs.declared.request.Decoded.TheVariants.{Known, Unknown}
 use Rattle.model.specs.declared.applied.Part.{Part}
 use Rattle.model.specs.Requests.{decoded}
 use Rattle.model.specs.State.{State}
@@ -30,9 +30,9 @@ pub apply_refuses : (z : Sizes) (request : Request) → Refuses z (λ (st : Stat
 unfolding apply step_of unknown
 apply_refuses z request st h = go (decoded request)
   where
-    go : (d : Decoded) → step_of z st d ≡ refusal 1 st
-    go (Known e) = step_unfit z st e h
-    go Unknown = ap (λ (k : ℕ). outcome k 0 st st) (first_no_holds 1 (all_fit z st) (ask 2 (all_rules z st) (ask 3 (same 0 1) none)) h)
+    go : (d : Option Event) → step_of z st d ≡ refusal 1 st
+    go (Some e) = step_unfit z st e h
+    go None = ap (λ (k : ℕ). outcome k 0 st st) (first_no_holds 1 (all_fit z st) (ask 2 (all_rules z st) (ask 3 (same 0 1) none)) h)
 
 pub restart_refuses : (z : Sizes) → Refuses z (λ (st : State). restart z st)
 unfolding restart

@@ -7,6 +7,7 @@ ghost use Rattle.carrying.specs.Exports.{handed};
 use crate::frames::load;
 use model::event::Answer;
 use model::frame::{Frame, Pool};
+use model::lent::{DiskTables, MemoryTables};
 use model::sizes::Sizes;
 
 // The design in a slot as a sheet, into a buffer: the answer and the buffer are the definition's; everything else is only read.
@@ -48,13 +49,7 @@ pub extern "C" fn keeper_export(
 {
     let lent = frames.len();
     let values = load(frames);
-    sheetcalls::export::export_core(
-        sizes,
-        slot,
-        lent,
-        values,
-        pool,
-        sheet,
+    let disk = DiskTables {
         records,
         numbers,
         accounts,
@@ -62,6 +57,8 @@ pub extern "C" fn keeper_export(
         limits,
         parents,
         highest,
+    };
+    let memory = MemoryTables {
         frame_words,
         free_queue,
         removal_list,
@@ -77,5 +74,6 @@ pub extern "C" fn keeper_export(
         chip_next,
         line,
         used,
-    )
+    };
+    sheetcalls::export::export_core(sizes, slot, lent, values, pool, sheet, disk, memory)
 }

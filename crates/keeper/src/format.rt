@@ -23,7 +23,7 @@ pub extern "C" fn keeper_format(
     ensures { record { answer = result; left = disk_of records.new numbers.new accounts.new maps.new limits.new parents.new highest.new }
         ≡ format sizes wanted.now (disk_of records.old numbers.old accounts.old maps.old limits.old parents.old highest.old) }
 {
-    calls::format(
+    Answer::from(calls::format(
         sizes, wanted, records, numbers, accounts, maps, limits, parents, highest,
-    )
+    ))
 }

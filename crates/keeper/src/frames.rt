@@ -8,7 +8,7 @@ use model::frame::{Frame, no_frames};
 pub fn capped(n: usize) -> usize
     ensures { result ≡ capped n }
 {
-    if n <= 64 { n } else { 64 }
+    n.min(64)
 }
 
 // The first frames of the slice, 64 at most; past its end the array has empty frames.
@@ -18,11 +18,7 @@ pub fn load(frames: &[Frame]) -> [Frame; 64]
 {
     let mut a = no_frames();
     let n = capped(frames.len());
-    let mut i: usize = 0;
-    while i < n {
-        a[i] = frames[i];
-        i += 1;
-    }
+    a[..n].copy_from_slice(&frames[..n]);
     a
 }
 
@@ -32,9 +28,5 @@ pub fn save(frames: &mut [Frame], values: [Frame; 64])
     ensures { frames.new ≡ saved frames.old values }
 {
     let n = capped(frames.len());
-    let mut i: usize = 0;
-    while i < n {
-        frames[i] = values[i];
-        i += 1;
-    }
+    frames[..n].copy_from_slice(&values[..n]);
 }

@@ -7,6 +7,7 @@ ghost use Rattle.model.specs.Step.{look};
 use crate::frames::load;
 use model::applied::Part;
 use model::frame::{Frame, Pool};
+use model::lent::{DiskTables, MemoryTables};
 use model::sizes::Sizes;
 
 // A page look: the frame's own part of the lent words, and where it stands; refused, an empty part.
@@ -120,13 +121,7 @@ pub extern "C" fn keeper_page_look(
 {
     let lent = frames.len();
     let values = load(frames);
-    calls::looks::place_core(
-        sizes,
-        slot,
-        page,
-        lent,
-        values,
-        pool,
+    let disk = DiskTables {
         records,
         numbers,
         accounts,
@@ -134,6 +129,8 @@ pub extern "C" fn keeper_page_look(
         limits,
         parents,
         highest,
+    };
+    let memory = MemoryTables {
         frame_words,
         free_queue,
         removal_list,
@@ -149,5 +146,6 @@ pub extern "C" fn keeper_page_look(
         chip_next,
         line,
         used,
-    )
+    };
+    calls::looks::place_core(sizes, slot, page, lent, values, pool, disk, memory)
 }

@@ -23,7 +23,7 @@ pub extern "C" fn keeper_mend(
     ensures { record { answer = result; left = lent_of records.now numbers.new accounts.new maps.new limits.now parents.now highest.now changes.new }
         ≡ mend sizes (lent_of records.now numbers.old accounts.old maps.old limits.now parents.now highest.now changes.old) }
 {
-    mending::mend(
+    Answer::from(mending::mend(
         sizes, records, numbers, accounts, maps, limits, parents, highest, changes,
-    )
+    ))
 }

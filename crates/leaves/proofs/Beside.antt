@@ -7,7 +7,7 @@ use Prim.Native.Nat.{ℕ, suc, ◌+◌, ◌-◌, ◌*◌, ◌/◌, ◌%◌, ◌^
 use native.Mathlib.Omega.{arith}
 use native.Mathlib.Decide.{dec_lt, dec_le}
 use lib.Dec.{T, eqb→eq, ltb, ltb→lt, lt→ltb}
-use Rattle.tables.specs.Base.{if, at, find}
+use Rattle.tables.specs.Base.{at, find}
 use Rattle.tables.specs.Bits.{bit}
 use Rattle.tables.specs.FindLaws.{find_at, find_none}
 use Rattle.tables.specs.Laws.{eq→T, if_true, if_false}

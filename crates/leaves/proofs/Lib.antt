@@ -1,4 +1,5 @@
 -- Laws that the proofs of this crate share.
+pub mod Runs
 pub mod Along
 pub mod Beside
 pub mod Freeing

@@ -1,9 +1,10 @@
 -- Laws of the search of a map of marks: what its answers tell, and which record is the nearest free one.
 use mathlib.Core.Path.{◌≡◌, refl, ap, sym, ◌∙◌, subst}
-use mathlib.Core.Bool.{Bool, true, false, ◌||◌}
+use mathlib.Core.Bool.{Bool, true}
 use mathlib.Core.List.{List}
 use mathlib.Core.Logic.{inl, inr}
-use Prim.Native.Nat.{ℕ, zero, suc, ◌+◌, ◌-◌, ◌*◌, ◌/◌, ◌%◌, ◌^◌, ◌<◌, ◌≤◌}
+use Prim.Native.Nat.{ℕ, suc, ◌+◌, ◌-◌, ◌*◌, ◌/◌, ◌%◌, ◌^◌, ◌<◌, ◌≤◌, min, max}
+use native.Mathlib.Nat.{min-eq_left, min-eq_right, max-eq_left, max-eq_right}
 use native.Mathlib.Omega.{arith}
 use native.Mathlib.Decide.{dec_lt, dec_le, ℕ_discrete}
 use lib.Count.{count_trailing_zeros}
@@ -60,10 +61,10 @@ module _ (map : List ℕ) where
     pub first_none : a ≤ b → Off a b → b ≡ first_mark map a b
     first_none h f = sym (find_none (b - a) (marked map) a (λ k c d t. f k c (omega arith) (eqb→eq _ _ t)) ∙ omega arith)
 
-    pub first_least : (x : ℕ) → a ≤ x → a ≤ b → Off a x → bit_of map x ≡ 1 → if (ltb x b) x b ≡ first_mark map a b
+    pub first_least : (x : ℕ) → a ≤ x → a ≤ b → Off a x → bit_of map x ≡ 1 → min x b ≡ first_mark map a b
     first_least x h l f e = elim (dec_lt x b) [
-      | yes c ↦ if_true (ltb x b) x b (lt→ltb x b c) ∙ first_found x h c f e
-      | no c ↦ if_false (ltb x b) x b (λ t. c (ltb→lt x b t)) ∙ first_none l (λ i d g. f i d (omega arith))
+      | yes c ↦ min-eq_left (omega arith) ∙ first_found x h c f e
+      | no c ↦ min-eq_right (omega arith) ∙ first_none l (λ i d g. f i d (omega arith))
     ]
 
     pub first_empty : b ≤ a → a ≡ first_mark map a b
@@ -95,10 +96,10 @@ module _ (map : List ℕ) where
         let q : find (b - a) below 0 ≡ 0 + (b - a) = find_none (b - a) below 0 (λ k c d t. f (b - suc k) (omega arith) (omega arith) (eqb→eq _ _ t)) in
         omega (arith, q)
 
-    pub last_most : (x : ℕ) → x ≤ b → a ≤ b → Off x b → bit_of map (x - 1) ≡ 1 → if (ltb x a) a x ≡ last_mark map a b
+    pub last_most : (x : ℕ) → x ≤ b → a ≤ b → Off x b → bit_of map (x - 1) ≡ 1 → max x a ≡ last_mark map a b
     last_most x h l f e = elim (dec_lt x a) [
-      | yes c ↦ if_true (ltb x a) a x (lt→ltb x a c) ∙ last_none l (λ i d g. f i (omega arith) g)
-      | no c ↦ if_false (ltb x a) a x (λ t. c (ltb→lt x a t)) ∙ elim (ℕ_discrete x a) [
+      | yes c ↦ max-eq_right (omega arith) ∙ last_none l (λ i d g. f i (omega arith) g)
+      | no c ↦ max-eq_left (omega arith) ∙ elim (ℕ_discrete x a) [
         | yes s ↦ s ∙ last_none l (λ i d g. f i (omega arith) g)
         | no s ↦ last_found x (omega arith) h f e
       ]
@@ -229,9 +230,6 @@ module _ (map : List ℕ) where
     ]
 
 -- ── the lower of two numbers ──
-pub least_left : (a b r : ℕ) → r ≡ if (ltb a b) a b → r ≤ a
-least_left a b r e = elim (dec_lt a b) [ yes h ↦ omega (arith, e ∙ if_true (ltb a b) a b (lt→ltb a b h)) | no h ↦ omega (arith, e ∙ if_false (ltb a b) a b (λ t. h (ltb→lt a b t))) ]
-
 pub least_right : (a b r : ℕ) → r ≡ if (ltb a b) a b → r ≤ b
 least_right a b r e = elim (dec_lt a b) [ yes h ↦ omega (arith, e ∙ if_true (ltb a b) a b (lt→ltb a b h)) | no h ↦ omega (arith, e ∙ if_false (ltb a b) a b (λ t. h (ltb→lt a b t))) ]
 

@@ -8,7 +8,7 @@ use lib.Count.{count_trailing_zeros, under, count_leading_zeros, leading_top}
 use lib.Pow.{pow-add, pow_pos, shr-shr, shl-shr, shr_lt, shr_le, field, mod-mod-pow}
 use lib.Pow.{high as high-of, low as low_of}
 use Rattle.tables.specs.Bits.{bit}
-use Rattle.tables.specs.BitLaws.{bit_zero, bit_suc, bit_le}
+use Rattle.tables.specs.BitLaws.{bit_zero, bit_suc}
 use Rattle.tables.specs.Marks.{rest_off}
 
 pub bit_of_zero : (k : ℕ) → bit k 0 ≡ 0

@@ -1,18 +1,83 @@
 // One entry of a table: 0 is read past its end, and nothing is stored there; and whether many entries are 0.
-ghost use Rattle.std.specs.Prelude.{◌≡◌, ◌+◌, ◌≤◌, length, set};
-ghost use Rattle.tables.specs.Base.{at};
-ghost use Rattle.tables.specs.Rule.{same, each, test};
+ghost use Rattle.std.specs.Prelude.{◌≡◌, ◌+◌, ◌≤◌, Bool, eqb, length, set, slice_index_or};
+ghost use Rattle.tables.specs.Rule.{is, each, test};
 
-pub fn at8(s: &[u8], i: usize) -> u8
-    ensures { result ≡ at s.now i }
-{
-    if i < s.len() {
-        return s[i];
-    }
-    0
+// What stands in a table: a number of one width. 0 names nothing.
+pub trait Entry: Copy {
+    ghost zero: { Self };
+
+    ghost is_zero: { Self → Bool };
+
+    fn zero() -> Self
+        ensures { result ≡ zero };
+
+    fn is_zero(self) -> bool
+        ensures { result ≡ is_zero self };
 }
 
-pub fn put8(s: &mut [u8], i: usize, v: u8)
+impl Entry for u8 {
+    ghost zero = { 0 };
+
+    ghost is_zero = { λ x. eqb x 0 };
+
+    fn zero() -> u8 {
+        0
+    }
+
+    fn is_zero(self) -> bool {
+        self == 0
+    }
+}
+
+impl Entry for u16 {
+    ghost zero = { 0 };
+
+    ghost is_zero = { λ x. eqb x 0 };
+
+    fn zero() -> u16 {
+        0
+    }
+
+    fn is_zero(self) -> bool {
+        self == 0
+    }
+}
+
+impl Entry for u32 {
+    ghost zero = { 0 };
+
+    ghost is_zero = { λ x. eqb x 0 };
+
+    fn zero() -> u32 {
+        0
+    }
+
+    fn is_zero(self) -> bool {
+        self == 0
+    }
+}
+
+impl Entry for u64 {
+    ghost zero = { 0 };
+
+    ghost is_zero = { λ x. eqb x 0 };
+
+    fn zero() -> u64 {
+        0
+    }
+
+    fn is_zero(self) -> bool {
+        self == 0
+    }
+}
+
+pub fn at<T: Entry>(s: &[T], i: usize) -> T
+    ensures { result ≡ slice_index_or s.now i T.zero }
+{
+    if i < s.len() { s[i] } else { T::zero() }
+}
+
+pub fn put<T: Copy>(s: &mut [T], i: usize, v: T)
     ensures { s.new ≡ set s.old i v }
 {
     if i < s.len() {
@@ -20,50 +85,14 @@ pub fn put8(s: &mut [u8], i: usize, v: u8)
     }
 }
 
-pub fn at16(s: &[u16], i: usize) -> u16
-    ensures { result ≡ at s.now i }
-{
-    if i < s.len() {
-        return s[i];
-    }
-    0
-}
-
-pub fn put16(s: &mut [u16], i: usize, v: u16)
-    ensures { s.new ≡ set s.old i v }
-{
-    if i < s.len() {
-        s[i] = v;
-    }
-}
-
-pub fn at32(s: &[u32], i: usize) -> u32
-    ensures { result ≡ at s.now i }
-{
-    if i < s.len() {
-        return s[i];
-    }
-    0
-}
-
-pub fn put32(s: &mut [u32], i: usize, v: u32)
-    ensures { s.new ≡ set s.old i v }
-{
-    if i < s.len() {
-        s[i] = v;
-    }
-}
-
-// Whether n entries from i up name nothing: all are looked at, so that many are compared at once.
-pub fn zeros(entries: &[u16], i: usize, n: usize) -> bool
-    requires { i + n ≤ length entries.now }
-    ensures { result ≡ test (each n (λ k. same (at entries.now (i + k)) 0)) }
+// Whether n entries from `from` up name nothing: all are looked at, so that many are compared at once.
+pub fn all_zeros<T: Entry>(s: &[T], from: usize, n: usize) -> bool
+    requires { from + n ≤ length s.now }
+    ensures { result ≡ test (each n (λ k. is (T.is_zero (slice_index_or s.now (from + k) T.zero)))) }
 {
     let mut ok = true;
-    let mut k = 0;
-    while k < n {
-        ok = ok & (entries[i + k] == 0);
-        k += 1;
+    for x in &s[from..from + n] {
+        ok &= x.is_zero();
     }
     ok
 }

@@ -3,9 +3,9 @@ ghost use Rattle.std.specs.Prelude.{◌≡◌, ◌-◌, ◌*◌, ◌+◌, ◌<�
 ghost use Rattle.tables.specs.Base.{if, at};
 ghost use Rattle.leaves.specs.Search.{ahead, behind};
 
-use crate::cells::at32;
+use crate::cells::at;
 
-// What the searches give where no mark is close: more than any number of a record.
+// What the searches give where no mark is close, as their definitions do, so that both are compared without a branch on None: more than any number of a record.
 pub const NONE: usize = 65536;
 
 // Two words as one.
@@ -32,7 +32,7 @@ pub fn ahead(map: &[u32], i: usize) -> usize
     ensures { result ≡ ahead map.now i }
 {
     let w = i / 32;
-    let rest = pair(map[w], at32(map, w + 1)) >> (i % 32);
+    let rest = pair(map[w], at(map, w + 1)) >> (i % 32);
     if rest == 0 {
         return NONE;
     }

@@ -6,10 +6,10 @@ ghost use Rattle.leaves.specs.FreeMap.{told_by};
 ghost use Rattle.leaves.specs.Near.{Passed};
 ghost use Rattle.leaves.specs.Search.{mark_around, Around};
 
-use crate::cells::{at16, zeros};
+use crate::cells::{all_zeros, at};
 use crate::close::{ahead, behind};
 use crate::pool::by_hand;
-use crate::search::{first_mark, last_mark, least, less};
+use crate::search::{first_mark, last_mark};
 use model::sizes::Sizes;
 
 // Pages below a page are passed, sixteen at once, as long as none of the sixteen has an address, of so many; the result is how far below the page that ends.
@@ -21,8 +21,9 @@ fn sixteens_passed(addresses: &[u16], page: usize, count: usize) -> usize
     if addresses.len() < page {
         return k;
     }
+    // No `for`: a step takes sixteen pages and a test ends it, which is faster than one by one (docs/BENCHMARKS.md).
     while k + 15 <= count {
-        if zeros(addresses, page - 15 - k, 16) {} else {
+        if !all_zeros(addresses, page - 15 - k, 16) {
             return k;
         }
         k += 16;
@@ -36,13 +37,12 @@ pub fn neighbour(sizes: Sizes, addresses: &[u16], page: usize) -> u16
     ensures { result ≡ neighbour sizes (at addresses.now) page }
 {
     let place = page % sizes.pages;
-    let mut k = sixteens_passed(addresses, page, place);
-    while k <= place {
-        let address = at16(addresses, page - k);
+    let start = sixteens_passed(addresses, page, place);
+    for k in start..=place {
+        let address = at(addresses, page - k);
         if address != 0 {
             return address;
         }
-        k += 1;
     }
     0
 }
@@ -52,17 +52,12 @@ fn words_passed(map: &[u32], w: usize, reach: usize) -> usize
     requires { (reach ≤ w + 1) × (w + reach ≤ length map.now) × (w < 2048) }
     ensures { result ≡ find reach (mark_around map.now w) 0 }
 {
-    let mut k = 0;
-    while k < reach {
-        if map[w - k] != 0 {
+    for k in 0..reach {
+        if map[w - k] != 0 || map[w + k] != 0 {
             return k;
         }
-        if map[w + k] != 0 {
-            return k;
-        }
-        k += 1;
     }
-    k
+    reach
 }
 
 // The free record nearest to another, where those from `below` up to `above`, which it lies between, are not free: first one word below, then above, then below as far as that.
@@ -71,10 +66,10 @@ fn beyond(sizes: Sizes, map: &[u32], record: usize, below: usize, above: usize) 
     ensures { result ≡ nearest sizes (told_by map.now) «record» }
 {
     let records = sizes.records;
-    let floor = less(below, 32);
+    let floor = below.saturating_sub(32);
     let low = last_mark(map, floor, below);
     if low > floor {
-        let end = least(record + (record + 1 - low), records);
+        let end = (record + (record + 1 - low)).min(records);
         let high = first_mark(map, above, end);
         if high < end {
             return high;
@@ -83,7 +78,7 @@ fn beyond(sizes: Sizes, map: &[u32], record: usize, below: usize, above: usize) 
     }
     let high = first_mark(map, above, records);
     if high < records {
-        let far = less(record, high - record);
+        let far = record.saturating_sub(high - record);
         let low = last_mark(map, far, floor);
         if low > far {
             return low - 1;
@@ -107,12 +102,14 @@ fn far(sizes: Sizes, map: &[u32], record: usize) -> usize
         return beyond(sizes, map, record, records, record);
     }
     let w = record / 32;
-    let reach = least(w + 1, (records + 31) / 32 - w);
+    // By div_ceil a choice of a record takes six instructions more (bench/run.py --search).
+    let reach = (w + 1).min((records + 31) / 32 - w);
     let k = words_passed(map, w, reach);
     if k == 0 {
         return beyond(sizes, map, record, record + 1, record);
     }
-    beyond(sizes, map, record, less(w + 1, k) * 32, (w + k) * 32)
+    let below = (w + 1).saturating_sub(k) * 32;
+    beyond(sizes, map, record, below, (w + k) * 32)
 }
 
 // The free record nearest to another, the lower of two equally near: first in its own word and those beside it, where each side shows 33 records or more.

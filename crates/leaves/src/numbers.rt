@@ -1,7 +1,7 @@
 // Unique numbers on the disk: the stores that give one, each a function of its own.
 ghost use Rattle.std.specs.Prelude.{◌≡◌, set};
 
-use crate::cells::{put16, put32};
+use crate::cells::put;
 
 // Numbers from here up are no longer given.
 pub const HIGH: u32 = 2147483648;
@@ -10,7 +10,7 @@ pub const HIGH: u32 = 2147483648;
 pub fn store_highest(highest: &mut [u32], number: u32)
     ensures { highest.new ≡ set highest.old 0 number }
 {
-    put32(highest, 0, number);
+    put(highest, 0, number);
 }
 
 // One store: a slot's number and account.
@@ -18,6 +18,6 @@ pub fn fill_slot(slot: usize, account: u16, number: u32, numbers: &mut [u32], ac
     ensures numbers { numbers.new ≡ set numbers.old slot number }
     ensures accounts { accounts.new ≡ set accounts.old slot account }
 {
-    put32(numbers, slot, number);
-    put16(accounts, slot, account);
+    put(numbers, slot, number);
+    put(accounts, slot, account);
 }

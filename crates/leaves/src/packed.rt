@@ -6,7 +6,7 @@ ghost use Rattle.model.specs.State.{frame_at};
 ghost use Rattle.leaves.specs.FrameLaws.{frame_in};
 ghost use Rattle.leaves.specs.Packed.{unpack, unpacked, in_four};
 
-use crate::search::least;
+use crate::cells::at;
 use model::frame::Frame;
 
 // A frame as a number.
@@ -38,21 +38,11 @@ fn unpack(number: u64) -> Frame
     }
 }
 
-// A number of the table, 0 past its end.
-fn number_at(frames: &[u64], f: usize) -> u64
-    ensures { result ≡ at frames.now f }
-{
-    if f < frames.len() {
-        return frames[f];
-    }
-    0
-}
-
 // A frame, empty past the end.
 pub fn frame_at(frames: &[u64], f: usize) -> Frame
     ensures { result ≡ frame_at (unpacked frames.now) f }
 {
-    unpack(number_at(frames, f))
+    unpack(at(frames, f))
 }
 
 // A frame stored anew; none past the end.
@@ -86,8 +76,9 @@ fn pass_fours(frames: &[u64], count: usize, entry: u64) -> usize
     ensures within { result ≤ count }
     ensures before { (k : ℕ) → k < result → at frames.now k % 65536 ≡ entry → ⊥ }
 {
-    let most = least(count, frames.len());
+    let most = count.min(frames.len());
     let mut f = 0;
+    // No `for`: a step takes four frames and a test ends it: one by one is slower (docs/BENCHMARKS.md, what was tried).
     while 4 <= most - f {
         if in_four(frames, f, entry) {
             return f;
@@ -103,12 +94,11 @@ pub fn frame_of(frames: &[u64], count: usize, page: usize) -> usize
     ensures { result ≡ frame_in count (unpacked frames.now) page }
 {
     let entry = (page + 1) as u64;
-    let mut f = pass_fours(frames, count, entry);
-    while f < count {
-        if has_page(number_at(frames, f), entry) {
+    let start = pass_fours(frames, count, entry);
+    for f in start..count {
+        if has_page(at(frames, f), entry) {
             return f;
         }
-        f += 1;
     }
-    f
+    count
 }

@@ -4,16 +4,8 @@ ghost use Rattle.tables.specs.Base.{at, tab};
 ghost use Rattle.tables.specs.Rule.{same, each, Holds};
 ghost use Rattle.model.specs.Payer.{payer};
 
-use crate::cells::at16;
-use crate::search::least;
+use crate::cells::at;
 use model::sizes::Sizes;
-
-// The number wide.
-pub fn wide(x: u16) -> usize
-    ensures { result ≡ x }
-{
-    x as usize
-}
 
 // The account that pays. On tables that break the disk rule too: one whose parent is not lower pays itself.
 pub fn payer_of(parents: &[u16], limits: &[u16], account: usize) -> usize
@@ -22,10 +14,10 @@ pub fn payer_of(parents: &[u16], limits: &[u16], account: usize) -> usize
     if account == 0 {
         return account;
     }
-    if 0 < at16(limits, account) {
+    if 0 < at(limits, account) {
         return account;
     }
-    let parent = wide(at16(parents, account));
+    let parent = usize::from(at(parents, account));
     if parent < account {
         return payer_of(parents, limits, parent);
     }
@@ -36,7 +28,7 @@ pub fn payer_of(parents: &[u16], limits: &[u16], account: usize) -> usize
 pub fn slot_payer(parents: &[u16], limits: &[u16], accounts: &[u16], slot: usize) -> usize
     ensures { result ≡ payer (at parents.now) (at limits.now) (at accounts.now slot) }
 {
-    payer_of(parents, limits, wide(at16(accounts, slot)))
+    payer_of(parents, limits, usize::from(at(accounts, slot)))
 }
 
 // Who pays for the next account, where those who pay for the lower ones stand in a table.
@@ -47,12 +39,12 @@ fn payer_next(parents: &[u16], limits: &[u16], payers: &[u16], next: usize) -> u
     if next == 0 {
         return next;
     }
-    if 0 < at16(limits, next) {
+    if 0 < at(limits, next) {
         return next;
     }
-    let parent = wide(at16(parents, next));
+    let parent = usize::from(at(parents, next));
     if parent < next {
-        return wide(at16(payers, parent));
+        return usize::from(at(payers, parent));
     }
     next
 }
@@ -62,11 +54,9 @@ fn account_payers(parents: &[u16], limits: &[u16], count: usize, payers: &mut [u
     requires { (count ≤ length payers.old) × (count < 65536) }
     ensures { Holds (each count (λ q. same (at payers.new q) (payer (at parents.now) (at limits.now) q))) }
 {
-    let mut q = 0;
-    while q < count {
+    for q in 0..count {
         let payer = payer_next(parents, limits, payers, q);
         payers[q] = payer as u16;
-        q += 1;
     }
 }
 
@@ -76,7 +66,7 @@ fn payer_in(parents: &[u16], limits: &[u16], count: usize, payers: &[u16], accou
     ensures { result ≡ payer (at parents.now) (at limits.now) account }
 {
     if account < count {
-        return wide(at16(payers, account));
+        return usize::from(at(payers, account));
     }
     payer_of(parents, limits, account)
 }
@@ -93,10 +83,8 @@ fn list_payers(
     requires { (length accounts.now ≤ length table.old) × Holds (each (length table.old) (λ s. same (at table.old s) 0)) × Holds (each count (λ q. same (at payers.now q) (payer (at parents.now) (at limits.now) q))) }
     ensures { table.new ≡ tab (length table.old) (λ s. payer (at parents.now) (at limits.now) (at accounts.now s)) 0 }
 {
-    let mut s = 0;
-    while s < accounts.len() {
-        table[s] = payer_in(parents, limits, count, payers, wide(accounts[s])) as u16;
-        s += 1;
+    for (s, account) in accounts.iter().enumerate() {
+        table[s] = payer_in(parents, limits, count, payers, usize::from(*account)) as u16;
     }
 }
 
@@ -106,7 +94,7 @@ pub fn fill_payers(parents: &[u16], limits: &[u16], accounts: &[u16], table: &mu
     ensures { table.new ≡ tab (length table.old) (λ s. payer (at parents.now) (at limits.now) (at accounts.now s)) 0 }
 {
     let mut payers: [u16; Sizes::MOST_ACCOUNTS] = [0; Sizes::MOST_ACCOUNTS];
-    let count = least(parents.len(), Sizes::MOST_ACCOUNTS);
+    let count = parents.len().min(Sizes::MOST_ACCOUNTS);
     account_payers(parents, limits, count, &mut payers);
     list_payers(parents, limits, count, &payers, accounts, table);
 }

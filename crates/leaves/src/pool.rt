@@ -38,8 +38,10 @@ pub fn take(sizes: Sizes, n: u32, pool: Pool) -> Pool
         return pool;
     }
     let hand = past(sizes.records, n);
-    let free = if pool.free == 0 { 0 } else { pool.free - 1 };
-    Pool { hand, free }
+    Pool {
+        hand,
+        free: pool.free.saturating_sub(1),
+    }
 }
 
 // After the last record comes 0.
@@ -59,10 +61,8 @@ pub fn deposit(n: u32, pool: Pool) -> Pool
     if n == 0 {
         return pool;
     }
-    let room = 4294967295 - pool.free;
-    let free = if n <= room { pool.free + n } else { 4294967295 };
     Pool {
         hand: pool.hand,
-        free,
+        free: pool.free.saturating_add(n),
     }
 }

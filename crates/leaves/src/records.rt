@@ -7,9 +7,8 @@ ghost use Rattle.model.specs.State.{free_count};
 ghost use Rattle.leaves.specs.FreeMap.{free_map_table};
 ghost use Rattle.leaves.specs.Freed.{MapFits, leaver_from, FreedOn, Freed};
 
-use crate::cells::put8;
+use crate::cells::put;
 use crate::marks::set_mark;
-use crate::search::least;
 use crate::states::move_record;
 use model::lines::{FREE, LEAVING};
 use model::sizes::Sizes;
@@ -21,7 +20,7 @@ pub fn free_record(sizes: Sizes, states: &mut [u8], owners: &mut [u8], map: &mut
 {
     set_mark(map, r);
     move_record(states, r, FREE);
-    put8(owners, r, 0);
+    put(owners, r, 0);
 }
 
 // Whether one of the records from start up to end is a leaving one of the slot: all are looked at, so that many are compared at once.
@@ -30,10 +29,8 @@ fn any_leaving(states: &[u8], owners: &[u8], owner: u8, start: usize, end: usize
     ensures { result ≡ test (some end (leaver_from states.now owners.now owner start)) }
 {
     let mut any = false;
-    let mut r = start;
-    while r < end {
-        any = any | ((states[r] == LEAVING) & (owners[r] == owner));
-        r += 1;
+    for r in start..end {
+        any |= (states[r] == LEAVING) & (owners[r] == owner);
     }
     any
 }
@@ -52,13 +49,11 @@ fn free_range(
     ensures { FreedOn sizes owner start end states.old owners.old map.old states.new owners.new map.new result }
 {
     let mut count: u32 = 0;
-    let mut r = start;
-    while r < end {
+    for r in start..end {
         if states[r] == LEAVING && owners[r] == owner {
             free_record(sizes, states, owners, map, r);
             count += 1;
         }
-        r += 1;
     }
     count
 }
@@ -81,8 +76,9 @@ pub fn free_leaving(
     let n = states.len();
     let mut count: u32 = 0;
     let mut r = 0;
+    // No `for`: a step takes 64 records and a test ends it: one by one is slower (docs/BENCHMARKS.md, what was tried).
     while r < n {
-        let end = least(r + 64, n);
+        let end = (r + 64).min(n);
         if any_leaving(states, owners, owner, r, end) {
             count += free_range(sizes, states, owners, map, owner, r, end);
         }

@@ -4,28 +4,7 @@ ghost use Rattle.tables.specs.Base.{at, if, find};
 ghost use Rattle.tables.specs.Bits.{bit};
 ghost use Rattle.leaves.specs.Search.{first_mark, last_mark, Unmarked};
 
-use crate::words::zeros;
-
-// The lower of two numbers.
-pub fn least(a: usize, b: usize) -> usize
-    ensures { result ≡ if (ltb a b) a b }
-{
-    if a < b { a } else { b }
-}
-
-// The higher of two numbers.
-fn most(a: usize, b: usize) -> usize
-    ensures { result ≡ if (ltb a b) b a }
-{
-    if a < b { b } else { a }
-}
-
-// A difference, or 0.
-pub fn less(a: usize, b: usize) -> usize
-    ensures { result ≡ a - b }
-{
-    if b < a { a - b } else { 0 }
-}
+use crate::cells::all_zeros;
 
 // The first place from `place` up whose bit is on in a word, or 32.
 fn lowest(word: u32, place: usize) -> usize
@@ -57,8 +36,9 @@ fn eights_up(map: &[u32], from: usize, to: usize) -> usize
     ensures { (from ≤ result) × (result ≤ to) × Unmarked map.now from result }
 {
     let mut w = from;
+    // No `for`: a step takes eight words and a test ends it: one by one is slower (docs/BENCHMARKS.md, what was tried).
     while to - w >= 8 {
-        if zeros(map, w, 8) {} else {
+        if !all_zeros(map, w, 8) {
             return w;
         }
         w += 8;
@@ -72,8 +52,9 @@ fn eights_down(map: &[u32], from: usize, to: usize) -> usize
     ensures { (from ≤ result) × (result ≤ to) × Unmarked map.now result to }
 {
     let mut w = to;
+    // No `for`, as above.
     while w - from >= 8 {
-        if zeros(map, w - 8, 8) {} else {
+        if !all_zeros(map, w - 8, 8) {
             return w;
         }
         w -= 8;
@@ -86,12 +67,11 @@ fn next_word(map: &[u32], from: usize, to: usize) -> usize
     requires { (from ≤ to) × (to ≤ length map.now) }
     ensures { result ≡ find (to - from) (λ w. ltb 0 (at map.now w)) from }
 {
-    let mut w = eights_up(map, from, to);
-    while w < to {
+    let start = eights_up(map, from, to);
+    for w in start..to {
         if map[w] != 0 {
             return w;
         }
-        w += 1;
     }
     to
 }
@@ -101,12 +81,11 @@ fn last_word(map: &[u32], from: usize, to: usize) -> usize
     requires { (from ≤ to) × (to ≤ length map.now) }
     ensures { result ≡ to - find (to - from) (λ k. ltb 0 (at map.now (to - suc k))) 0 }
 {
-    let mut w = eights_down(map, from, to);
-    while w > from {
-        if map[w - 1] != 0 {
-            return w;
+    let end = eights_down(map, from, to);
+    for last in (from..end).rev() {
+        if map[last] != 0 {
+            return last + 1;
         }
-        w -= 1;
     }
     from
 }
@@ -122,14 +101,15 @@ pub fn first_mark(map: &[u32], from: usize, to: usize) -> usize
     let first = from / 32;
     let place = lowest(map[first], from % 32);
     if place < 32 {
-        return least(first * 32 + place, to);
+        return (first * 32 + place).min(to);
     }
+    // By div_ceil a choice of a record takes six instructions more (bench/run.py --search).
     let end = (to + 31) / 32;
     let w = next_word(map, first + 1, end);
     if w >= end {
         return to;
     }
-    least(w * 32 + lowest(map[w], 0), to)
+    (w * 32 + lowest(map[w], 0)).min(to)
 }
 
 // One past the last marked number from `from` up to `to`, or `from`.
@@ -144,12 +124,12 @@ pub fn last_mark(map: &[u32], from: usize, to: usize) -> usize
     let place = (to - 1) % 32;
     let passed = highest(map[last], place);
     if passed <= place {
-        return most(to - passed, from);
+        return (to - passed).max(from);
     }
     let first = from / 32;
     let w = last_word(map, first, last);
     if w <= first {
         return from;
     }
-    most(w * 32 - highest(map[w - 1], 31), from)
+    (w * 32 - highest(map[w - 1], 31)).max(from)
 }

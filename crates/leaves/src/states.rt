@@ -32,9 +32,7 @@ pub fn move_all(states: &mut [u8], owners: &[u8], slot: usize, from: u8, to: u8)
         return;
     }
     let owner = slot as u8;
-    let mut r = 0;
-    while r < states.len() {
+    for r in 0..states.len() {
         states[r] = moved(states[r], owners[r] == owner, from, to);
-        r += 1;
     }
 }

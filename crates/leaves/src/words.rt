@@ -4,18 +4,15 @@ ghost use Rattle.tables.specs.Base.{at};
 ghost use Rattle.tables.specs.Rule.{same, each, test};
 ghost use Rattle.tables.specs.Store.{store};
 
+use crate::cells::all_zeros;
+
 // The part's words become 0.
 pub fn clear_part(words: &mut [u32], size: usize, part: usize)
     requires { (0 < size) × (part * size + size ≤ length words.old) }
     ensures { words.new ≡ store words.old (λ k. same (k / size) part) (λ k. 0) }
 {
     let start = part * size;
-    let end = start + size;
-    let mut i = start;
-    while i < end {
-        words[i] = 0;
-        i += 1;
-    }
+    words[start..start + size].fill(0);
 }
 
 // The part's words become those of a part of another table.
@@ -25,25 +22,7 @@ pub fn copy_part(from: &[u32], from_part: usize, to: &mut [u32], to_part: usize,
 {
     let source = from_part * size;
     let start = to_part * size;
-    let mut w = 0;
-    while w < size {
-        to[start + w] = from[source + w];
-        w += 1;
-    }
-}
-
-// Whether so many words from `start` up are 0: all are looked at, so that many are compared at once.
-pub fn zeros(words: &[u32], start: usize, size: usize) -> bool
-    requires { start + size ≤ length words.now }
-    ensures { result ≡ test (each size (λ w. same (at words.now (start + w)) 0)) }
-{
-    let mut ok = true;
-    let mut w = 0;
-    while w < size {
-        ok = ok & (words[start + w] == 0);
-        w += 1;
-    }
-    ok
+    to[start..start + size].copy_from_slice(&from[source..source + size]);
 }
 
 // Whether all words of the part are 0: sixteen are compared at once, and the first sixteen that are not all 0 decide.
@@ -53,11 +32,12 @@ pub fn all_zero(words: &[u32], size: usize, part: usize) -> bool
 {
     let start = part * size;
     let mut w = 0;
+    // No `for`: a step takes sixteen words and a test ends it.
     while size - w >= 16 {
-        if zeros(words, start + w, 16) {} else {
+        if !all_zeros(words, start + w, 16) {
             return false;
         }
         w += 16;
     }
-    zeros(words, start + w, size - w)
+    all_zeros(words, start + w, size - w)
 }

@@ -1,12 +1,11 @@
 -- Bytes put into a buffer one after the other.
 use mathlib.Core.Path.{◌≡◌, refl, ap, ◌∙◌}
 use mathlib.Core.List.{List, [], ◌∷◌, ◌++◌}
-use Prim.Native.Nat.{ℕ, suc, ◌+◌, ◌<◌}
+use Prim.Native.Nat.{ℕ, suc, ◌+◌}
 use native.Mathlib.Nat.{add-zero}
 use native.Mathlib.Omega.{arith}
-use native.Mathlib.Numerals.{add-one}
-use lib.ListN.{length, get_or, take, set, length-append}
-use lib.Seq.{sets, take-suc, length-take-le}
+use lib.ListN.{length, set, length-append}
+use lib.Seq.{sets}
 use Rattle.lines.specs.Lines.{Wrote}
 
 pub sets_append : (xs : List ℕ) (i : ℕ) (front back : List ℕ) → sets xs i (front ++ back) ≡ sets (sets xs i front) (i + length front) back
@@ -20,7 +19,3 @@ both {xs} {ys} {zs} {front} {back} {i} {m} {r} v w = record {
   fits = omega (arith, w.fits, v.size);
   size = w.size ∙ v.size;
 }
-
--- one byte more of a text
-pub sets_one_more : (xs ys : List ℕ) (i : ℕ) (bytes : List ℕ) (k : ℕ) → k < length bytes → ys ≡ sets xs i (take k bytes) → set ys (i + k) (get_or bytes k 0) ≡ sets xs i (take (k + 1) bytes)
-sets_one_more xs ys i bytes k h e = rw (add-one k, take-suc bytes k 0 h, sets_append xs i (take k bytes) (get_or bytes k 0 ∷ []), length-take-le k bytes (omega arith), e) refl

@@ -39,12 +39,9 @@ fn text(out: &mut [u8], place: usize, bytes: &[u8]) -> usize
     requires { place + length bytes.now ≤ length out.old }
     ensures { Wrote out.old out.new place bytes.now result }
 {
-    let mut k = 0;
-    while k < bytes.len() {
-        out[place + k] = bytes[k];
-        k += 1;
-    }
-    place + k
+    let end = place + bytes.len();
+    out[place..end].copy_from_slice(bytes);
+    end
 }
 
 // A tag in hexadecimal, with a space before and after it.

@@ -1,25 +1,24 @@
 -- The call by its questions: what its three answers leave, for code that asks them and then makes the five passes.
-use Rattle.std.specs.Prelude.{◌≡◌, ℕ, zero, suc, ◌+◌, ◌*◌, ◌<◌, ◌≤◌, drop}
+use Rattle.std.specs.Prelude.{◌≡◌, ℕ, suc, ◌+◌, ◌*◌, ◌≤◌, drop}
 use Rattle.std.proofs.Math.Path.{refl, ap, sym}
 use Rattle.std.proofs.Common.{◌∙◌, mul-add, mul-le-mul}
-use mathlib.Core.List.{List, [], ◌∷◌, ◌++◌}
+use mathlib.Core.List.{List, ◌++◌}
 use native.Mathlib.Omega.{arith}
 use Rattle.std.proofs.Math.ListN.{length, length-append}
-use Rattle.std.proofs.lemmas.List.Edits.{sets, sets-eq}
+use Rattle.std.proofs.lemmas.List.Edits.{sets-eq}
 use Rattle.std.proofs.Math.Seq.{length-sets}
 use Rattle.tables.specs.Base.{at}
 use Rattle.tables.specs.Laws.{count_bound}
 use Rattle.tables.specs.Questions.{Questions, none, ask, first_no}
-use Rattle.tables.specs.Rule.{Rule, Holds, non, below, ◌and◌, sound}
+use Rattle.tables.specs.Rule.{Rule, Holds, non, below, ◌and◌}
 use Rattle.model.specs.declared.sizes.Sizes.{Sizes}
 use Rattle.model.specs.State.{all_pages}
 use Rattle.model.specs.Sizes.{sizes_fit}
 use Rattle.model.specs.Laws.Fit.{Within, within}
-use Rattle.model.specs.Laws.Bounds.{pages_most}
 use Rattle.model.specs.Laws.Own.{first_yes, first_no_holds}
 use Rattle.model.specs.Rules.{fit}
 use Rattle.model.specs.Step.{Outcome, outcome, disk_lengths}
-use Rattle.mending.specs.Mend.{Pack, Lent, Change, all_places, changes, cleared, listed, after, listed_by, mended, all_changes, pack_of, with_pack, flat, mended_lent, mend}
+use Rattle.mending.specs.Mend.{Pack, Lent, all_places, changes, cleared, listed, after, listed_by, all_changes, pack_of, with_pack, flat, mended_lent, mend}
 use Rattle.mending.specs.Places.{PackFit, after_fit}
 use Rattle.mending.specs.Rules.{pack_fit, map_fit_4}
 use Rattle.mending.specs.Exact.{changes_exact}

@@ -5,10 +5,8 @@ use Rattle.tables.specs.Questions.{first_no}
 use Rattle.tables.specs.Rule.{test}
 use Rattle.tables.specs.Store.{choose, store}
 use Rattle.model.specs.declared.sizes.Sizes.{Sizes}
-use Rattle.model.specs.declared.event.Answer.{Answer}
-use Rattle.model.specs.State.{State}
 use Rattle.model.specs.Setters.{set_parents}
-use Rattle.model.specs.Step.{Outcome, restart}
+use Rattle.model.specs.Step.{restart}
 use Rattle.edges.specs.Lists.{said, junk}
 use Rattle.mending.specs.Mend.{Pack, Lent, place_at, wants, cleared, gather, listed, after, listed_by, mended, all_changes, flat, mend}
 

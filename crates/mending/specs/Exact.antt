@@ -3,15 +3,14 @@ use Rattle.std.specs.Prelude.{◌≡◌, ◌⊎◌, Bool, true, false, ◌||◌,
 use Rattle.std.proofs.Math.Path.{refl}
 use Rattle.std.proofs.Common.{ap, sym, ◌∙◌, inl, inr, arith, length-append, eq-eqb, ne_eqb}
 use Rattle.std.proofs.Math.Bool.{not}
-use Prim.Native.Nat.{ℕ, zero, suc, ◌+◌, ◌-◌, ◌*◌, ◌<◌, ◌≤◌}
-use Rattle.std.proofs.Math.Decide.{ℕ_discrete}
+use Prim.Native.Nat.{ℕ, zero, suc, ◌+◌, ◌-◌, ◌<◌, ◌≤◌}
 use Rattle.tables.specs.Base.{if, count}
-use Rattle.tables.specs.Laws.{T→true, ¬T→false, count_same, count_bound}
+use Rattle.tables.specs.Laws.{count_same, count_bound}
 use Rattle.tables.specs.CountLaws.{count_or}
-use Rattle.tables.specs.Rule.{Rule, Holds, test, told, untold}
+use Rattle.tables.specs.Rule.{test, told, untold}
 use Rattle.model.specs.declared.sizes.Sizes.{Sizes}
-use Rattle.mending.specs.Mend.{Pack, Place, Change, place_at, all_places, held, changes, change_at, gather, listed, after, listed_by, mended, all_changes}
-use Rattle.mending.specs.Places.{PackFit, In, place_in, after_fit, after_held, down}
+use Rattle.mending.specs.Mend.{Pack, Change, place_at, all_places, held, changes, change_at, gather, listed, after, listed_by, mended, all_changes}
+use Rattle.mending.specs.Places.{PackFit, place_in, after_fit, after_held, down}
 
 -- equal tests gather alike; as many as pass
 pub gather_same : {A : Type 0} (n : ℕ) (p q : ℕ → Bool) (f : ℕ → A) → ((i : ℕ) → i < n → p i ≡ q i) → gather n p f ≡ gather n q f

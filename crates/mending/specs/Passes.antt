@@ -1,9 +1,9 @@
 -- What the passes of code do to one place after the other: the list with changes noted, a table that has lost an entry, a step that stands before a place; and the laws that loops cite.
-use Rattle.std.specs.Prelude.{◌≡◌, refl, ◌⊎◌, Bool, true, false, T, eqb, set}
+use Rattle.std.specs.Prelude.{◌≡◌, refl, Bool, T, eqb, set}
 use Rattle.std.proofs.Math.Path.{ap}
-use Rattle.std.proofs.Common.{sym, ◌∙◌, inl, inr, suc-mul, length-set, get_or-set_same, get_or-set_other, eq-eqb, ne_eqb}
+use Rattle.std.proofs.Common.{sym, ◌∙◌, length-set, get_or-set_same, get_or-set_other, ne_eqb}
 use Rattle.std.proofs.Math.Bool.{not}
-use mathlib.Core.List.{List, [], ◌∷◌, ◌++◌, append-nil, append_assoc}
+use mathlib.Core.List.{List, [], ◌∷◌, ◌++◌, append-nil}
 use Prim.Native.Nat.{ℕ, zero, suc, ◌+◌, ◌-◌, ◌*◌, ◌/◌, ◌%◌, ◌<◌, ◌≤◌}
 use Rattle.std.proofs.Math.Numerals.{add-one}
 use native.Mathlib.Omega.{arith}
@@ -11,17 +11,16 @@ use Rattle.std.proofs.Math.Arith.{digits_div, digits_mod}
 use Rattle.std.proofs.Math.ListN.{length, length-append}
 use Rattle.std.proofs.lemmas.List.Edits.{sets}
 use Rattle.std.proofs.Math.Seq.{length-sets}
-use Rattle.tables.specs.Base.{at, if, count}
-use Rattle.tables.specs.Laws.{count_more, if_true, if_false, count_same}
+use Rattle.tables.specs.Base.{at, count}
+use Rattle.tables.specs.Laws.{count_more, if_true, if_false}
 use Rattle.tables.specs.CountLaws.{count_pos}
-use Rattle.tables.specs.Rule.{Rule, Holds, same, below, non, ◌and◌, some, names, test, sound, complete, alike}
+use Rattle.tables.specs.Rule.{Rule, Holds, same, below, names, test, sound, complete, alike}
 use Rattle.tables.specs.Turn.{test_same}
-use Rattle.tables.specs.Store.{Split, store, choose, at_choose, choose_ext}
-use Rattle.tables.specs.StoreLoops.{Turned, stored, turn_on, turn_off, turned_by, turned_at}
+use Rattle.tables.specs.StoreLoops.{Turned, turn_on, turn_off, turned_by, turned_at}
 use Rattle.model.specs.declared.sizes.Sizes.{Sizes}
-use Rattle.model.specs.State.{all_pages, page_of}
-use Rattle.mending.specs.Mend.{Pack, Place, number, account, entry, Change, slot_at, page_at, held, place_at, all_places, changes, change_at, gather, listed, cleared, flat}
-use Rattle.mending.specs.Places.{place_number, place_account, place_entry, page_inside}
+use Rattle.model.specs.State.{page_of}
+use Rattle.mending.specs.Mend.{Pack, Place, entry, Change, slot_at, page_at, held, place_at, changes, change_at, gather, flat}
+use Rattle.mending.specs.Places.{place_entry}
 
 abbrev pub packed : List ℕ → List ℕ → List ℕ → Pack
 packed ns qs ms = record { numbers = ns; accounts = qs; maps = ms }

@@ -1,14 +1,14 @@
 -- Places: which of them a pack has, where each stands in the order, and what a step leaves at each.
-use Rattle.std.specs.Prelude.{◌≡◌, refl, ◌⊎◌, List, ℕ, zero, suc, ◌+◌, ◌*◌, ◌/◌, ◌%◌, ◌<◌, ◌≤◌}
+use Rattle.std.specs.Prelude.{◌≡◌, refl, ◌⊎◌, List, ℕ, zero, suc, ◌+◌, ◌*◌, ◌/◌, ◌%◌, ◌<◌}
 use Rattle.std.proofs.Common.{ap, sym, ◌∙◌, inl, inr, mod-lt, div-lt_iff_lt-mul, arith}
 use Rattle.std.proofs.Math.Arith.{digits_div, digits_mod, digits_lt}
 use Rattle.std.proofs.Math.ListN.{length}
 use Rattle.tables.specs.Base.{at}
 use Rattle.tables.specs.Rule.{Rule, Holds}
-use Rattle.tables.specs.Store.{Split, store, at_store, length_store, choose_ext, choose}
+use Rattle.tables.specs.Store.{Split, store, at_store, length_store, choose_ext}
 use Rattle.model.specs.declared.sizes.Sizes.{Sizes}
 use Rattle.model.specs.State.{all_pages, page_of}
-use Rattle.mending.specs.Mend.{Pack, Place, number, account, entry, of_slot, place_at, all_places, held, wants, changes, cleared, after}
+use Rattle.mending.specs.Mend.{Pack, Place, number, account, entry, of_slot, place_at, all_places, held, changes, cleared, after}
 
 -- the tables have their lengths
 pub record PackFit (z : Sizes) (d : Pack) : Type 0 where

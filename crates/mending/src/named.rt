@@ -7,22 +7,18 @@ ghost use Rattle.mending.specs.Passes.{RowGiven, RowDone, of_shared};
 ghost use Rattle.mending.specs.Names.{Tally};
 
 use crate::slot::lose_entry;
-use leaves::cells::at8;
+use leaves::cells::at;
 
 // Counts how often each record is named, 2 for more; from a table of zeros.
 pub fn count_names(maps: &[u16], named: &mut [u8])
     requires { Holds (fit (length maps.now) (length named.old) (at maps.now)) × Holds (each (length named.old) (λ r. same (at named.old r) 0)) }
     ensures { Tally (at maps.now) (length maps.now) (length named.old) named.new }
 {
-    let mut i = 0;
-    while i < maps.len() {
-        let entry = maps[i] as usize;
-        if entry != 0 {
-            if named[entry - 1] < 2 {
-                named[entry - 1] += 1;
-            }
+    for entry in maps {
+        let e = usize::from(*entry);
+        if e != 0 && named[e - 1] < 2 {
+            named[e - 1] += 1;
         }
-        i += 1;
     }
 }
 
@@ -30,14 +26,10 @@ pub fn count_names(maps: &[u16], named: &mut [u8])
 fn is_shared(entry: u16, named: &[u8]) -> bool
     ensures { result ≡ test (of_shared named.now entry) }
 {
-    let e = entry as usize;
-    if e == 0 {
-        return false;
-    }
-    at8(named, e - 1) == 2
+    entry != 0 && at(named, usize::from(entry) - 1) == 2
 }
 
-// The entries of slot s that name a record named twice become 0.
+// The entries of slot s that name a record named twice become 0. As row_above but for its test: a test passed as a function would need a contract of its own.
 pub fn row_shared(
     s: usize,
     pages: usize,
@@ -51,12 +43,10 @@ pub fn row_shared(
 {
     let start = s * pages;
     let mut count = n;
-    let mut p = 0;
-    while p < pages {
+    for p in 0..pages {
         if is_shared(maps[start + p], named) {
             count = lose_entry(5, s, p, start + p, maps, changes, count);
         }
-        p += 1;
     }
     count
 }

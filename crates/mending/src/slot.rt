@@ -6,13 +6,6 @@ ghost use Rattle.mending.specs.Passes.{Lost, filled, RowGiven, RowDone, above};
 
 use crate::note::note;
 
-// A 16-bit number as one of 32.
-fn wide(x: u16) -> u32
-    ensures { result ≡ x }
-{
-    x as u32
-}
-
 // The account of slot s becomes 0 if it is above `most`; how many changes are listed then.
 pub fn account_above(
     reason: u32,
@@ -26,7 +19,7 @@ pub fn account_above(
     requires { (s < length accounts.old) × (s < 65536) × (pages < 65536) × (4 * (n + filled accounts.old) ≤ length changes.old) }
     ensures { Lost (below most (at accounts.old s)) reason s pages s accounts.old accounts.new changes.old changes.new n result }
 {
-    let old = wide(accounts[s]);
+    let old = u32::from(accounts[s]);
     if most < old {
         accounts[s] = 0;
         return note(changes, n, s, pages, old, reason);
@@ -47,7 +40,7 @@ pub fn lose_entry(
     requires { (i < length maps.old) × (s < 65536) × (p < 65536) × (0 < at maps.old i) × (4 * (n + filled maps.old) ≤ length changes.old) }
     ensures { Lost (below 0 1) reason s p i maps.old maps.new changes.old changes.new n result }
 {
-    let old = wide(maps[i]);
+    let old = u32::from(maps[i]);
     maps[i] = 0;
     note(changes, n, s, p, old, reason)
 }
@@ -67,12 +60,10 @@ pub fn row_above(
 {
     let start = s * pages;
     let mut count = n;
-    let mut p = 0;
-    while p < pages {
-        if most < wide(maps[start + p]) {
+    for p in 0..pages {
+        if most < u32::from(maps[start + p]) {
             count = lose_entry(reason, s, p, start + p, maps, changes, count);
         }
-        p += 1;
     }
     count
 }

@@ -18,20 +18,10 @@ fn is_doubled(numbers: &[u32], s: usize) -> bool
     ensures { result ≡ test (doubled_in numbers.now s) }
 {
     let number = numbers[s];
-    if number == 0 {
-        return false;
-    }
-    let mut t = 0;
-    while t < s {
-        if numbers[t] == number {
-            return true;
-        }
-        t += 1;
-    }
-    false
+    number != 0 && numbers[..s].contains(&number)
 }
 
-// Slot s loses its number, which is not 0.
+// Slot s loses its number, which is not 0: as an entry is lost, but numbers have 32 bits, and its contract speaks of numbers, not of a type's values.
 fn lose_number(s: usize, pages: usize, numbers: &mut [u32], changes: &mut [u32], n: usize) -> usize
     requires { (s < length numbers.old) × (s < 65536) × (pages < 65536) × (0 < at numbers.old s) × (4 * (n + filled numbers.old) ≤ length changes.old) }
     ensures { Lost (below 0 1) 1 s pages s numbers.old numbers.new changes.old changes.new n result }
@@ -55,14 +45,12 @@ pub fn empty_doubled(
 {
     let pages = sizes.pages;
     let mut count = n;
-    let mut s = 0;
-    while s < sizes.slots {
+    for s in 0..sizes.slots {
         if is_doubled(numbers, s) {
             count = lose_number(s, pages, numbers, changes, count);
             count = account_above(1, 0, s, pages, accounts, changes, count);
             count = row_above(1, 0, s, pages, maps, changes, count);
         }
-        s += 1;
     }
     count
 }
@@ -81,13 +69,11 @@ pub fn empty_unfilled(
 {
     let pages = sizes.pages;
     let mut count = n;
-    let mut s = 0;
-    while s < sizes.slots {
+    for s in 0..sizes.slots {
         if numbers[s] == 0 {
             count = account_above(2, 0, s, pages, accounts, changes, count);
             count = row_above(2, 0, s, pages, maps, changes, count);
         }
-        s += 1;
     }
     count
 }
@@ -100,10 +86,8 @@ pub fn fit_accounts(sizes: Sizes, accounts: &mut [u16], changes: &mut [u32], n: 
     let most = (sizes.accounts - 1) as u32;
     let pages = sizes.pages;
     let mut count = n;
-    let mut s = 0;
-    while s < sizes.slots {
+    for s in 0..sizes.slots {
         count = account_above(3, most, s, pages, accounts, changes, count);
-        s += 1;
     }
     count
 }
@@ -116,10 +100,8 @@ pub fn fit_entries(sizes: Sizes, maps: &mut [u16], changes: &mut [u32], n: usize
     let most = sizes.records as u32;
     let pages = sizes.pages;
     let mut count = n;
-    let mut s = 0;
-    while s < sizes.slots {
+    for s in 0..sizes.slots {
         count = row_above(4, most, s, pages, maps, changes, count);
-        s += 1;
     }
     count
 }
@@ -133,10 +115,8 @@ pub fn drop_shared(sizes: Sizes, maps: &mut [u16], changes: &mut [u32], n: usize
     count_names(maps, &mut named);
     let pages = sizes.pages;
     let mut count = n;
-    let mut s = 0;
-    while s < sizes.slots {
+    for s in 0..sizes.slots {
         count = row_shared(s, pages, &named, maps, changes, count);
-        s += 1;
     }
     count
 }

@@ -2,14 +2,12 @@
 use Rattle.std.specs.Prelude.{Bool, true, false, ◌&&◌, List, [], ◌∷◌, ℕ, zero, suc, ◌%◌, eqb, ltb, length}
 use Rattle.tables.specs.Base.{if}
 use Rattle.tables.specs.Rule.{test}
-use Rattle.sheets.specs.Sheet.{count_in}
 use Rattle.model.specs.declared.sizes.Sizes.{Sizes}
 use Rattle.model.specs.declared.event.Design.TheVariants.{Create, Delete, Activate, Deactivate}
 use Rattle.model.specs.declared.event.Page.TheVariants.{Fault, Read, Write, Wire, Unwire}
 use Rattle.model.specs.declared.event.Writeback.TheVariants.{Claim, Truncate, Update, PageDone, MapDone}
 use Rattle.model.specs.declared.event.Waiting.TheVariants.{Join, Turn}
 use Rattle.model.specs.declared.event.Event.{Event}
-use Rattle.model.specs.declared.event.Event.TheVariants as Event
 use Rattle.model.specs.State.{Disk, Memory, State, files, frames, WRITING, slot_of}
 use Rattle.model.specs.Pages.{fault_frame}
 use Rattle.model.specs.Writeback

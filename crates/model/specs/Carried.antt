@@ -8,7 +8,6 @@ use Rattle.model.specs.declared.event.Design.TheVariants.{Create, Delete, Activa
 use Rattle.model.specs.declared.event.Page.TheVariants.{Fault, Read, Write, Wire, Unwire}
 use Rattle.model.specs.declared.event.Writeback.TheVariants.{Claim, Truncate, Update, PageDone, MapDone}
 use Rattle.model.specs.declared.event.Event.{Event}
-use Rattle.model.specs.declared.event.Event.TheVariants as Event
 use Rattle.model.specs.Sizes.{sizes_fit}
 use Rattle.model.specs.State.{Disk, Memory, State, page_of, slot_of}
 use Rattle.model.specs.Rules.{disk_rules}

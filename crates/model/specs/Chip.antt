@@ -1,5 +1,5 @@
 -- (02) The chip in between: where a record's copy is, what goes in, what a fault finds, what is dropped.
-use Rattle.std.specs.Prelude.{List, ℕ, suc, ◌*◌, ◌/◌, ◌%◌, pred, eqb, set, replicate}
+use Rattle.std.specs.Prelude.{ℕ, suc, ◌*◌, ◌/◌, ◌%◌, pred, eqb, set, replicate}
 use Rattle.tables.specs.Base.{at, if, find}
 use Rattle.tables.specs.Queue.{push_front}
 use Rattle.tables.specs.Rule.{Rule, same, non, ◌and◌, some, names, test}

@@ -4,6 +4,8 @@ use Rattle.std.specs.Borrow.{Bor}
 use denote.Triple.Both.{Both}
 use Rattle.model.specs.declared.frame.Frame.{Frame}
 use Rattle.model.specs.declared.frame.Pool.{Pool}
+use Rattle.model.specs.declared.lent.DiskTables.{DiskTables}
+use Rattle.model.specs.declared.lent.MemoryTables.{MemoryTables}
 use Rattle.tables.specs.Queue.{packed}
 use Rattle.model.specs.State.{Disk, Memory, Chip, State, LINE}
 
@@ -52,65 +54,37 @@ Ref = Bor (List ℕ)
 abbrev pub Table : Type 0
 Table = Both Ref Ref
 
--- in a `requires`
-abbrev pub given : List Frame → Pool → Ref → Ref → Ref → Ref → Ref → Ref → Ref → Ref → Ref → Ref → Ref → Ref → Ref → Ref → Ref → Ref → Ref → Ref → State
-given frames pool records numbers accounts maps limits parents highest words free_queue removal_list addresses states owners free_map active updating images used =
-    state_of frames pool records.now numbers.now accounts.now maps.now limits.now parents.now highest.now words.now free_queue.now removal_list.now addresses.now
-    states.now owners.now free_map.now active.now updating.now images.now used.now
-
--- in an `ensures`: as it was passed
-abbrev pub entered : List Frame → Pool → Table → Table → Table → Table → Table → Table → Table → Table → Table → Table → Table → Table → Table → Table → Table → Table → Table → Table → State
-entered frames pool records numbers accounts maps limits parents highest words free_queue removal_list addresses states owners free_map active updating images used =
-    state_of frames pool records.entry.now numbers.entry.now accounts.entry.now maps.entry.now limits.entry.now parents.entry.now highest.entry.now words.entry.now free_queue.entry.now
-    removal_list.entry.now addresses.entry.now states.entry.now owners.entry.now free_map.entry.now active.entry.now updating.entry.now
-    images.entry.now used.entry.now
-
--- and as it is left
-abbrev pub left : List Frame → Pool → Table → Table → Table → Table → Table → Table → Table → Table → Table → Table → Table → Table → Table → Table → Table → Table → Table → Table → State
-left frames pool records numbers accounts maps limits parents highest words free_queue removal_list addresses states owners free_map active updating images used =
-    state_of frames pool records.exit.now numbers.exit.now accounts.exit.now maps.exit.now limits.exit.now parents.exit.now highest.exit.now words.exit.now free_queue.exit.now
-    removal_list.exit.now addresses.exit.now states.exit.now owners.exit.now free_map.exit.now active.exit.now updating.exit.now
-    images.exit.now used.exit.now
-
 -- ── with the line: what the events that look at it speak of ──
 abbrev pub lined_of : List Frame → Pool → List ℕ → List ℕ → List ℕ → List ℕ → List ℕ → List ℕ → List ℕ → List ℕ → List ℕ → List ℕ → List ℕ → List ℕ → List ℕ → List ℕ → List ℕ → List ℕ → List ℕ → List ℕ → List ℕ → State
 lined_of frames pool records numbers accounts maps limits parents highest words free_queue removal_list addresses states owners free_map active updating images line used =
     state_in no_chip line frames pool records numbers accounts maps limits parents highest words free_queue removal_list addresses states owners free_map active updating images used
-
-abbrev pub lined_given : List Frame → Pool → Ref → Ref → Ref → Ref → Ref → Ref → Ref → Ref → Ref → Ref → Ref → Ref → Ref → Ref → Ref → Ref → Ref → Ref → Ref → State
-lined_given frames pool records numbers accounts maps limits parents highest words free_queue removal_list addresses states owners free_map active updating images line used =
-    lined_of frames pool records.now numbers.now accounts.now maps.now limits.now parents.now highest.now words.now free_queue.now removal_list.now addresses.now
-    states.now owners.now free_map.now active.now updating.now images.now line.now used.now
-
-abbrev pub lined_entered : List Frame → Pool → Table → Table → Table → Table → Table → Table → Table → Table → Table → Table → Table → Table → Table → Table → Table → Table → Table → Table → Table → State
-lined_entered frames pool records numbers accounts maps limits parents highest words free_queue removal_list addresses states owners free_map active updating images line used =
-    lined_of frames pool records.entry.now numbers.entry.now accounts.entry.now maps.entry.now limits.entry.now parents.entry.now highest.entry.now words.entry.now free_queue.entry.now removal_list.entry.now addresses.entry.now
-    states.entry.now owners.entry.now free_map.entry.now active.entry.now updating.entry.now images.entry.now line.entry.now used.entry.now
-
-abbrev pub lined_left : List Frame → Pool → Table → Table → Table → Table → Table → Table → Table → Table → Table → Table → Table → Table → Table → Table → Table → Table → Table → Table → Table → State
-lined_left frames pool records numbers accounts maps limits parents highest words free_queue removal_list addresses states owners free_map active updating images line used =
-    lined_of frames pool records.exit.now numbers.exit.now accounts.exit.now maps.exit.now limits.exit.now parents.exit.now highest.exit.now words.exit.now free_queue.exit.now removal_list.exit.now addresses.exit.now
-    states.exit.now owners.exit.now free_map.exit.now active.exit.now updating.exit.now images.exit.now line.exit.now used.exit.now
 
 -- ── everything lent, the chip and the line with it: what the calls speak of ──
 abbrev pub all_of : List Frame → Pool → List ℕ → List ℕ → List ℕ → List ℕ → List ℕ → List ℕ → List ℕ → List ℕ → List ℕ → List ℕ → List ℕ → List ℕ → List ℕ → List ℕ → List ℕ → List ℕ → List ℕ → List ℕ → List ℕ → List ℕ → List ℕ → List ℕ → State
 all_of frames pool records numbers accounts maps limits parents highest words free_queue removal_list addresses states owners free_map active updating images chip-words copies next line used =
     state_in (chip_of chip-words copies next) line frames pool records numbers accounts maps limits parents highest words free_queue removal_list addresses states owners free_map active updating images used
 
-abbrev pub all_given : List Frame → Pool → Ref → Ref → Ref → Ref → Ref → Ref → Ref → Ref → Ref → Ref → Ref → Ref → Ref → Ref → Ref → Ref → Ref → Ref → Ref → Ref → Ref → Ref → State
-all_given frames pool records numbers accounts maps limits parents highest words free_queue removal_list addresses states owners free_map active updating images chip-words copies next line used =
-    all_of frames pool records.now numbers.now accounts.now maps.now limits.now parents.now highest.now words.now free_queue.now removal_list.now addresses.now
-    states.now owners.now free_map.now active.now updating.now images.now chip-words.now copies.now next.now line.now used.now
+-- ── the tables as the code reads them ──
+abbrev pub disk_read : DiskTables → Disk
+disk_read d = disk_of d.records.now d.numbers.now d.accounts.now d.maps.now d.limits.now d.parents.now d.highest.now
 
-abbrev pub all_entered : List Frame → Pool → Table → Table → Table → Table → Table → Table → Table → Table → Table → Table → Table → Table → Table → Table → Table → Table → Table → Table → Table → Table → Table → Table → State
-all_entered frames pool records numbers accounts maps limits parents highest words free_queue removal_list addresses states owners free_map active updating images chip-words copies next line used =
-    all_of frames pool records.entry.now numbers.entry.now accounts.entry.now maps.entry.now limits.entry.now parents.entry.now highest.entry.now words.entry.now free_queue.entry.now removal_list.entry.now addresses.entry.now
-    states.entry.now owners.entry.now free_map.entry.now active.entry.now updating.entry.now images.entry.now chip-words.entry.now copies.entry.now next.entry.now line.entry.now used.entry.now
+-- the memory part but for the chip and the line
+abbrev pub memory_read : List Frame → Pool → MemoryTables → Memory
+memory_read frames pool m =
+    memory_of frames pool m.frame_words.now m.free_queue.now m.removal_list.now m.addresses.now m.states.now m.owners.now m.free_map.now m.active.now m.updating.now m.images.now m.used.now
 
-abbrev pub all_left : List Frame → Pool → Table → Table → Table → Table → Table → Table → Table → Table → Table → Table → Table → Table → Table → Table → Table → Table → Table → Table → Table → Table → Table → Table → State
-all_left frames pool records numbers accounts maps limits parents highest words free_queue removal_list addresses states owners free_map active updating images chip-words copies next line used =
-    all_of frames pool records.exit.now numbers.exit.now accounts.exit.now maps.exit.now limits.exit.now parents.exit.now highest.exit.now words.exit.now free_queue.exit.now removal_list.exit.now addresses.exit.now
-    states.exit.now owners.exit.now free_map.exit.now active.exit.now updating.exit.now images.exit.now chip-words.exit.now copies.exit.now next.exit.now line.exit.now used.exit.now
+-- everything lent
+abbrev pub all_read : List Frame → Pool → DiskTables → MemoryTables → State
+all_read frames pool d m =
+    all_of frames pool d.records.now d.numbers.now d.accounts.now d.maps.now d.limits.now d.parents.now d.highest.now
+    m.frame_words.now m.free_queue.now m.removal_list.now m.addresses.now m.states.now m.owners.now m.free_map.now m.active.now m.updating.now m.images.now
+    m.chip_words.now m.chip_records.now m.chip_next.now m.line.now m.used.now
+
+-- .. but for the chip and the line
+abbrev pub tables_read : List Frame → Pool → DiskTables → MemoryTables → State
+tables_read frames pool d m =
+    state_of frames pool d.records.now d.numbers.now d.accounts.now d.maps.now d.limits.now d.parents.now d.highest.now
+    m.frame_words.now m.free_queue.now m.removal_list.now m.addresses.now m.states.now m.owners.now m.free_map.now m.active.now m.updating.now m.images.now m.used.now
 
 -- the pool of a state whose pool nothing looks at
 abbrev pub no_pool : Pool

@@ -1,5 +1,6 @@
 -- The definitions of the paper: what a reader must believe. What is proved of them stands in Laws.
 pub mod Sizes
+pub mod Refusals
 pub mod Lines
 pub mod Requests
 pub mod Payer

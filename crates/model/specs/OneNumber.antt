@@ -1,5 +1,5 @@
 -- One number, one design: what is claimed after every list of acts, and demand 3 by the number.
-use Rattle.std.specs.Prelude.{◌≡◌, List, map, ℕ, suc, T}
+use Rattle.std.specs.Prelude.{List, map, ℕ, suc, T}
 use Rattle.tables.specs.Base.{at}
 use Rattle.tables.specs.Rule.{Rule, same, ◌then◌, each, Holds}
 use Rattle.model.specs.declared.sizes.Sizes.{Sizes}

@@ -17,7 +17,6 @@ use Rattle.model.specs.declared.event.Writeback.TheVariants.{Claim, Truncate, Up
 use Rattle.model.specs.declared.event.Waiting.{Waiting}
 use Rattle.model.specs.declared.event.Waiting.TheVariants.{Join, Turn}
 use Rattle.model.specs.declared.event.Event.{Event}
-use Rattle.model.specs.declared.event.Event.TheVariants as Event
 use Rattle.model.specs.Lines.{NULLED, RELEASED}
 use Rattle.model.specs.Payer as Payer
 use Rattle.model.specs.State.{State, Files, Frames, files, frames, NONE, READING, LINE, page_of, slot_of, framed, live, charged, payer}

@@ -1,5 +1,5 @@
 -- The kinds of request, and what each asks for.
-use Rattle.std.specs.Prelude.{◌≡◌, refl, Bool, true, ◌&&◌, List, [], ◌∷◌, ◌++◌, ℕ, ◌<◌, T, eqb, ltb}
+use Rattle.std.specs.Prelude.{◌≡◌, refl, Bool, true, ◌&&◌, List, [], ◌∷◌, ◌++◌, ℕ, ◌<◌, T, eqb, ltb, Option, Some, None}
 use Rattle.std.proofs.Common.{ap, ◌∙◌, inl, inr, arith, ltb→lt, ne_eqb}
 use Rattle.std.proofs.Math.Decide.{dec_lt}
 use Rattle.tables.specs.Base.{if, all}
@@ -7,15 +7,12 @@ use Rattle.tables.specs.Laws.{and_left, and_right}
 use Rattle.tables.specs.Questions.{none, ask, first_no}
 use Rattle.tables.specs.Rule.{Rule, Holds, same, below, ◌and◌, ◌or◌, each, test, sound, untold}
 use Rattle.model.specs.declared.event.Event.{Event}
-use Rattle.model.specs.declared.event.Event.TheVariants as Event
 use Rattle.model.specs.declared.event.Design.TheVariants as Design
 use Rattle.model.specs.declared.event.Account.TheVariants as Account
 use Rattle.model.specs.declared.event.Page.TheVariants as Page
 use Rattle.model.specs.declared.event.Writeback.TheVariants as Store
 use Rattle.model.specs.declared.event.Waiting.TheVariants as Waiting
 use Rattle.model.specs.declared.request.Request.{Request}
-use Rattle.model.specs.declared.request.Decoded.{Decoded}
-use Rattle.model.specs.declared.request.Decoded.TheVariants.{Known, Unknown}
 
 -- a kind of request, and the event that it asks for
 pub record Kind : Type 0 where
@@ -66,20 +63,20 @@ abbrev pub waiting_kinds : Request → List Kind
 waiting_kinds r = kind 18 (Event.Waiting (Waiting.Join r.first r.second)) ∷ kind 19 (Event.Waiting Waiting.Turn) ∷ []
 
 -- the event of the first kind with this tag
-abbrev pub tagged : ℕ → List Kind → Decoded
-tagged t [] = Unknown
-tagged t (k ∷ ks) = if (eqb t k.tag) (Known k.event) (tagged t ks)
+abbrev pub tagged : ℕ → List Kind → Option Event
+tagged t [] = None
+tagged t (k ∷ ks) = if (eqb t k.tag) (Some k.event) (tagged t ks)
 
 abbrev pub kinds : Request → List Kind
 kinds r = design_kinds r ++ page_kinds r ++ writeback_kinds r ++ account_kinds r ++ waiting_kinds r
 
-unfoldable pub decoded : Request → Decoded
+unfoldable pub decoded : Request → Option Event
 decoded r = tagged r.kind (kinds r)
 
 -- the paper's number for each case
-abbrev pub decoded_number : Decoded → ℕ
-decoded_number (Known e) = 0
-decoded_number Unknown = 3
+abbrev pub decoded_number : Option Event → ℕ
+decoded_number (Some e) = 0
+decoded_number None = 3
 
 -- the kinds of event are 1 to 15, the event program's, and 17 to 19 (16 is that program's cut and restart)
 abbrev pub known : ℕ → Rule
@@ -93,7 +90,7 @@ abbrev pub kind_answer : Request → ℕ
 kind_answer r = first_no (ask 3 (kind_fits r) none)
 
 -- the event of a request, and the paper's number for the answer
-abbrev pub Decodes : Request → Decoded → Type 0
+abbrev pub Decodes : Request → Option Event → Type 0
 Decodes r d = (d ≡ decoded r) × (decoded_number d ≡ kind_answer r)
 
 -- ── the number by the kind ──
@@ -102,7 +99,7 @@ abbrev tags_below : ℕ → List Kind → Bool
 tags_below n [] = true
 tags_below n (k ∷ ks) = ltb k.tag n && tags_below n ks
 
-past : (t n : ℕ) (ks : List Kind) → T (tags_below n ks) → ¬ (t < n) → tagged t ks ≡ Unknown
+past : (t n : ℕ) (ks : List Kind) → T (tags_below n ks) → ¬ (t < n) → tagged t ks ≡ None
 past t n [] b h = refl
 past t n (k ∷ ks) b h = rw (ne_eqb t k.tag (λ e. omega (arith, e, ltb→lt k.tag n (and_left (ltb k.tag n) (tags_below n ks) b)))) (past t n ks (and_right (ltb k.tag n) (tags_below n ks) b) h)
 
@@ -128,5 +125,5 @@ decoded_number_holds r = elim (dec_lt r.kind 20) [
   | no l ↦ rw (untold (known r.kind) (unknown_past r.kind l)) (ap decoded_number (past r.kind 20 (kinds r) tt l))
 ]
 
-pub decodes_by : (r : Request) (d : Decoded) → d ≡ decoded r → Decodes r d
+pub decodes_by : (r : Request) (d : Option Event) → d ≡ decoded r → Decodes r d
 decodes_by r d e = (e, ap decoded_number e ∙ decoded_number_holds r)

@@ -12,7 +12,6 @@ use Rattle.model.specs.declared.event.Page.TheVariants.{Fault, Read, Write, Wire
 use Rattle.model.specs.declared.event.Writeback.TheVariants.{Claim, Truncate, Update, PageDone, MapDone}
 use Rattle.model.specs.declared.event.Waiting.TheVariants.{Join, Turn}
 use Rattle.model.specs.declared.event.Event.{Event}
-use Rattle.model.specs.declared.event.Event.TheVariants as Event
 use Rattle.model.specs.Sizes.{sizes_fit}
 use Rattle.model.specs.State.{Disk, Memory, Chip, State, LINE, files, all_pages, map_words}
 use Rattle.model.specs.Setters.{on_core, set_chip}

@@ -10,7 +10,6 @@ use Rattle.model.specs.declared.event.Account.TheVariants.{Limit, Move}
 use Rattle.model.specs.declared.event.Writeback.{Writeback}
 use Rattle.model.specs.declared.event.Writeback.TheVariants.{Claim, Truncate, Update, PageDone, MapDone}
 use Rattle.model.specs.declared.event.Event.{Event}
-use Rattle.model.specs.declared.event.Event.TheVariants as Event
 use Rattle.model.specs.State.{Disk, State, frames, READING}
 use Rattle.model.specs.Setters.{set_numbers, set_accounts, set_limits, raise}
 use Rattle.model.specs.Accounts.{shifted}

@@ -1,13 +1,10 @@
 -- The words that the theorems are said with, beside the definitions that they speak of.
-use Rattle.std.specs.Prelude.{◌≡◌, Bool, true, false, not, ◌&&◌, List, [], ◌∷◌, ◌++◌, ◌⊎◌, ℕ, zero, suc, ◌+◌, ◌-◌, ◌%◌, ◌<◌, ◌≤◌, T, eqb}
-use Rattle.tables.specs.Rule.{Rule, Holds, same, below, non, ◌and◌, ◌then◌, each, some}
+use Rattle.std.specs.Prelude.{◌≡◌, Bool, true, false, not, ◌&&◌, List, [], ◌∷◌, ◌++◌, ◌⊎◌, ℕ, zero, suc, ◌+◌, ◌-◌, ◌%◌, ◌<◌, ◌≤◌, T, eqb, Option, Some, None}
+use Rattle.tables.specs.Rule.{Rule, Holds, same, non, ◌and◌, ◌then◌, each, some}
 use Rattle.model.specs.declared.sizes.Sizes.{Sizes}
 use Rattle.model.specs.declared.event.Account.TheVariants.{Limit, Move}
 use Rattle.model.specs.declared.event.Writeback.TheVariants.{Claim, Truncate, Update, PageDone, MapDone}
 use Rattle.model.specs.declared.event.Event.{Event}
-use Rattle.model.specs.declared.event.Event.TheVariants as Event
-use Rattle.model.specs.declared.request.Decoded.{Decoded}
-use Rattle.model.specs.declared.request.Decoded.TheVariants.{Known, Unknown}
 use Rattle.model.specs.Lines.{FREE, NULLED, RELEASED, by_event, by_import}
 use Rattle.model.specs.State.{State, files, frames, NONE, READING, slot_of, page_of, framed}
 use Rattle.model.specs.Rules.{all_rules}
@@ -106,9 +103,9 @@ no_limits [] = true
 no_limits (a ∷ acts) = no_limit a && no_limits acts
 
 -- a request for the limit event
-abbrev pub asks_limit : Decoded → Bool
-asks_limit (Known e) = is_limit e
-asks_limit Unknown = false
+abbrev pub asks_limit : Option Event → Bool
+asks_limit (Some e) = is_limit e
+asks_limit None = false
 
 -- the sum of a table
 unfoldable pub sum : List ℕ → ℕ
@@ -139,9 +136,9 @@ is_done f (Event.Page e) = false
 is_done f (Event.Waiting e) = false
 
 -- a request for it
-abbrev pub asks_done : ℕ → Decoded → Bool
-asks_done f (Known e) = is_done f e
-asks_done f Unknown = false
+abbrev pub asks_done : ℕ → Option Event → Bool
+asks_done f (Some e) = is_done f e
+asks_done f None = false
 
 -- an act that is no cut, no restart and not that page done
 abbrev pub other : ℕ → Act → Bool
@@ -190,9 +187,9 @@ pub record Takes (z : Sizes) (st : State) (i q : ℕ) (st' : State) : Type 0 whe
 
 -- ── a list of requests as acts ──
 -- what a request asks for: an event, or nothing where its kind is no event
-abbrev pub acts_of : Decoded → List Act
-acts_of (Known e) = event e ∷ []
-acts_of Unknown = []
+abbrev pub acts_of : Option Event → List Act
+acts_of (Some e) = event e ∷ []
+acts_of None = []
 
 -- the acts of the first k requests
 unfoldable pub acts_to : List ℕ → ℕ → List Act

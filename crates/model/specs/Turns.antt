@@ -6,7 +6,6 @@ use Rattle.model.specs.declared.sizes.Sizes.{Sizes}
 use Rattle.model.specs.declared.event.Writeback.TheVariants.{PageDone, MapDone}
 use Rattle.model.specs.declared.event.Waiting.TheVariants.{Turn}
 use Rattle.model.specs.declared.event.Event.{Event}
-use Rattle.model.specs.declared.event.Event.TheVariants as Event
 use Rattle.model.specs.State.{State, frames, NONE}
 use Rattle.model.specs.Questions.{next_page}
 use Rattle.model.specs.Step.{step}

@@ -1,4 +1,6 @@
 // What comes back by value: from an event, what concerns the pool and the answer; from the work of a call, the frames too, 64 of them whatever F is.
+// Structs beside the answer, no Result: the frames and the pool come back on a refusal too, and what was taken or given back is told then as none.
+// A record is told as the tables name it, record + 1 or 0 for none.
 use crate::event::Answer;
 use crate::frame::{Frame, Pool};
 

@@ -6,5 +6,6 @@ pub mod frame; // a memory frame; the pool: the hand and the count of free recor
 pub mod event; // the events and their answer
 pub mod applied; // what the work of an event hands back by value
 pub mod lines; // the states of a record and the lines between them
-pub mod refusals; // the numbers of the questions that say no
+pub mod refusals; // the refusals, each by the question that says no
+pub mod lent; // the lent tables, to be read
 pub mod request; // a request as numbers, and its event

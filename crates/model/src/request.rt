@@ -16,14 +16,8 @@ pub struct Request {
     pub fourth: u32,
 }
 
-#[derive(Clone, Copy)]
-pub enum Decoded {
-    Known(Event),
-    Unknown,
-}
-
-// The event that a request asks for. Looks first among the kinds about a design.
-pub fn decode(request: Request) -> Decoded
+// The event that a request asks for; none where there is no such kind. Looks first among the kinds about a design.
+pub fn decode(request: Request) -> Option<Event>
     ensures { (result ≡ decoded request) × (decoded_number result ≡ kind_answer request) }
 {
     let kind = request.kind;
@@ -40,11 +34,11 @@ pub fn decode(request: Request) -> Decoded
         4 => Design::Deactivate { slot: first },
         _ => return page(request),
     };
-    Decoded::Known(Event::Design(event))
+    Some(Event::Design(event))
 }
 
 // .. then among those about one page.
-fn page(request: Request) -> Decoded
+fn page(request: Request) -> Option<Event>
     ensures { result ≡ tagged request.kind (page_kinds request ++ writeback_kinds request ++ account_kinds request ++ waiting_kinds request) }
 {
     let kind = request.kind;
@@ -64,11 +58,11 @@ fn page(request: Request) -> Decoded
         10 => Page::Unwire { slot, page },
         _ => return writeback(request),
     };
-    Decoded::Known(Event::Page(event))
+    Some(Event::Page(event))
 }
 
 // .. then among those that free or move.
-fn writeback(request: Request) -> Decoded
+fn writeback(request: Request) -> Option<Event>
     ensures { result ≡ tagged request.kind (writeback_kinds request ++ account_kinds request ++ waiting_kinds request) }
 {
     let kind = request.kind;
@@ -91,11 +85,11 @@ fn writeback(request: Request) -> Decoded
         },
         _ => return account(request),
     };
-    Decoded::Known(Event::Writeback(event))
+    Some(Event::Writeback(event))
 }
 
 // .. then among those about an account.
-fn account(request: Request) -> Decoded
+fn account(request: Request) -> Option<Event>
     ensures { result ≡ tagged request.kind (account_kinds request ++ waiting_kinds request) }
 {
     let kind = request.kind;
@@ -113,11 +107,11 @@ fn account(request: Request) -> Decoded
         },
         _ => return waiting(request),
     };
-    Decoded::Known(Event::Account(event))
+    Some(Event::Account(event))
 }
 
 // .. and last among those of the waiting line.
-fn waiting(request: Request) -> Decoded
+fn waiting(request: Request) -> Option<Event>
     ensures { result ≡ tagged request.kind (waiting_kinds request) }
 {
     let kind = request.kind;
@@ -126,7 +120,7 @@ fn waiting(request: Request) -> Decoded
     let event = match kind {
         18 => Waiting::Join { slot, page },
         19 => Waiting::Turn,
-        _ => return Decoded::Unknown,
+        _ => return None,
     };
-    Decoded::Known(Event::Waiting(event))
+    Some(Event::Waiting(event))
 }

@@ -18,13 +18,6 @@ pub struct Sizes {
 // How many requests can wait in the line.
 pub const LINE: usize = 32;
 
-// What comes of making sizes: all seven are within their limits, or one is not.
-#[derive(Clone, Copy)]
-pub enum Sized {
-    Within(Sizes),
-    Outside,
-}
-
 // From 1 to the most.
 fn up_to(n: usize, most: usize) -> bool
     ensures { result ≡ test (up_to n most) }
@@ -47,7 +40,7 @@ impl Sizes {
 
     pub const MOST_CHIP: usize = 256;
 
-    // Tests all seven, with no branch.
+    // None where one of the seven is outside its limits. All are tested, with no branch.
     pub fn new(
         words: usize,
         records: usize,
@@ -56,7 +49,7 @@ impl Sizes {
         pages: usize,
         accounts: usize,
         chip: usize,
-    ) -> Sized
+    ) -> Option<Sizes>
         ensures { (result ≡ sized (sizes_of words records frames slots pages accounts chip))
             × (sized_number result ≡ sizes_answer (sizes_of words records frames slots pages accounts chip)) }
     {
@@ -68,7 +61,7 @@ impl Sizes {
             & up_to(accounts, Self::MOST_ACCOUNTS)
             & up_to(chip, Self::MOST_CHIP);
         if fit {
-            Sized::Within(Self {
+            Some(Self {
                 words,
                 records,
                 frames,
@@ -78,7 +71,7 @@ impl Sizes {
                 chip,
             })
         } else {
-            Sized::Outside
+            None
         }
     }
 
@@ -95,10 +88,6 @@ impl Sizes {
             self.accounts,
             self.chip,
         );
-        if let Sized::Within(_) = made {
-            true
-        } else {
-            false
-        }
+        made.is_some()
     }
 }

@@ -5,21 +5,21 @@ use mathlib.Core.Logic.{inl, inr}
 use mathlib.Core.List.{List}
 use Prim.Native.Nat.{ℕ, ◌<◌}
 use native.Mathlib.Decide.{ℕ_discrete}
-use lib.Dec.{eqb, ltb, lt→ltb, ltb→lt}
+use lib.Dec.{ltb, lt→ltb, ltb→lt}
 use Rattle.tables.specs.Base.{if, at}
 use Rattle.tables.specs.Laws.{T→true, ¬T→false}
 use Rattle.tables.specs.Rule.{test, told, untold, decided}
-use Rattle.pages.specs.Faults.{is_live, way_of}
+use Rattle.pages.specs.Faults.{is_live, way_of, is_live_way}
 use Rattle.pages.specs.Writes.{is_charged}
 use Rattle.pages.proofs.Ways.{way_live, way_none, way_held}
 
 -- of an unmodified frame: by the way of its page
-pub charged_way : (modified : ℕ) (addresses states : List ℕ) (i : ℕ) → ¬ (modified ≡ 1) → eqb (way_of addresses states i) 2 ≡ test (is_charged modified addresses states i)
+pub charged_way : (modified : ℕ) (addresses states : List ℕ) (i : ℕ) → ¬ (modified ≡ 1) → is_live_way (way_of addresses states i) ≡ test (is_charged modified addresses states i)
 charged_way m ads ss i d = elim (decided (is_live ads ss i)) [
-  | yes h ↦ ap (λ (n : ℕ). eqb n 2) (way_live ads ss i h) ∙ sym (told (is_charged m ads ss i) (inl h))
+  | yes h ↦ ap is_live_way (way_live ads ss i h) ∙ sym (told (is_charged m ads ss i) (inl h))
   | no h ↦ elim (ℕ_discrete (at ads i) 0) [
-    | yes e ↦ ap (λ (n : ℕ). eqb n 2) (way_none ads ss i e) ∙ sym (untold (is_charged m ads ss i) (λ k. elim k [ inl x ↦ h x | inr x ↦ d x ]))
-    | no e ↦ ap (λ (n : ℕ). eqb n 2) (way_held ads ss i e h) ∙ sym (untold (is_charged m ads ss i) (λ k. elim k [ inl x ↦ h x | inr x ↦ d x ]))
+    | yes e ↦ ap is_live_way (way_none ads ss i e) ∙ sym (untold (is_charged m ads ss i) (λ k. elim k [ inl x ↦ h x | inr x ↦ d x ]))
+    | no e ↦ ap is_live_way (way_held ads ss i e h) ∙ sym (untold (is_charged m ads ss i) (λ k. elim k [ inl x ↦ h x | inr x ↦ d x ]))
   ]
 ]
 

@@ -5,7 +5,7 @@ use mathlib.Core.Logic.{inl, inr}
 use mathlib.Core.List.{List}
 use Prim.Native.Nat.{ℕ, suc, ◌-◌, ◌%◌, ◌<◌}
 use native.Mathlib.Omega.{arith}
-use lib.Dec.{T, eqb}
+use lib.Dec.{T}
 use lib.ListN.{length, take, set}
 use borrow.Author.Tests.{eq-eqb, ne_eqb}
 use Rattle.tables.specs.Base.{if, at}
@@ -35,9 +35,10 @@ use Rattle.leaves.specs.FrameLaws.{take_frame}
 use Rattle.pages.specs.Seen.{seen_fault}
 use Rattle.pages.specs.Needs.{Queued}
 use Rattle.leaves.specs.Asks.{slot_asked, asked_range}
-use Rattle.pages.specs.Faults.{way_of, away_asked, supply_asked, goes, cleared, FaultLeft}
+use Rattle.pages.specs.declared.supply.Way.{Way}
+use Rattle.pages.specs.Faults.{way_of, is_new, is_live_way, away_asked, supply_asked, goes, cleared, FaultLeft}
 use Rattle.pages.proofs.Served.{page_test, page_range, page_test_holds}
-use Rattle.pages.proofs.Ways.{zero_none}
+use Rattle.pages.proofs.Ways.{new_none}
 use Rattle.pages.proofs.Faulting.{way, live_none, fault_frames, fault_words, fault_queue, fault_list, fault_addresses, fault_states, fault_owners, fault_hand}
 
 -- a carried-out fault counts by its way
@@ -120,14 +121,14 @@ module _ {z : Sizes} {fs : List Frame} {pool : Pool} {numbers words queue list a
     fault_some = asked.1.1.1.1.1.1.0
 
     -- j, w and f are the code's page, way and frame
-    module _ {j w f : ℕ} (ej : j ≡ i) (ew : w ≡ way_of addresses states j) (ef : f ≡ first queue) where
+    module _ {j : ℕ} {w : Way} {f : ℕ} (ej : j ≡ i) (ew : w ≡ way_of addresses states j) (ef : f ≡ first queue) where
       its : w ≡ way z st s p
       its = ew ∙ ap (way_of addresses states) ej
 
-      pub fault_record : w ≡ 0 → 0 < pool.free
-      fault_record x = elim asked.1.1.1.1.1.0 [ inl u ↦ absurd (u (zero_none addresses states i (sym its ∙ x))) | inr u ↦ u ]
+      pub fault_record : is_new w ≡ true → 0 < pool.free
+      fault_record x = elim asked.1.1.1.1.1.0 [ inl u ↦ absurd (u (new_none addresses states i (sym (ap is_new its) ∙ x))) | inr u ↦ u ]
 
-      none_way : eqb (way z st s p) 0 ≡ test (same (at addresses i) 0)
+      none_way : is_new (way z st s p) ≡ test (same (at addresses i) 0)
       unfolding way_of
       none_way = live_none (test (live (files st) i)) (test (same (at addresses i) 0)) (λ a b. let x = sound (live (files st) i) a in let u = sound (same (at addresses i) 0) b in omega (arith, x.1, u))
 
@@ -139,38 +140,38 @@ module _ {z : Sizes} {fs : List Frame} {pool : Pool} {numbers words queue list a
       fault_yes = (λ t. record { refusal = 0; result = ef t }) ∙ (λ t. (y t).answer)
 
       pub fault_done : (pos : 0 < z.pages) (gs : List Frame) (t : ℕ) (words' queue' list' addresses' states' owners' map' : List ℕ)
-          → gs ≡ set fs f (if (eqb w 2) (awaiting j) (fresh j))
-          → t ≡ if (eqb w 0) (suc (pick z (at addresses) (at states) pool.hand j)) 0
-          → words' ≡ if (eqb w 2) words (set_part z f (λ x. 0) words)
+          → gs ≡ set fs f (if (is_live_way w) (awaiting j) (fresh j))
+          → t ≡ if (is_new w) (suc (pick z (at addresses) (at states) pool.hand j)) 0
+          → words' ≡ if (is_live_way w) words (set_part z f (λ x. 0) words)
           → queue' ≡ pop queue
-          → list' ≡ if (eqb w 2) list (push_front list f)
-          → addresses' ≡ if (eqb w 0) (set addresses j (suc (pick z (at addresses) (at states) pool.hand j))) addresses
-          → states' ≡ if (eqb w 0) (set states (pick z (at addresses) (at states) pool.hand j) NULLED) states
-          → owners' ≡ if (eqb w 0) (set owners (pick z (at addresses) (at states) pool.hand j) s) owners
-          → map' ≡ if (eqb w 0) (cleared map (pick z (at addresses) (at states) pool.hand j)) map
+          → list' ≡ if (is_live_way w) list (push_front list f)
+          → addresses' ≡ if (is_new w) (set addresses j (suc (pick z (at addresses) (at states) pool.hand j))) addresses
+          → states' ≡ if (is_new w) (set states (pick z (at addresses) (at states) pool.hand j) NULLED) states
+          → owners' ≡ if (is_new w) (set owners (pick z (at addresses) (at states) pool.hand j) s) owners
+          → map' ≡ if (is_new w) (cleared map (pick z (at addresses) (at states) pool.hand j)) map
           → FaultLeft z st s p (take z.frames gs) (taken z t pool) words' queue' list' addresses' states' owners' map'
       unfolding carried
       fault_done pos gs n' words' queue' list' addresses' states' owners' map' eg ep ewo eq el ea es eo em = record {
-        frames = ap (take z.frames) eg ∙ take_frame z.frames fs f _ ∙ (λ t. set (take z.frames fs) (ef t) (if (eqb (its t) 2) (awaiting (ej t)) (fresh (ej t)))) ∙ sym (fault_frames z st s p) ∙ (λ t. (y t).left.memory.core.frames);
-        words_left = ewo ∙ (λ t. if (eqb (its t) 2) words (set_part z (ef t) (λ x. 0) words)) ∙ sym (fault_words z st s p) ∙ (λ t. (y t).left.memory.core.words);
+        frames = ap (take z.frames) eg ∙ take_frame z.frames fs f _ ∙ (λ t. set (take z.frames fs) (ef t) (if (is_live_way (its t)) (awaiting (ej t)) (fresh (ej t)))) ∙ sym (fault_frames z st s p) ∙ (λ t. (y t).left.memory.core.frames);
+        words_left = ewo ∙ (λ t. if (is_live_way (its t)) words (set_part z (ef t) (λ x. 0) words)) ∙ sym (fault_words z st s p) ∙ (λ t. (y t).left.memory.core.words);
         queue_left = eq ∙ sym (fault_queue z st s p) ∙ (λ t. (y t).left.memory.core.free_queue);
-        list_left = el ∙ (λ t. if (eqb (its t) 2) list (push_front list (ef t))) ∙ sym (fault_list z st s p) ∙ (λ t. (y t).left.memory.core.removal_list);
-        addresses_left = ea ∙ (λ t. if (eqb (its t) 0) (set addresses (ej t) (suc (pick z (at addresses) (at states) pool.hand (ej t)))) addresses) ∙ sym (fault_addresses z st s p) ∙ (λ t. (y t).left.memory.held.addresses);
-        states_left = es ∙ (λ t. if (eqb (its t) 0) (set states (pick z (at addresses) (at states) pool.hand (ej t)) NULLED) states) ∙ sym (fault_states z st s p) ∙ (λ t. (y t).left.memory.held.states);
-        owners_left = eo ∙ (λ t. if (eqb (its t) 0) (set owners (pick z (at addresses) (at states) pool.hand (ej t)) (slot t)) owners) ∙ sym (fault_owners z st s p) ∙ (λ t. (y t).left.memory.held.owners);
-        hand = ap (λ (x : Pool). x.hand) held ∙ if_pool (eqb w 0) _ pool ∙ (λ t. if (eqb (its t) 0) (suc (pick z (at addresses) (at states) pool.hand (ej t)) % z.records) pool.hand) ∙ sym (fault_hand z st s p) ∙ (λ t. (y t).left.memory.held.pool.hand);
-        free = ap (λ (x : Pool). x.free) held ∙ if_free (eqb w 0) _ pool ∙ (λ t. if (none t) (pool.free - 1) pool.free) ∙ if_also (goes z st s p) (test (same (at addresses i) 0)) (pool.free - 1) pool.free going;
+        list_left = el ∙ (λ t. if (is_live_way (its t)) list (push_front list (ef t))) ∙ sym (fault_list z st s p) ∙ (λ t. (y t).left.memory.core.removal_list);
+        addresses_left = ea ∙ (λ t. if (is_new (its t)) (set addresses (ej t) (suc (pick z (at addresses) (at states) pool.hand (ej t)))) addresses) ∙ sym (fault_addresses z st s p) ∙ (λ t. (y t).left.memory.held.addresses);
+        states_left = es ∙ (λ t. if (is_new (its t)) (set states (pick z (at addresses) (at states) pool.hand (ej t)) NULLED) states) ∙ sym (fault_states z st s p) ∙ (λ t. (y t).left.memory.held.states);
+        owners_left = eo ∙ (λ t. if (is_new (its t)) (set owners (pick z (at addresses) (at states) pool.hand (ej t)) (slot t)) owners) ∙ sym (fault_owners z st s p) ∙ (λ t. (y t).left.memory.held.owners);
+        hand = ap (λ (x : Pool). x.hand) held ∙ if_pool (is_new w) _ pool ∙ (λ t. if (is_new (its t)) (suc (pick z (at addresses) (at states) pool.hand (ej t)) % z.records) pool.hand) ∙ sym (fault_hand z st s p) ∙ (λ t. (y t).left.memory.held.pool.hand);
+        free = ap (λ (x : Pool). x.free) held ∙ if_free (is_new w) _ pool ∙ (λ t. if (none t) (pool.free - 1) pool.free) ∙ if_also (goes z st s p) (test (same (at addresses i) 0)) (pool.free - 1) pool.free going;
         map_left_holds = em ∙ (λ t. if (none t) (cleared map (pick z (at addresses) (at states) pool.hand (ej t))) map) ∙ if_also (goes z st s p) (test (same (at addresses i) 0)) (cleared map (pick z (at addresses) (at states) pool.hand i)) map going;
       }
         where
-          held : taken z n' pool ≡ if (eqb w 0) (record { hand = suc (pick z (at addresses) (at states) pool.hand j) % z.records; free = pool.free - 1 }) pool
-          held = ap (λ (x : ℕ). taken z x pool) ep ∙ taken_by z (pick z (at addresses) (at states) pool.hand j) pool (eqb w 0)
+          held : taken z n' pool ≡ if (is_new w) (record { hand = suc (pick z (at addresses) (at states) pool.hand j) % z.records; free = pool.free - 1 }) pool
+          held = ap (λ (x : ℕ). taken z x pool) ep ∙ taken_by z (pick z (at addresses) (at states) pool.hand j) pool (is_new w)
 
           slot : s ≡ slot_of z i
           slot = sym (slot_of_page z pos s p fault_range.1)
 
-          none : eqb w 0 ≡ test (same (at addresses i) 0)
-          none = ap (λ (x : ℕ). eqb x 0) its ∙ none_way
+          none : is_new w ≡ test (same (at addresses i) 0)
+          none = ap is_new its ∙ none_way
 
 -- the first queued frame, and room for it in the removal list
 pub serve_needs : (z : Sizes) (free list : List ℕ) (f : ℕ) → Queued z free list → 0 < size free → f ≡ first free → (f < z.frames) × Holds (queue (length list) list) × (size list < length list)

@@ -3,6 +3,7 @@ use mathlib.Core.Path.{◌≡◌, ◌∙◌}
 use mathlib.Core.Bool.{Bool, true, false, ◌&&◌}
 use mathlib.Core.List.{List}
 use Prim.Native.Nat.{ℕ, ◌<◌}
+use native.Mathlib.Omega.{arith}
 use lib.Dec.{ltb}
 use lib.ListN.{take}
 use Rattle.tables.specs.Rule.{Rule, below, ◌and◌, test}
@@ -11,11 +12,17 @@ use Rattle.tables.specs.Questions.{first_no}
 use Rattle.tables.specs.Also.{◌also◌}
 use Rattle.model.specs.declared.sizes.Sizes.{Sizes}
 use Rattle.model.specs.declared.frame.Frame.{Frame}
+use Rattle.model.specs.declared.refusals.Refusal.{Refusal}
+use Rattle.model.specs.Refusals.{number, number_above}
 use Rattle.model.specs.State.{State, page_of}
 use Rattle.model.specs.Questions.{served, still, arrived}
 use Rattle.pages.specs.Seen.{seen}
 use Rattle.leaves.specs.Asks.{slot_asked, asked_range, two_below, three_below}
 use Rattle.pages.specs.Asks.{frame_asked}
+
+-- a refusal is no yes
+pub no_yes : (e : Refusal) → ¬ (number e ≡ 0)
+no_yes e x = let above = number_above e in omega (arith, above, x)
 
 -- the ranges as the code tests them
 abbrev pub page_test : Sizes → ℕ → ℕ → Bool

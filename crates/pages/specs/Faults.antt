@@ -1,5 +1,5 @@
 -- The three ways of a fault, by the page's address, its questions in parts, and what it counts down.
-use Rattle.std.specs.Prelude.{◌≡◌, Bool, ◌&&◌, List, ℕ, ◌-◌, ◌/◌, ◌%◌, ◌^◌, eqb, set}
+use Rattle.std.specs.Prelude.{◌≡◌, Bool, true, false, ◌&&◌, List, ℕ, ◌-◌, ◌/◌, ◌%◌, ◌^◌, eqb, set}
 use Rattle.tables.specs.Base.{if, at}
 use Rattle.tables.specs.Queue.{size}
 use Rattle.tables.specs.Questions.{Questions, none, ask, first_no}
@@ -16,14 +16,28 @@ use Rattle.model.specs.Questions.{questions}
 use Rattle.model.specs.Laws.Own.{own}
 use Rattle.leaves.specs.FrameLaws.{frames_of, is_still}
 use Rattle.pages.specs.Asks.{of_frame}
+use Rattle.pages.specs.declared.supply.Way.{Way}
+use Rattle.pages.specs.declared.supply.Way.TheVariants.{New, Held, Live}
 
 -- the page's address is live
 abbrev pub is_live : List ℕ → List ℕ → ℕ → Rule
 is_live addresses states i = names (at addresses i) λ r. same (at states r) LIVE
 
--- 0: the page has no address; 1: one that is not live; 2: a live one
-unfoldable pub way_of : List ℕ → List ℕ → ℕ → ℕ
-way_of addresses states i = if (test (is_live addresses states i)) 2 (if (test (same (at addresses i) 0)) 0 1)
+-- the way of a page: its address is live; there is none; any other
+unfoldable pub way_of : List ℕ → List ℕ → ℕ → Way
+way_of addresses states i = if (test (is_live addresses states i)) Live (if (test (same (at addresses i) 0)) New Held)
+
+-- the page has no address
+abbrev pub is_new : Way → Bool
+is_new New = true
+is_new Held = false
+is_new Live = false
+
+-- its address is live
+abbrev pub is_live_way : Way → Bool
+is_live_way New = false
+is_live_way Held = false
+is_live_way Live = true
 
 -- 14 and 15: the page in no transfer; in no frame
 abbrev pub away_asked : Sizes → List Frame → ℕ → Questions

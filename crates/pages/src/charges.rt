@@ -5,18 +5,15 @@ ghost use Rattle.tables.specs.Rule.{test};
 ghost use Rattle.leaves.specs.Payers.{who_pays};
 ghost use Rattle.pages.specs.Writes.{is_charged, charged1};
 
-use crate::supply::way_of;
-use leaves::cells::{at16, put16};
+use crate::supply::{Way, way_of};
+use leaves::cells::{at, put};
 use leaves::payer::slot_payer;
 
 // Whether a page in a frame is charged: its frame is modified, or its address is live.
 pub fn is_charged(page: usize, modified: u8, addresses: &[u16], states: &[u8]) -> bool
     ensures { result ≡ test (is_charged modified addresses.now states.now page) }
 {
-    if modified == 1 {
-        return true;
-    }
-    way_of(page, addresses, states) == 2
+    modified == 1 || matches!(way_of(page, addresses, states), Way::Live)
 }
 
 // Question 18: whether the page is charged, or the slot's payer has used below limit. The payer's used count goes up by one where it is the first.
@@ -38,9 +35,9 @@ pub fn pay(
         return true;
     }
     let payer = slot_payer(parents, limits, accounts, slot);
-    let count = at16(used, payer);
-    if count < at16(limits, payer) {
-        put16(used, payer, count + 1);
+    let count = at(used, payer);
+    if count < at(limits, payer) {
+        put(used, payer, count + 1);
         return true;
     }
     false

@@ -7,6 +7,7 @@ ghost use Rattle.model.specs.declared.event.Page.TheVariants as Page;
 ghost use Rattle.model.specs.State.{page_of};
 ghost use Rattle.model.specs.Pool.{taken};
 ghost use Rattle.model.specs.Laws.Own.{own};
+ghost use Rattle.model.specs.Refusals.{said};
 ghost use Rattle.pages.specs.Seen.{entered_fault};
 ghost use Rattle.leaves.specs.Asks.{slot_asked};
 ghost use Rattle.leaves.specs.Packed.{frames_in, frames_given, frames_entered};
@@ -20,6 +21,7 @@ use leaves::queue::{first, pop};
 use model::applied::Worked;
 use model::event::Answer;
 use model::frame::Pool;
+use model::refusals::Refusal;
 use model::sizes::Sizes;
 
 // All questions of a fault; `free` is the count of free records.
@@ -34,20 +36,14 @@ pub fn ask_fault(
     active: &[u8],
     addresses: &[u16],
     free_queue: &[u16],
-) -> u32
+) -> Result<(), Refusal>
     requires { Seats sizes (frames_given sizes frames) × ((in_range ≡ true) → (slot < sizes.slots) × (page < sizes.pages)) }
-    ensures { result ≡ first_no (slot_asked in_range slot numbers.now active.now also away_asked sizes (frames_entered sizes frames) (page_of sizes slot page) also
+    ensures { said result ≡ first_no (slot_asked in_range slot numbers.now active.now also away_asked sizes (frames_entered sizes frames) (page_of sizes slot page) also
         supply_asked (page_of sizes slot page) addresses.now free free_queue.now) }
 {
-    let no = ask_slot(in_range, slot, numbers, active);
-    if no != 0 {
-        return no;
-    }
+    ask_slot(in_range, slot, numbers, active)?;
     let i = page_of(sizes, slot, page);
-    let no = ask_away(sizes, frames, i);
-    if no != 0 {
-        return no;
-    }
+    ask_away(sizes, frames, i)?;
     ask_supply(i, free, addresses, free_queue)
 }
 
@@ -84,16 +80,10 @@ pub fn fault(
     ensures free { (taken sizes result.taken pool).free ≡ free_left sizes (entered_fault (frames_in sizes frames.old) pool numbers.now words.old free_queue.old removal_list.old addresses.old states.old owners.old free_map.old active.now) slot page }
 {
     let in_range = (slot < sizes.slots) & (page < sizes.pages);
-    let refusal = ask_fault(
+    if let Err(no) = ask_fault(
         sizes, in_range, slot, page, frames, pool.free, numbers, active, addresses, free_queue,
-    );
-    if refusal != 0 {
-        return Worked {
-            taken: 0,
-            deposited: 0,
-            nulled: 0,
-            answer: Answer { refusal, result: 0 },
-        };
+    ) {
+        return Worked::from(no);
     }
     let i = page_of(sizes, slot, page);
     let f = first(free_queue);
@@ -107,9 +97,6 @@ pub fn fault(
         taken,
         deposited: 0,
         nulled: 0,
-        answer: Answer {
-            refusal: 0,
-            result: f as u32,
-        },
+        answer: Answer::from(Ok(f as u32)),
     }
 }

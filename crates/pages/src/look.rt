@@ -22,17 +22,16 @@ pub fn place(
     ensures within { result.start + result.count ≤ sizes.frames * sizes.words }
 {
     let in_range = (slot < sizes.slots) & (page < sizes.pages);
-    let seat = ask_served(true, sizes, in_range, slot, page, frames, numbers, active);
-    if seat.refusal != 0 {
-        return Part {
-            refusal: seat.refusal,
+    match ask_served(true, sizes, in_range, slot, page, frames, numbers, active) {
+        Ok(f) => Part {
+            refusal: 0,
+            start: word_of(sizes, f, 0),
+            count: sizes.words,
+        },
+        Err(no) => Part {
+            refusal: no.number(),
             start: 0,
             count: 0,
-        };
-    }
-    Part {
-        refusal: 0,
-        start: word_of(sizes, seat.frame, 0),
-        count: sizes.words,
+        },
     }
 }

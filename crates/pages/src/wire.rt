@@ -3,6 +3,7 @@ ghost use Rattle.std.specs.Prelude.{◌≡◌};
 ghost use Rattle.model.specs.declared.event.Event.TheVariants as Event;
 ghost use Rattle.model.specs.declared.event.Page.TheVariants as Page;
 ghost use Rattle.model.specs.Laws.Own.{own};
+ghost use Rattle.model.specs.Refusals.{answered};
 ghost use Rattle.leaves.specs.Packed.{frames_in};
 ghost use Rattle.pages.specs.Seen.{entered_list};
 ghost use Rattle.pages.specs.Needs.{Seats, RemovalList};
@@ -10,8 +11,7 @@ ghost use Rattle.pages.specs.Needs.{Seats, RemovalList};
 use crate::asks::ask_served;
 use leaves::packed::{frame_at, put_frame};
 use leaves::queue::remove;
-use model::event::Answer;
-use model::refusals::WIRED;
+use model::refusals::Refusal;
 use model::sizes::Sizes;
 
 pub fn wire(
@@ -22,32 +22,20 @@ pub fn wire(
     numbers: &[u32],
     active: &[u8],
     removal_list: &mut [u16],
-) -> Answer
+) -> Result<u32, Refusal>
     requires { Seats sizes (frames_in sizes frames.old) × RemovalList sizes (frames_in sizes frames.old) removal_list.old }
-    ensures answer { result ≡ (own sizes (entered_list (frames_in sizes frames.old) numbers.now removal_list.old active.now) (Event.Page (Page.Wire slot page))).answer }
+    ensures answer { answered result ≡ (own sizes (entered_list (frames_in sizes frames.old) numbers.now removal_list.old active.now) (Event.Page (Page.Wire slot page))).answer }
     ensures frames { frames_in sizes frames.new ≡ (own sizes (entered_list (frames_in sizes frames.old) numbers.now removal_list.old active.now) (Event.Page (Page.Wire slot page))).left.memory.core.frames }
     ensures list { removal_list.new ≡ (own sizes (entered_list (frames_in sizes frames.old) numbers.now removal_list.old active.now) (Event.Page (Page.Wire slot page))).left.memory.core.removal_list }
 {
     let in_range = (slot < sizes.slots) & (page < sizes.pages);
-    let seat = ask_served(false, sizes, in_range, slot, page, frames, numbers, active);
-    if seat.refusal != 0 {
-        return Answer {
-            refusal: seat.refusal,
-            result: 0,
-        };
-    }
-    let mut frame = frame_at(frames, seat.frame);
+    let f = ask_served(false, sizes, in_range, slot, page, frames, numbers, active)?;
+    let mut frame = frame_at(frames, f);
     if frame.wired == 1 {
-        return Answer {
-            refusal: WIRED,
-            result: 0,
-        };
+        return Err(Refusal::Wired);
     }
     frame.wired = 1;
-    remove(removal_list, seat.frame);
-    put_frame(frames, seat.frame, frame);
-    Answer {
-        refusal: 0,
-        result: 0,
-    }
+    remove(removal_list, f);
+    put_frame(frames, f, frame);
+    Ok(0)
 }

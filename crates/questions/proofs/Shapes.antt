@@ -1,6 +1,6 @@
 -- Tables by rows, and rules that are alike number by number.
 use mathlib.Core.Path.{◌≡◌, ◌∙◌, subst}
-use Prim.Native.Nat.{ℕ, suc, ◌+◌, ◌*◌, ◌/◌, ◌%◌, ◌<◌, ◌≤◌}
+use Prim.Native.Nat.{ℕ, suc, min, ◌+◌, ◌*◌, ◌/◌, ◌%◌, ◌<◌, ◌≤◌}
 use native.Mathlib.Nat.{mod-lt, div-add-mod', div-lt_iff_lt-mul, mul-add-div_right, div-eq_of_lt, mul-le-mul_right, suc-mul}
 use native.Mathlib.Omega.{arith}
 use lib.ListN.{replicate}
@@ -11,6 +11,10 @@ use Rattle.tables.specs.Laws.{at_zeros}
 -- a table of zeros
 pub all_zero : (n : ℕ) → Holds (each n (λ r. same (at (replicate n 0) r) 0))
 all_zero n r h = at_zeros n r
+
+-- the words of a bit for each of r
+pub words_told : {q : ℕ} (r : ℕ) → q ≡ r / 32 + min 1 (r % 32) → q ≡ (r + 31) / 32
+words_told r e = omega arith
 
 -- ── pages by slot ──
 module _ (slots pages : ℕ) (pos : 0 < pages) (P : ℕ → ℕ → Type 0) where

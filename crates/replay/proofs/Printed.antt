@@ -1,5 +1,5 @@
 -- What is printed: a whole field's line and then the rest; and lines gathered in a buffer.
-use Rattle.std.proofs.Common.{◌≡◌, ℕ, zero, suc, ◌+◌, ◌-◌, ◌<◌, ◌≤◌, Bool, true, false, ◌&&◌, ltb, leb, List, [], ◌++◌, length, sym, refl, ap, ◌∙◌, append_assoc, suc-add, add-one, arith, ltb-true, leb-true}
+use Rattle.std.proofs.Common.{◌≡◌, ℕ, zero, suc, ◌+◌, ◌-◌, ◌<◌, ◌≤◌, Bool, true, false, ◌&&◌, ltb, leb, List, [], ◌++◌, Some, None, length, sym, refl, ap, ◌∙◌, append_assoc, suc-add, add-one, arith, ltb-true, leb-true}
 use Rattle.tables.specs.Base.{if}
 use Rattle.model.specs.declared.event.Answer.{Answer}
 use Rattle.model.specs.State.{State}
@@ -65,8 +65,19 @@ and_both : (a b : Bool) → a && b ≡ true → (a ≡ true) × (b ≡ true)
 and_both true b e = (refl, e)
 and_both false b e = absurd (let z : ◌≡◌ {A = ℕ} 0 1 = ap (λ (x : Bool). if x 1 0) e in omega arith)
 
-pub step_whole : (step : Step) (f : Field) (r : Bool) → step ≡ step_of f r → step.whole ≡ true → (is_whole f ≡ true) × (r ≡ true)
-step_whole step f r e t = and_both (is_whole f) r (sym (ap (λ (x : Step). x.whole) e) ∙ t)
+-- one that is taken is that of a whole field, and its line has room
+pub record Taken (step : Step) (f : Field) (r : Bool) : Type 0 where
+  pub whole : is_whole f ≡ true
+  pub room : r ≡ true
+  pub asks : step.asked ≡ request_of f
+  pub ends_at : step.next ≡ next_of f
+
+pub step_taken : (step : Step) (f : Field) (r : Bool) → Some step ≡ step_of f r → Taken step f r
+step_taken step f r e = go (is_whole f && r) refl e
+  where
+    go : (b : Bool) → is_whole f && r ≡ b → Some step ≡ if b (Some (record { asked = request_of f; next = next_of f })) None → Taken step f r
+    go true t s = let w = and_both (is_whole f) r t in record { whole = w.0; room = w.1; asks = cc; ends_at = cc }
+    go false t s = absurd cc
 
 pub roomy : (size n : ℕ) → room size n ≡ true → (size ≤ 4050) × (n < 18446744073709551615)
 roomy size n e = let p = and_both (leb size 4050) (ltb n 18446744073709551615) e in (leb-true size 4050 p.0, ltb-true n 18446744073709551615 p.1)
@@ -82,12 +93,12 @@ whole_settled Wrong e = refl
 pub ran_none : (s out : List ℕ) (i n : ℕ) (st : State) → Ran s out out i n st i 0 n st
 ran_none s out i n st = record { forth = omega arith; within = λ h. h; bytes = []; wrote = record { buffer = refl; end = omega arith; fits = omega arith; size = refl }; is = λ offset t. refl }
 
-ran_more : {s before mid after : List ℕ} {from count place size n end : ℕ} {st now left : State} {a : Answer} {step : Step} (r : Bool)
-    → Ran s before mid from count st place size n now → step ≡ step_of (field_at s place) r → step.whole ≡ true
+pub ran_more : {s before mid after : List ℕ} {from count place size n end : ℕ} {st now left : State} {a : Answer} {step : Step}
+    → Ran s before mid from count st place size n now → Some step ≡ step_of (field_at s place) (room size n)
     → record { answer = a; left = left } ≡ carried now step.asked
     → Wrote mid after size (line_of (n + 1) step.asked.kind a.refusal a.result) end
     → Ran s before after from count st step.next end (n + 1) left
-ran_more {s} {before} {mid} {after} {from} {count} {place} {size} {n} {end} {st} {now} {left} {a} {step} r ran e t o w = record {
+ran_more {s} {before} {mid} {after} {from} {count} {place} {size} {n} {end} {st} {now} {left} {a} {step} ran e o w = record {
   forth = omega (arith, ran.forth, ends_at, ahead.0);
   within = λ h. omega (arith, ends_at, ahead.1);
   bytes = ran.bytes ++ line_of (n + 1) step.asked.kind a.refusal a.result;
@@ -96,11 +107,14 @@ ran_more {s} {before} {mid} {after} {from} {count} {place} {size} {n} {end} {st}
       ∙ sym (append_assoc ran.bytes (line_of (n + 1) step.asked.kind a.refusal a.result) (printed_from offset (s ++ t) step.next (n + 1) left));
 }
   where
+    taken : Taken step (field_at s place) (room size n)
+    taken = step_taken step (field_at s place) (room size n) e
+
     whole : is_whole (field_at s place) ≡ true
-    whole = (step_whole step (field_at s place) r e t).0
+    whole = taken.whole
 
     ends_at : step.next ≡ next_of (field_at s place)
-    ends_at = ap (λ (x : Step). x.next) e
+    ends_at = taken.ends_at
 
     ahead : (place + 3 ≤ next_of (field_at s place)) × (next_of (field_at s place) ≤ length s)
     ahead = forward s place whole
@@ -109,26 +123,10 @@ ran_more {s} {before} {mid} {after} {from} {count} {place} {size} {n} {end} {st}
         → printed_from offset (s ++ t) place n now ≡ line_of (n + 1) step.asked.kind a.refusal a.result ++ printed_from offset (s ++ t) step.next (n + 1) left
     one offset t =
         let same : field_at (s ++ t) place ≡ field_at s place = followed s t place (whole_settled (field_at s place) whole) in
-        printed_whole offset (s ++ t) place n now (ap is_whole same ∙ whole) ∙ (rw (same, ← ap (λ (x : Step). x.asked) e, ← ends_at, ← o, add-one n) refl)
+        printed_whole offset (s ++ t) place n now (ap is_whole same ∙ whole) ∙ (rw (same, ← taken.asks, ← ends_at, ← o, add-one n) refl)
 
--- ── where the loop stands: the step that is next, and what has been carried out ──
-pub record At (s before : List ℕ) (from count : ℕ) (st : State) (place size n : ℕ) (step : Step) (out : List ℕ) (now : State) : Type 0 where
-  pub next : step ≡ step_of (field_at s place) (room size n)
-  pub ran : Ran s before out from count st place size n now
-
-pub at_first : {s out : List ℕ} {i n : ℕ} {st : State} {step : Step} → step ≡ step_of (field_at s i) (room 0 n) → At s out i n st i 0 n step out st
-at_first {s} {out} {i} {n} {st} {step} e = record { next = e; ran = ran_none s out i n st }
-
-module _ {s before out : List ℕ} {from count place size n : ℕ} {st now : State} {step : Step} (h : At s before from count st place size n step out now) where
-  pub at_room : 4096 ≤ length before → step.whole ≡ true → (size + 46 ≤ length out) × (n < 18446744073709551615)
-  at_room p t = let r = roomy size n (step_whole step (field_at s place) (room size n) h.next t).1 in (omega (arith, r.0, p, h.ran.wrote.size), r.1)
-
-  pub at_more : {after : List ℕ} {end : ℕ} {left : State} {a : Answer} {next : Step} → step.whole ≡ true
-      → record { answer = a; left = left } ≡ carried now step.asked
-      → Wrote out after size (line_of (n + 1) step.asked.kind a.refusal a.result) end
-      → next ≡ step_of (field_at s step.next) (room end (n + 1))
-      → At s before from count st step.next end (n + 1) next after left
-  at_more t o w e = record { next = e; ran = ran_more (room size n) h.ran h.next t o w }
-
-  pub at_last : step.whole ≡ false → is_whole (field_at s place) && room size n ≡ false
-  at_last t = sym (ap (λ (x : Step). x.whole) h.next) ∙ t
+-- a line has room behind those that stand in the buffer
+pub ran_room : {s before out : List ℕ} {from count place size n : ℕ} {st now : State} {step : Step} → Ran s before out from count st place size n now
+    → Some step ≡ step_of (field_at s place) (room size n) → 4096 ≤ length before → (size + 46 ≤ length out) × (n < 18446744073709551615)
+ran_room {s} {before} {out} {from} {count} {place} {size} {n} {st} {now} {step} ran e p =
+    let r = roomy size n (step_taken step (field_at s place) (room size n) e).room in (omega (arith, r.0, p, ran.wrote.size), r.1)

@@ -51,11 +51,7 @@ fn shift(buffer: &mut [u8], from: usize, end: usize)
     requires { (from ≤ end) × (end ≤ length buffer.old) }
     ensures { buffer.new ≡ take (end - from) (drop from buffer.old) ++ drop (end - from) buffer.old }
 {
-    let mut k = from;
-    while k < end {
-        buffer[k - from] = buffer[k];
-        k += 1;
-    }
+    buffer.copy_within(from..end, 0);
 }
 
 // Reads once behind what is left. After a failed read the unread bytes are first.
@@ -90,45 +86,28 @@ pub fn cut() -> Request
     }
 }
 
-// What a field asks for, where the next one starts, and whether it is whole and its line has room.
+// What a whole field asks for, and where the next one starts.
 #[derive(Drop)]
 pub struct Step {
     pub asked: Request,
     pub next: usize,
-    pub whole: bool,
 }
 
-// The field at a place, where n events are done and their lines take `size` bytes.
-pub fn step_at(input: &[u8], place: usize, size: usize, n: u64) -> Step
+// The field at a place, if it is whole and its line has room: n events are done and their lines take `size` bytes.
+pub fn step_at(input: &[u8], place: usize, size: usize, n: u64) -> Option<Step>
     ensures { result ≡ step_of (field_at input.now place) (room size n) }
 {
     let room = (size <= 4050) & (n < u64::MAX);
+    if !room {
+        return None;
+    }
     match fields::field_at(input, place) {
-        Field::End => Step {
-            asked: cut(),
-            next: 0,
-            whole: false,
-        },
-        Field::Whole { request, next } => Step {
+        Field::Whole { request, next } => Some(Step {
             asked: request,
             next,
-            whole: room,
-        },
-        Field::Cut { next } => Step {
-            asked: cut(),
-            next,
-            whole: room,
-        },
-        Field::Short => Step {
-            asked: cut(),
-            next: 0,
-            whole: false,
-        },
-        Field::Wrong => Step {
-            asked: cut(),
-            next: 0,
-            whole: false,
-        },
+        }),
+        Field::Cut { next } => Some(Step { asked: cut(), next }),
+        Field::End | Field::Short | Field::Wrong => None,
     }
 }
 
@@ -147,11 +126,7 @@ pub fn next_at(input: &[u8], place: usize, ended: bool) -> Next
 {
     match fields::field_at(input, place) {
         Field::End => if ended { Next::Stop } else { Next::More },
-        Field::Whole {
-            request: _,
-            next: _,
-        } => Next::Again,
-        Field::Cut { next: _ } => Next::Again,
+        Field::Whole { .. } | Field::Cut { .. } => Next::Again,
         Field::Short => if ended { Next::Bad } else { Next::More },
         Field::Wrong => Next::Bad,
     }

@@ -145,7 +145,7 @@ pub fn carry(
     }
 }
 
-// Formats, and restarts. The one account has no parent.
+// Formats, which is never refused at these sizes, and restarts. The one account has no parent.
 pub fn start(
     records: &mut [u32; 8],
     numbers: &mut [u32; 2],
@@ -174,7 +174,7 @@ pub fn start(
         ≡ started_from (all_of (frames_of (replicate 64 no_frame) 2) no_pool records.old numbers.old accounts.old maps.old limits.old parents.old highest.old frame_words.old free_queue.old removal_list.old addresses.old states.old owners.old free_map.old active.old updating.old images.old chip_words.old chip_records.old chip_next.old line.old used.old) }
 {
     let wanted = [0u16; 1];
-    calls::format(
+    let _ = calls::format(
         sizes(),
         &wanted,
         records,

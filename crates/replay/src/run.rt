@@ -1,5 +1,5 @@
 // The event program: reads, carries out what has come, prints, until the input ends or a field is bad.
-ghost use Rattle.std.specs.Prelude.{◌≡◌, ◌-◌, ◌<◌, ◌≤◌, ◌⊎◌, length, take, IfOk, OnErr};
+ghost use Rattle.std.specs.Prelude.{◌≡◌, ◌-◌, ◌<◌, ◌≤◌, ◌⊎◌, length, take, IfOk, IfSome, OnErr};
 ghost use Rattle.replay.specs.Input.{unread};
 
 use crate::input::{Next, Reader, next_at, refill};
@@ -31,46 +31,28 @@ fn complain<P: Print>(to: &P, out: &mut [u8], offset: u64) -> io::Result<()>
     print(to, out, size)
 }
 
-// Where the reader stands, and how many turns the program goes on for.
-#[derive(Drop)]
-pub struct Followed {
-    pub reader: Reader,
-    pub turns: u64,
-}
-
-// After the whole fields that have come: more input, or the end, or a bad field, which is told.
+// After the whole fields that have come: more input, and where the reader stands then; or the end, or a bad field, which is told.
 fn follow<P: Print, R: Read>(
     to: &P,
     source: &mut R,
     buffer: &mut [u8],
     out: &mut [u8],
     reader: Reader,
-    turns: u64,
-) -> io::Result<Followed>
-    requires { (reader.place ≤ reader.filled) × (reader.filled ≤ length buffer.old) × (34 ≤ length out.old) × (0 < turns) }
-    ensures ok { IfOk result (λ done. (done.reader.place ≤ done.reader.filled) × (done.reader.filled ≤ length buffer.new) × (done.turns < turns)) }
+) -> io::Result<Option<Reader>>
+    requires { (reader.place ≤ reader.filled) × (reader.filled ≤ length buffer.old) × (34 ≤ length out.old) }
+    ensures ok { IfOk result (λ next. IfSome next (λ fresh. (fresh.place ≤ fresh.filled) × (fresh.filled ≤ length buffer.new))) }
     ensures err { OnErr result ((buffer.new ≡ buffer.old) ⊎ (take (reader.filled - reader.place) buffer.new ≡ unread reader buffer.old)) }
 {
     let filled = reader.filled;
     let place = reader.place;
     let ended = reader.ended;
-    let next = next_at(&buffer[..filled], place, ended);
-    match next {
-        Next::Again => Ok(Followed {
-            reader,
-            turns: turns - 1,
-        }),
-        Next::More => {
-            let fresh = refill(source, buffer, reader)?;
-            Ok(Followed {
-                reader: fresh,
-                turns: turns - 1,
-            })
-        }
-        Next::Stop => Ok(Followed { reader, turns: 0 }),
+    match next_at(&buffer[..filled], place, ended) {
+        Next::Again => Ok(Some(reader)),
+        Next::More => Ok(Some(refill(source, buffer, reader)?)),
+        Next::Stop => Ok(None),
         Next::Bad => {
             complain(to, out, reader.offset)?;
-            Ok(Followed { reader, turns: 0 })
+            Ok(None)
         }
     }
 }
@@ -128,8 +110,7 @@ pub fn run<P: Print, R: Read>(to: &P, source: &mut R) -> io::Result<()> {
     begin(to, &mut out)?;
     let mut reader = Reader::new();
     let mut n: u64 = 0;
-    let mut turns = u64::MAX;
-    while turns > 0 {
+    for _ in 0..u64::MAX {
         let filled = reader.filled;
         let place = reader.place;
         let done = whole_fields(
@@ -165,16 +146,10 @@ pub fn run<P: Print, R: Read>(to: &P, source: &mut R) -> io::Result<()> {
         print(to, &out, size)?;
         held = done.held;
         n = done.n;
-        let followed = follow(
-            to,
-            source,
-            &mut buffer,
-            &mut out,
-            reader.past(done.place),
-            turns,
-        )?;
-        reader = followed.reader;
-        turns = followed.turns;
+        match follow(to, source, &mut buffer, &mut out, reader.past(done.place))? {
+            Some(fresh) => reader = fresh,
+            None => return Ok(()),
+        }
     }
     Ok(())
 }

@@ -60,8 +60,7 @@ pub fn whole_fields(
     let mut place = from;
     let mut size = 0;
     let mut n = count;
-    let mut step = step_at(input, place, size, n);
-    while step.whole {
+    while let Some(step) = step_at(input, place, size, n) {
         n += 1;
         let asked = step.asked;
         held = carry(
@@ -93,7 +92,6 @@ pub fn whole_fields(
         let answer = held.answer;
         size = lines::event(out, size, n, asked.kind, answer.refusal, answer.result);
         place = step.next;
-        step = step_at(input, place, size, n);
     }
     Done {
         place,

@@ -6,7 +6,6 @@ ghost use Rattle.model.specs.State.{free_count, map_words};
 ghost use Rattle.leaves.specs.FreeMap.{free_map_table};
 ghost use Rattle.restarts.specs.Counts.{listed_used};
 
-use crate::zero::{zero16, zero32};
 use leaves::marks::set_mark;
 use model::lines::FREE;
 use model::sizes::Sizes;
@@ -16,14 +15,12 @@ pub fn count_used(pages: usize, payers: &[u16], maps: &[u16], used: &mut [u16])
     requires { (0 < pages) × (length maps.now ≤ length payers.now * pages) × (length maps.now < 65536) × Holds (each (length payers.now) (λ s. below (at payers.now s) (length used.old))) }
     ensures { used.new ≡ listed_used (length used.old) (length maps.now) pages (at payers.now) (at maps.now) }
 {
-    zero16(used);
-    let mut i = 0;
-    while i < maps.len() {
-        if maps[i] != 0 {
+    used.fill(0);
+    for (i, entry) in maps.iter().enumerate() {
+        if *entry != 0 {
             let q = payers[i / pages] as usize;
             used[q] += 1;
         }
-        i += 1;
     }
 }
 
@@ -33,15 +30,13 @@ pub fn build_free_map(sizes: Sizes, states: &[u8], map: &mut [u32]) -> usize
     ensures count { result ≡ free_count sizes (at states.now) }
     ensures map { map.new ≡ free_map_table sizes (at states.now) }
 {
-    zero32(map);
+    map.fill(0);
     let mut free = 0;
-    let mut r = 0;
-    while r < sizes.records {
-        if states[r] == FREE {
+    for (r, state) in states.iter().enumerate() {
+        if *state == FREE {
             set_mark(map, r);
             free += 1;
         }
-        r += 1;
     }
     free
 }

@@ -6,7 +6,6 @@ ghost use Rattle.model.specs.Sizes.{most_slots};
 ghost use Rattle.model.specs.Rules.{fit, once};
 ghost use Rattle.restarts.specs.Filed.{filed_states, filed_owners};
 
-use crate::zero::zero8;
 use model::lines::FILED;
 
 // One pass over the maps; no record is listed twice.
@@ -15,15 +14,13 @@ pub fn file_records(pages: usize, maps: &[u16], states: &mut [u8], owners: &mut 
     ensures states { states.new ≡ filed_states (length states.old) (length maps.now) (at maps.now) }
     ensures owners { owners.new ≡ filed_owners (length states.old) (length maps.now) pages (at maps.now) }
 {
-    zero8(states);
-    zero8(owners);
-    let mut i = 0;
-    while i < maps.len() {
-        let entry = maps[i] as usize;
+    states.fill(0);
+    owners.fill(0);
+    for (i, entry) in maps.iter().enumerate() {
+        let entry = *entry as usize;
         if entry != 0 {
             states[entry - 1] = FILED;
             owners[entry - 1] = (i / pages) as u8;
         }
-        i += 1;
     }
 }

@@ -2,21 +2,14 @@
 ghost use Rattle.std.specs.Prelude.{◌≡◌, eqb, length, replicate};
 ghost use Rattle.tables.specs.Base.{at, if, tab};
 
-use crate::zero::{zero16, zero32};
-use leaves::cells::at16;
+use leaves::cells::at;
 
 // Each parent is the wanted one, account 0's 0.
 fn store_parents(wanted: &[u16], parents: &mut [u16])
     ensures { parents.new ≡ tab (length parents.old) (λ a. if (eqb a 0) 0 (at wanted.now a)) 0 }
 {
-    let mut a = 0;
-    while a < parents.len() {
-        if a == 0 {
-            parents[a] = 0;
-        } else {
-            parents[a] = at16(wanted, a);
-        }
-        a += 1;
+    for (a, parent) in parents.iter_mut().enumerate() {
+        *parent = if a == 0 { 0 } else { at(wanted, a) };
     }
 }
 
@@ -39,11 +32,11 @@ pub fn format_tables(
     ensures parents { parents.new ≡ tab (length parents.old) (λ a. if (eqb a 0) 0 (at wanted.now a)) 0 }
     ensures highest { highest.new ≡ replicate (length highest.old) 0 }
 {
-    zero32(records);
-    zero32(numbers);
-    zero16(accounts);
-    zero16(maps);
-    zero16(limits);
+    records.fill(0);
+    numbers.fill(0);
+    accounts.fill(0);
+    maps.fill(0);
+    limits.fill(0);
     store_parents(wanted, parents);
-    zero32(highest);
+    highest.fill(0);
 }

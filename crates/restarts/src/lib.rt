@@ -1,7 +1,6 @@
 // Format and restart: the tables set anew, each from the disk part alone.
 #![tactic(auto)]
 
-pub mod zero; // a table becomes zeros
 pub mod format; // the disk part
 pub mod filed; // the states and owners of the records
 pub mod counts; // used counts, free map, count of free records

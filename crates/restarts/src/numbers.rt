@@ -3,7 +3,7 @@ ghost use Rattle.std.specs.Prelude.{◌≡◌};
 ghost use Rattle.model.specs.Restart.{highest_of, raised};
 ghost use Rattle.restarts.specs.Numbers.{numbered};
 
-use leaves::cells::at32;
+use leaves::cells::at;
 use leaves::numbers::{HIGH, store_highest};
 use model::sizes::Sizes;
 
@@ -11,14 +11,12 @@ use model::sizes::Sizes;
 fn highest_of(slots: usize, numbers: &[u32], highest: &[u32]) -> u32
     ensures { result ≡ highest_of (numbered numbers.now highest.now) slots }
 {
-    let mut top = at32(highest, 0);
-    let mut s = 0;
-    while s < slots {
-        let number = at32(numbers, s);
-        if (number < HIGH) & (top < number) {
-            top = number;
+    let mut top = at(highest, 0);
+    for s in 0..slots {
+        let number = at(numbers, s);
+        if number < HIGH {
+            top = top.max(number);
         }
-        s += 1;
     }
     top
 }

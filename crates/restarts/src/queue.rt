@@ -8,9 +8,7 @@ pub fn fill_queue(q: &mut [u16])
     requires { length q.old < 65536 }
     ensures { q.new ≡ packed (length q.old) (tab (length q.old) (λ f. f) 0) }
 {
-    let mut k = 0;
-    while k < q.len() {
-        q[k] = (k + 1) as u16;
-        k += 1;
+    for (k, entry) in q.iter_mut().enumerate() {
+        *entry = (k + 1) as u16;
     }
 }

@@ -6,7 +6,6 @@ ghost use Rattle.restarts.specs.Promises.{RecordsGiven, TablesGiven, restarted_f
 use crate::counts::{build_free_map, count_used};
 use crate::filed::file_records;
 use crate::queue::fill_queue;
-use crate::zero::{zero8, zero16, zero32};
 use leaves::payer::fill_payers;
 use model::applied::Pooled;
 use model::event::Answer;
@@ -29,12 +28,12 @@ pub fn clear_tables(
     ensures updating { updating.new ≡ replicate (length updating.old) 0 }
     ensures images { images.new ≡ replicate (length images.old) 0 }
 {
-    zero32(words);
-    zero16(removal_list);
-    zero16(addresses);
-    zero8(active);
-    zero8(updating);
-    zero16(images);
+    words.fill(0);
+    removal_list.fill(0);
+    addresses.fill(0);
+    active.fill(0);
+    updating.fill(0);
+    images.fill(0);
 }
 
 // The tables that follow from the maps; the count of free records.

@@ -5,7 +5,7 @@ use Prim.Native.Nat.{ℕ, zero, suc, ◌-◌, ◌*◌, ◌/◌, ◌<◌, ◌≤�
 use native.Mathlib.Nat.{div-lt_iff_lt-mul}
 use native.Mathlib.Omega.{arith}
 use lib.Dec.{eqb, leb, leb-zero}
-use Rattle.tables.specs.Base.{if}
+use Rattle.tables.specs.Base.{if, ◌⇒◌}
 use Rattle.tables.specs.Rule.{Rule, same, below, non, named, names, ◌and◌, ◌then◌, Holds, test, alike}
 use Rattle.tables.specs.Turn.{not_so, if_then, named_one, both}
 use Rattle.model.specs.Lines.{LIVE}
@@ -17,6 +17,11 @@ moving_le t = go (eqb t 0)
     go : (b : Bool) → if b 0 1 ≤ 1
     go true = omega arith
     go false = omega arith
+
+-- what is said of all but one case
+pub if_not : (a b : Bool) → a || b ≡ (not a ⇒ b)
+if_not true b = refl
+if_not false b = refl
 
 -- a page's slot is below S
 pub slot_below : (page slots pages : ℕ) → 0 < pages → ¬ (page ≡ 0) → page ≤ slots * pages → (page - 1) / pages < slots

@@ -1,4 +1,5 @@
 -- Laws that the proofs of this crate share.
+pub mod Alls
 pub mod Marked
 pub mod Entries
 pub mod ByRow

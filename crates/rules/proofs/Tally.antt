@@ -10,6 +10,7 @@ use native.Mathlib.Decide.{ℕ_discrete}
 use lib.Dec.{eqb}
 use lib.ListN.{length, set, length-set}
 use lib.Seq.{get_or-set_same, get_or-set_other}
+use mir.Val.{bool_byte}
 use borrow.Author.Tests.{eq-eqb, ne_eqb, lt-ltb, le-ltb}
 use Rattle.tables.specs.Base.{at, if, count}
 use Rattle.tables.specs.Bits.{bits}
@@ -95,11 +96,11 @@ module _ (a : ℕ) (state : ℕ → ℕ) where
   no_address z = rw (untold (live_page a state) (λ h. omega (arith, z, h.1)))
 
   module _ (some : ¬ (a ≡ 0)) where
-    pub is_live_holds : state (a - 1) ≡ LIVE → ◌≡◌ {A = ℕ} 1 (if (test (live_page a state)) 1 0)
-    is_live_holds h = rw (told (live_page a state) (a - 1, omega arith, h))
-
-    pub not_live : ¬ (state (a - 1) ≡ LIVE) → ◌≡◌ {A = ℕ} 0 (if (test (live_page a state)) 1 0)
-    not_live d = rw (untold (live_page a state) (λ h. d (let e : a ≡ suc h.0 = h.1 in let q : a - 1 ≡ h.0 = omega arith in rw q h.2)))
+    pub is_live : bool_byte (eqb (state (a - 1)) LIVE) ≡ if (test (live_page a state)) 1 0
+    is_live = elim (ℕ_discrete (state (a - 1)) LIVE) [
+      | yes h ↦ rw (eq-eqb _ _ h, told (live_page a state) (a - 1, omega arith, h))
+      | no d ↦ rw (ne_eqb _ _ d, untold (live_page a state) (λ h. d (let e : a ≡ suc h.0 = h.1 in let q : a - 1 ≡ h.0 = omega arith in rw q h.2)))
+    ]
 
 -- ── each account's used pages, slot by slot ──
 module _ (pages : ℕ) (account active maps addresses states : List ℕ) where

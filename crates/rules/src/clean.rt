@@ -10,15 +10,13 @@ use model::frame::{Frame, NONE};
 use model::lines::LIVE;
 
 // w words of a from i up, and of b from j up: all are looked at, so that many are compared at once.
-fn equal(a: &[u32], i: usize, b: &[u32], j: usize, w: usize) -> bool
+pub fn equal(a: &[u32], i: usize, b: &[u32], j: usize, w: usize) -> bool
     requires { (i + w ≤ length a.now) × (j + w ≤ length b.now) }
     ensures { result ≡ test (each w (λ k. same (at a.now (i + k)) (at b.now (j + k)))) }
 {
     let mut ok = true;
-    let mut k = 0;
-    while k < w {
-        ok = ok & (a[i + k] == b[j + k]);
-        k += 1;
+    for k in 0..w {
+        ok &= a[i + k] == b[j + k];
     }
     ok
 }

@@ -19,10 +19,7 @@ pub fn hand_fit(records: usize, hand: u32) -> bool
 fn free_one(state: u8) -> u32
     ensures { result ≡ if (eqb state FREE) 1 0 }
 {
-    if state == FREE {
-        return 1;
-    }
-    0
+    u32::from(state == FREE)
 }
 
 // The count of free records.
@@ -31,10 +28,8 @@ pub fn free_count(records: usize, states: &[u8]) -> u32
     ensures { result ≡ count records (λ k. eqb (at states.now k) FREE) }
 {
     let mut n: u32 = 0;
-    let mut r = 0;
-    while r < records {
+    for r in 0..records {
         n += free_one(states[r]);
-        r += 1;
     }
     n
 }
@@ -45,10 +40,8 @@ fn free_bits(count: usize, from: usize, states: &[u8]) -> u32
     ensures { result ≡ bits count (λ r. eqb (at states.now r) FREE) from }
 {
     let mut word: u32 = 0;
-    let mut n = 0;
-    while n < count {
+    for n in 0..count {
         word = free_one(states[from + (count - 1 - n)]) + 2 * word;
-        n += 1;
     }
     word
 }
@@ -69,14 +62,7 @@ pub fn free_map_ok(records: usize, n: usize, map: &[u32], states: &[u8]) -> bool
     requires { (records ≤ length states.now) × (n ≤ length map.now) × (n ≤ (records + 31) / 32) × (n ≤ 2048) }
     ensures { result ≡ test (free_words records map.now states.now n) }
 {
-    let mut k = 0;
-    while k < n {
-        if map[k] != free_word(records, 32 * k, states) {
-            return false;
-        }
-        k += 1;
-    }
-    true
+    (0..n).all(|k| map[k] == free_word(records, 32 * k, states))
 }
 
 // 1 where a page of an active design counts as used by its address: that is live.
@@ -87,20 +73,14 @@ pub fn live_one(address: u16, states: &[u8]) -> usize
     if address == 0 {
         return 0;
     }
-    if states[address as usize - 1] == LIVE {
-        return 1;
-    }
-    0
+    usize::from(states[address as usize - 1] == LIVE)
 }
 
 // 1 where a page of an inactive design counts as used: it is listed.
 pub fn listed_one(map: u16) -> usize
     ensures { result ≡ if (ltb 0 map) 1 0 }
 {
-    if 0 < map {
-        return 1;
-    }
-    0
+    usize::from(0 < map)
 }
 
 // Used counts equal their definition.
@@ -108,12 +88,5 @@ pub fn used_ok(accounts: usize, totals: &[usize], used: &[u16]) -> bool
     requires { (accounts ≤ length totals.now) × (accounts ≤ length used.now) }
     ensures { result ≡ test (each accounts (λ q. same (at used.now q) (at totals.now q))) }
 {
-    let mut q = 0;
-    while q < accounts {
-        if used[q] as usize != totals[q] {
-            return false;
-        }
-        q += 1;
-    }
-    true
+    (0..accounts).all(|q| usize::from(used[q]) == totals[q])
 }

@@ -28,10 +28,7 @@ fn frame_fit(x: Frame) -> bool
 fn moving(transfer: u8) -> usize
     ensures { result ≡ if (eqb transfer NONE) 0 1 }
 {
-    if transfer == NONE {
-        return 0;
-    }
-    1
+    usize::from(transfer != NONE)
 }
 
 // Each frame is in exactly one of free queue, removal list, wired, in transfer.
@@ -45,7 +42,7 @@ fn in_one_place(x: Frame, queued: u8, removing: u8) -> bool
 fn writing_modified(x: Frame) -> bool
     ensures { result ≡ test (same x.transfer WRITING then same x.modified 1) }
 {
-    !(x.transfer == WRITING) | (x.modified == 1)
+    (x.transfer != WRITING) | (x.modified == 1)
 }
 
 // A free frame has no page and no switch on,
@@ -57,14 +54,14 @@ fn free_frame(x: Frame, queued: u8) -> bool
         & (x.modified == 0)
         & (x.wired == 0)
         & (x.initial == 0);
-    !!(queued == 0) | bare
+    (queued == 0) | bare
 }
 
 // any other has a page.
 fn busy_frame(x: Frame, queued: u8) -> bool
     ensures { result ≡ test (same queued 0 then non (same x.page 0)) }
 {
-    !(queued == 0) | !(x.page == 0)
+    (queued != 0) | (x.page != 0)
 }
 
 // An inactive slot has no frame.
@@ -92,7 +89,7 @@ fn framed_held(page: u16, transfer: u8, addresses: &[u16], states: &[u8]) -> boo
     if a == 0 {
         return false;
     }
-    !(transfer == READING) | (states[a - 1] == LIVE)
+    (transfer != READING) | (states[a - 1] == LIVE)
 }
 
 fn frame_ok(
@@ -187,16 +184,15 @@ pub fn frames_ok(
 {
     let n = addresses.len();
     let most = states.len();
-    let mut f = 0;
-    while f < z.frames {
+    for f in 0..z.frames {
         let x = frame_at(frames, f);
-        if page_fit(n, x.page) {} else {
+        if !page_fit(n, x.page) {
             return false;
         }
-        if mark_entry(address_of(x.page, addresses), most, marks) {} else {
+        if !mark_entry(address_of(x.page, addresses), most, marks) {
             return false;
         }
-        if frame_ok(
+        if !(frame_ok(
             z.pages,
             x,
             queued[f],
@@ -204,12 +200,11 @@ pub fn frames_ok(
             active,
             addresses,
             states,
-        ) & clean(z.words, x, f, words, records, addresses, states)
-        {} else {
+        ) & clean(z.words, x, f, words, records, addresses, states))
+        {
             return false;
         }
         charge(woven_page(x), z.pages, totals, accounts, addresses, states);
-        f += 1;
     }
     true
 }

@@ -53,13 +53,15 @@ pub fn mark_all(entries: &[u16], most: usize, marks: &mut [u32]) -> bool
 {
     let n = entries.len();
     let mut i = 0;
+    // a turn passes over one entry, or over eight that name nothing
+    // No `for`: how far a step goes is told by what it finds.
     while i < n {
         let e = entries[i];
         if e == 0 {
             i += zeros_from(entries, i, n);
             continue;
         }
-        if mark_entry(e, most, marks) {} else {
+        if !mark_entry(e, most, marks) {
             return false;
         }
         i += 1;

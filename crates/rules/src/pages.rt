@@ -4,7 +4,7 @@ ghost use Rattle.tables.specs.Base.{at};
 ghost use Rattle.tables.specs.Rule.{same, each, named, test};
 ghost use Rattle.rules.specs.Passes.{empty_row, empty_rows, filed_record, mapped_record, held_record, imaged_record};
 
-use leaves::cells::zeros;
+use leaves::cells::all_zeros;
 use model::lines::{FILED, LEAVING, LIVE, NULLED, RELEASED};
 
 // An empty slot has a zero map.
@@ -15,21 +15,14 @@ fn empty_map(pages: usize, s: usize, number: u32, maps: &[u16]) -> bool
     if number != 0 {
         return true;
     }
-    zeros(maps, s * pages, pages)
+    all_zeros(maps, s * pages, pages)
 }
 
 pub fn empty_maps_ok(slots: usize, pages: usize, numbers: &[u32], maps: &[u16]) -> bool
     requires { (slots ≤ length numbers.now) × (slots * pages ≤ length maps.now) }
     ensures { result ≡ test (empty_rows slots pages numbers.now maps.now) }
 {
-    let mut s = 0;
-    while s < slots {
-        if empty_map(pages, s, numbers[s], maps) {} else {
-            return false;
-        }
-        s += 1;
-    }
-    true
+    (0..slots).all(|s| empty_map(pages, s, numbers[s], maps))
 }
 
 // What an inactive design lists is filed, in that slot.
@@ -82,7 +75,7 @@ pub fn address_active(pages: usize, s: usize, addresses: &[u16]) -> bool
     requires { s * pages + pages ≤ length addresses.now }
     ensures { result ≡ test (each pages (λ p. same (at addresses.now (s * pages + p)) 0)) }
 {
-    zeros(addresses, s * pages, pages)
+    all_zeros(addresses, s * pages, pages)
 }
 
 // A record in a begun image is held by that same page or is that slot's released record.
@@ -100,10 +93,10 @@ pub fn imaged(s: usize, image: u16, address: u16, states: &[u8], owners: &[u8]) 
     (owners[r] as usize == s) & (states[r] == RELEASED)
 }
 
-// An image is zero unless its update is under way: asked of its row.
+// An image is zero unless its update is under way: asked of its row. The body of address_active: each rule has its function.
 pub fn image_zero(pages: usize, s: usize, images: &[u16]) -> bool
     requires { s * pages + pages ≤ length images.now }
     ensures { result ≡ test (each pages (λ p. same (at images.now (s * pages + p)) 0)) }
 {
-    zeros(images, s * pages, pages)
+    all_zeros(images, s * pages, pages)
 }

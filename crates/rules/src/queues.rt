@@ -6,13 +6,13 @@ ghost use Rattle.tables.specs.Rule.{same, each, test, Holds};
 ghost use Rattle.model.specs.Sizes.{most_frames};
 ghost use Rattle.rules.specs.Passes.{queue_entry, counted};
 
-use leaves::cells::at16;
+use leaves::cells::at;
 use model::sizes::Sizes;
 
 fn entry_ok(bound: u16, entry: u16, next: u16) -> bool
     ensures { result ≡ test (queue_entry bound entry next) }
 {
-    (entry <= bound) & (!(entry == 0) | (next == 0))
+    (entry <= bound) & ((entry != 0) | (next == 0))
 }
 
 // The first `count` entries name numbers below the bound, and after a 0 there are only zeros: all are looked at, so that many are
@@ -27,12 +27,10 @@ pub fn queue(count: usize, bound: usize, entries: &[u16]) -> bool
     let most = bound as u16;
     let last = count - 1;
     let mut ok = true;
-    let mut k = 0;
-    while k < last {
-        ok = ok & entry_ok(most, entries[k], entries[k + 1]);
-        k += 1;
+    for k in 0..last {
+        ok &= entry_ok(most, entries[k], entries[k + 1]);
     }
-    ok & entry_ok(most, entries[last], at16(entries, count))
+    ok & entry_ok(most, entries[last], at(entries, count))
 }
 
 // How often each frame is in the queue, from a table of zeros.
@@ -41,14 +39,12 @@ pub fn places(entries: &[u16], none: [u8; Sizes::MOST_FRAMES]) -> [u8; Sizes::MO
     ensures { Holds (counted most_frames entries.now result) }
 {
     let mut t = none;
-    let mut k = 0;
-    while k < entries.len() {
-        let e = entries[k] as usize;
+    for entry in entries {
+        let e = *entry as usize;
         if e == 0 {
             return t;
         }
         t[e - 1] += 1;
-        k += 1;
     }
     t
 }

@@ -68,7 +68,7 @@ fn record_ok(
     requires { (slots ≤ length updating.now) × (r / 32 < length held.now) × (r / 32 < length listed.now) }
     ensures { result ≡ test (record_row slots (bit_of held.now r) (bit_of listed.now r) state owner (at updating.now)) }
 {
-    if owner_fit(slots, owner) {} else {
+    if !owner_fit(slots, owner) {
         return false;
     }
     state_fit(state)
@@ -89,12 +89,5 @@ pub fn records_ok(
     requires { (records ≤ 32 * length held.now) × (records ≤ 32 * length listed.now) × (records ≤ length states.now) × (records ≤ length owners.now) × (slots ≤ length updating.now) }
     ensures { result ≡ test (record_rows records slots (bit_of held.now) (bit_of listed.now) states.now owners.now updating.now) }
 {
-    let mut r = 0;
-    while r < records {
-        if record_ok(slots, r, states[r], owners[r], held, listed, updating) {} else {
-            return false;
-        }
-        r += 1;
-    }
-    true
+    (0..records).all(|r| record_ok(slots, r, states[r], owners[r], held, listed, updating))
 }

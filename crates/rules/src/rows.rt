@@ -1,6 +1,6 @@
 // The pass over all pages, slot by slot: it asks the rules of their entries, marks what they hold and list, and counts the used
 // ones.
-ghost use Rattle.std.specs.Prelude.{◌≡◌, true, ◌+◌, ◌*◌, ◌≤◌, ◌<◌, ltb, length};
+ghost use Rattle.std.specs.Prelude.{◌≡◌, true, ◌+◌, ◌*◌, ◌≤◌, ◌<◌, ltb, length, is_some, IfSome};
 ghost use Rattle.tables.specs.Base.{at, count};
 ghost use Rattle.tables.specs.Rule.{same, each, test, Holds};
 ghost use Rattle.model.specs.Rules.{fit};
@@ -10,13 +10,6 @@ ghost use Rattle.rules.specs.Promises.{MarkedTo, MarkedOn, held_entered, imaged_
 use crate::counts::{listed_one, live_one};
 use crate::marks::mark_entry;
 use crate::pages::{address_active, filed, held, image_zero, imaged, mapped};
-
-// What a pass over the pages of one slot finds: whether they keep the rules, and how many count as used.
-#[derive(Drop)]
-pub struct Row {
-    pub ok: bool,
-    pub used: usize,
-}
 
 // A row of an active slot. What its pages hold is marked.
 fn active_row(
@@ -29,26 +22,26 @@ fn active_row(
     addresses: &[u16],
     states: &[u8],
     owners: &[u8],
-) -> Row
+) -> Option<usize>
     requires { (active ≡ 1) × (s * pages + pages ≤ length maps.now) × HeldFit records maps.now addresses.now states.now owners.now × MarkedTo records (length maps.now) addresses marks (s * pages) }
-    ensures { (result.ok ≡ test (held_entered pages s active records maps addresses states owners)) × (result.ok ≡ true → MarkedOn records (length maps.now) addresses marks (s * pages + pages) × (result.used ≡ count pages (λ p. test (live_page (at addresses.now (s * pages + p)) (at states.now))))) }
+    ensures told { is_some result ≡ test (held_entered pages s active records maps addresses states owners) }
+    ensures marked { IfSome result (λ _. MarkedOn records (length maps.now) addresses marks (s * pages + pages)) }
+    ensures counted { IfSome result (λ used. used ≡ count pages (λ p. test (live_page (at addresses.now (s * pages + p)) (at states.now)))) }
 {
     let base = s * pages;
     let mut used = 0;
-    let mut p = 0;
-    while p < pages {
+    for p in 0..pages {
         let i = base + p;
         let a = addresses[i];
-        if mark_entry(a, records, marks) {} else {
-            return Row { ok: false, used: 0 };
+        if !mark_entry(a, records, marks) {
+            return None;
         }
-        if held(s, a, states, owners) & mapped(s, active, maps[i], a, states, owners) {} else {
-            return Row { ok: false, used: 0 };
+        if !(held(s, a, states, owners) & mapped(s, active, maps[i], a, states, owners)) {
+            return None;
         }
         used += live_one(a, states);
-        p += 1;
     }
-    Row { ok: true, used }
+    Some(used)
 }
 
 // A row of an inactive slot.
@@ -60,25 +53,25 @@ fn inactive_row(
     addresses: &[u16],
     states: &[u8],
     owners: &[u8],
-) -> Row
+) -> Option<usize>
     requires { (active ≡ 1 → ⊥) × (s * pages + pages ≤ length maps.now) × (length addresses.now ≡ length maps.now) × (length maps.now ≤ most_entries) × (length owners.now ≡ length states.now) × Holds (fit (length maps.now) (length states.now) (at maps.now)) }
-    ensures { (result.ok ≡ test (held_row pages s active maps.now addresses.now states.now owners.now)) × (result.ok ≡ true → Holds (each pages (λ p. same (at addresses.now (s * pages + p)) 0)) × (result.used ≡ count pages (λ p. ltb 0 (at maps.now (s * pages + p))))) }
+    ensures told { is_some result ≡ test (held_row pages s active maps.now addresses.now states.now owners.now) }
+    ensures zero { IfSome result (λ _. Holds (each pages (λ p. same (at addresses.now (s * pages + p)) 0))) }
+    ensures counted { IfSome result (λ used. used ≡ count pages (λ p. ltb 0 (at maps.now (s * pages + p)))) }
 {
     let base = s * pages;
-    if address_active(pages, s, addresses) {} else {
-        return Row { ok: false, used: 0 };
+    if !address_active(pages, s, addresses) {
+        return None;
     }
     let mut used = 0;
-    let mut p = 0;
-    while p < pages {
+    for p in 0..pages {
         let m = maps[base + p];
-        if filed(s, active, m, states, owners) {} else {
-            return Row { ok: false, used: 0 };
+        if !filed(s, active, m, states, owners) {
+            return None;
         }
         used += listed_one(m);
-        p += 1;
     }
-    Row { ok: true, used }
+    Some(used)
 }
 
 fn row_ok(
@@ -91,9 +84,11 @@ fn row_ok(
     addresses: &[u16],
     states: &[u8],
     owners: &[u8],
-) -> Row
+) -> Option<usize>
     requires { (s * pages + pages ≤ length maps.now) × HeldFit records maps.now addresses.now states.now owners.now × MarkedTo records (length maps.now) addresses marks (s * pages) }
-    ensures { (result.ok ≡ test (held_entered pages s active records maps addresses states owners)) × (result.ok ≡ true → MarkedOn records (length maps.now) addresses marks (s * pages + pages) × (result.used ≡ count pages (λ p. used_page active (at maps.now (s * pages + p)) (at addresses.now (s * pages + p)) (at states.now)))) }
+    ensures told { is_some result ≡ test (held_entered pages s active records maps addresses states owners) }
+    ensures marked { IfSome result (λ _. MarkedOn records (length maps.now) addresses marks (s * pages + pages)) }
+    ensures counted { IfSome result (λ used. used ≡ count pages (λ p. used_page active (at maps.now (s * pages + p)) (at addresses.now (s * pages + p)) (at states.now))) }
 {
     if active == 1 {
         return active_row(
@@ -119,17 +114,15 @@ fn image_row(
     ensures { (result ≡ test (imaged_entered pages s updating records addresses images states owners)) × (result ≡ true → MarkedOn records (length addresses.now) images marks (s * pages + pages)) }
 {
     let base = s * pages;
-    let mut p = 0;
-    while p < pages {
+    for p in 0..pages {
         let i = base + p;
         let m = images[i];
-        if mark_entry(m, records, marks) {} else {
+        if !mark_entry(m, records, marks) {
             return false;
         }
-        if imaged(s, m, addresses[i], states, owners) {} else {
+        if !imaged(s, m, addresses[i], states, owners) {
             return false;
         }
-        p += 1;
     }
     true
 }
@@ -177,15 +170,13 @@ pub fn pages_ok(
     requires { PagesGiven slots pages records marks image_marks totals accounts active updating maps addresses images states owners }
     ensures { (result ≡ test (pages_entered slots pages records active updating maps addresses images states owners)) × (result ≡ true → PagesLeft slots pages records marks image_marks totals accounts active maps addresses images states) }
 {
-    let mut s = 0;
-    while s < slots {
-        let row = row_ok(
+    for s in 0..slots {
+        let Some(counted) = row_ok(
             pages, s, active[s], records, marks, maps, addresses, states, owners,
-        );
-        if row.ok {} else {
+        ) else {
             return false;
-        }
-        if image_ok(
+        };
+        if !image_ok(
             pages,
             s,
             updating[s],
@@ -195,12 +186,11 @@ pub fn pages_ok(
             images,
             states,
             owners,
-        ) {} else {
+        ) {
             return false;
         }
         let q = accounts[s] as usize;
-        totals[q] += row.used;
-        s += 1;
+        totals[q] += counted;
     }
     true
 }

@@ -9,7 +9,7 @@ ghost use Rattle.rules.specs.Passes.{disk_slot, memory_slot, new_number, new_num
 fn empty_account(number: u32, account: u16) -> bool
     ensures { result ≡ test (same number 0 then same account 0) }
 {
-    !(number == 0) | (account == 0)
+    (number != 0) | (account == 0)
 }
 
 // an account is below Q.
@@ -19,18 +19,17 @@ fn account_fit(accounts: usize, account: u16) -> bool
     (account as usize) < accounts
 }
 
+fn disk_slot_ok(accounts: usize, number: u32, account: u16) -> bool
+    ensures { result ≡ test (disk_slot accounts number account) }
+{
+    empty_account(number, account) & account_fit(accounts, account)
+}
+
 pub fn disk_slots_ok(slots: usize, accounts: usize, numbers: &[u32], account: &[u16]) -> bool
     requires { (slots ≤ length numbers.now) × (slots ≤ length account.now) }
     ensures { result ≡ test (each slots (λ s. disk_slot accounts (at numbers.now s) (at account.now s))) }
 {
-    let mut s = 0;
-    while s < slots {
-        if empty_account(numbers[s], account[s]) & account_fit(accounts, account[s]) {} else {
-            return false;
-        }
-        s += 1;
-    }
-    true
+    (0..slots).all(|s| disk_slot_ok(accounts, numbers[s], account[s]))
 }
 
 // A parent is lower than its account; account 0's is never looked at.
@@ -45,14 +44,7 @@ pub fn parents_ok(accounts: usize, parents: &[u16]) -> bool
     requires { accounts ≤ length parents.now }
     ensures { result ≡ test (lower accounts (at parents.now)) }
 {
-    let mut a = 0;
-    while a < accounts {
-        if is_lower(a, parents[a]) {} else {
-            return false;
-        }
-        a += 1;
-    }
-    true
+    (0..accounts).all(|a| is_lower(a, parents[a]))
 }
 
 // No number stands in two filled slots: a slot is empty, or its number stands in none before it.
@@ -64,28 +56,14 @@ fn number_once(numbers: &[u32], s: usize) -> bool
     if number == 0 {
         return true;
     }
-    let mut t = 0;
-    while t < s {
-        if numbers[t] == number {
-            return false;
-        }
-        t += 1;
-    }
-    true
+    (0..s).all(|t| numbers[t] != number)
 }
 
 pub fn numbers_ok(slots: usize, numbers: &[u32]) -> bool
     requires { slots ≤ length numbers.now }
     ensures { result ≡ test (new_numbers slots numbers.now) }
 {
-    let mut s = 0;
-    while s < slots {
-        if number_once(numbers, s) {} else {
-            return false;
-        }
-        s += 1;
-    }
-    true
+    (0..slots).all(|s| number_once(numbers, s))
 }
 
 // A switch is 0 or 1;
@@ -99,14 +77,14 @@ fn switch_fit(switch: u8) -> bool
 fn active_filled(number: u32, active: u8) -> bool
     ensures { result ≡ test (same active 1 then below 0 number) }
 {
-    !(active == 1) | (0 < number)
+    (active != 1) | (0 < number)
 }
 
 // an inactive one has no update.
 fn update_active(active: u8, updating: u8) -> bool
     ensures { result ≡ test (same updating 1 then same active 1) }
 {
-    !(updating == 1) | (active == 1)
+    (updating != 1) | (active == 1)
 }
 
 fn memory_slot_ok(number: u32, active: u8, updating: u8) -> bool
@@ -122,12 +100,5 @@ pub fn memory_slots_ok(slots: usize, numbers: &[u32], active: &[u8], updating: &
     requires { (slots ≤ length numbers.now) × (slots ≤ length active.now) × (slots ≤ length updating.now) }
     ensures { result ≡ test (each slots (λ s. memory_slot (at numbers.now s) (at active.now s) (at updating.now s))) }
 {
-    let mut s = 0;
-    while s < slots {
-        if memory_slot_ok(numbers[s], active[s], updating[s]) {} else {
-            return false;
-        }
-        s += 1;
-    }
-    true
+    (0..slots).all(|s| memory_slot_ok(numbers[s], active[s], updating[s]))
 }

@@ -1,22 +1,22 @@
 -- Export and import once questions 1 and 2 are asked: what they rest on, and the call's outcome by the event's.
 use mathlib.Core.Path.{◌≡◌, refl, ap, sym, ◌∙◌}
 use mathlib.Core.List.{List}
-use Prim.Native.Nat.{ℕ, suc, ◌<◌}
+use Prim.Native.Nat.{ℕ}
 use native.Mathlib.Omega.{arith}
 use lib.ListN.{length}
-use Rattle.tables.specs.Base.{at}
-use Rattle.tables.specs.Questions.{first_no}
-use Rattle.tables.specs.Rule.{Holds}
 use Rattle.sheets.specs.Sheet.{number_in, laid}
 use Rattle.model.specs.declared.sizes.Sizes.{Sizes}
-use Rattle.model.specs.State.{State, files, all_pages}
-use Rattle.model.specs.Rules.{all_rules}
+use Rattle.model.specs.declared.frame.Frame.{Frame}
+use Rattle.model.specs.declared.refusals.Refusal.{Refusal}
+use Rattle.model.specs.State.{State, files}
+use Rattle.model.specs.Calls.{frames_of}
 use Rattle.model.specs.Questions.{import_questions, export_questions}
 use Rattle.model.specs.Laws.Ruled.{Ruled, ruled}
 use Rattle.model.specs.Laws.Fit.{Fit, fit}
-use Rattle.model.specs.Laws.Own.{refusal}
+use Rattle.model.specs.Refusals.{number, refused, number_above}
+use Rattle.model.specs.Laws.Own.{leaves}
 use Rattle.model.specs.Laws.OwnLaws.{outcome_no}
-use Rattle.model.specs.Step.{Outcome, outcome, all_fit}
+use Rattle.model.specs.Step.{Outcome, outcome}
 use Rattle.model.specs.Ledger.{found}
 use Rattle.model.specs.Import.{sheet_of, imported, import, import_answer}
 use Rattle.model.specs.Export.{exported, export}
@@ -24,6 +24,10 @@ use Rattle.leaves.specs.FreeMap.{free_map}
 use Rattle.carrying.specs.Imports.{Importing}
 use Rattle.carrying.specs.Exports.{Exporting, seen_export, handed, export_of}
 use Rattle.calls.specs.Common.{common, common_gives, common_passes, common_refuses}
+
+-- what is asked of the packed frames is asked of the frames that were packed
+pub of_packed : (z : Sizes) (at : List Frame → State) (lent : ℕ) {packed frames : List Frame} → packed ≡ frames → {m : ℕ} → m ≡ common z (at (frames_of packed lent)) → m ≡ common z (at (frames_of frames lent))
+of_packed z at lent e h = h ∙ ap (λ (fs : List Frame). common z (at (frames_of fs lent))) e
 
 module _ (z : Sizes) (st : State) where
   module _ (e : common z st ≡ 0) where
@@ -56,11 +60,12 @@ module _ (z : Sizes) (st : State) where
     }
 
   -- ── refused by question 1 or 2 ──
-  pub import_unfit : (s q n : ℕ) (b : List ℕ) (m : ℕ) → m ≡ common z st → ¬ (m ≡ 0) → refusal m st ≡ import z st s q n b
+  pub import_unfit : (s q n : ℕ) (b : List ℕ) (why : Refusal) → number why ≡ common z st → leaves (refused why) st ≡ import z st s q n b
   unfolding import import_answer
-  import_unfit s q n b m e d =
+  import_unfit s q n b why e =
       let new = imported z st s q n (sheet_of b) in
-      sym (outcome_no m (number_in b) st new d) ∙ ap (λ (k : ℕ). outcome k (number_in b) st new) (common_refuses z st (import_questions z st s q n b) m e d)
+      let some : ¬ (number why ≡ 0) = λ h. omega (arith, number_above why, h) in
+      sym (outcome_no (number why) (number_in b) st new some) ∙ ap (λ (k : ℕ). outcome k (number_in b) st new) (common_refuses z st (import_questions z st s q n b) (number why) e some)
 
   module _ (s : ℕ) (buffer : List ℕ) where
     abbrev sheet : List ℕ
@@ -69,9 +74,11 @@ module _ (z : Sizes) (st : State) where
     abbrev by : ℕ → Outcome (List ℕ)
     by k = outcome k (length sheet) buffer (laid buffer 0 sheet)
 
-    pub export_unfit : (m : ℕ) → m ≡ common z st → ¬ (m ≡ 0) → handed (record { refusal = m; result = 0 }) buffer ≡ export z st s buffer
+    pub export_unfit : (why : Refusal) → number why ≡ common z st → handed (refused why) buffer ≡ export z st s buffer
     unfolding export
-    export_unfit m e d = sym (outcome_no m (length sheet) buffer (laid buffer 0 sheet) d) ∙ ap by (common_refuses z st (export_questions z st s (length sheet) (length buffer)) m e d)
+    export_unfit why e =
+        let some : ¬ (number why ≡ 0) = λ h. omega (arith, number_above why, h) in
+        sym (outcome_no (number why) (length sheet) buffer (laid buffer 0 sheet) some) ∙ ap by (common_refuses z st (export_questions z st s (length sheet) (length buffer)) (number why) e some)
 
     -- it looks at records, numbers, maps and active switches alone
     seen_export_holds : export_of z (seen_export st.disk.records st.disk.numbers st.disk.maps st.memory.slots.active) s buffer ≡ export_of z st s buffer

@@ -2,21 +2,20 @@
 use mathlib.Core.Path.{◌≡◌, refl, ap, sym, ◌∙◌}
 use mathlib.Core.Bool.{Bool}
 use mathlib.Core.List.{List}
-use Prim.Native.Nat.{ℕ, zero, suc, ◌+◌, ◌-◌, ◌%◌, ◌<◌, ◌≤◌}
+use Prim.Native.Nat.{ℕ, zero, suc, ◌+◌, ◌-◌, ◌%◌, ◌<◌}
 use native.Mathlib.Omega.{arith}
 use native.Mathlib.Decide.{ℕ_discrete}
 use lib.Dec.{eqb}
-use lib.ListN.{length, set, length-set}
+use lib.ListN.{set, length-set}
 use lib.Seq.{get_or-set_same, get_or-set_other}
 use borrow.Author.Tests.{eq-eqb, ne_eqb}
-use Rattle.tables.specs.Base.{at, if, tab}
+use Rattle.tables.specs.Base.{at, if}
 use Rattle.tables.specs.Questions.{Questions, first_no}
 use Rattle.tables.specs.Store.{store}
 use Rattle.tables.specs.TabLaws.{tab_entries}
 use Rattle.sheets.specs.Sheet.{number_in, count_in}
 use Rattle.model.specs.declared.sizes.Sizes.{Sizes}
 use Rattle.model.specs.declared.event.Answer.{Answer}
-use Rattle.model.specs.declared.frame.Pool.{Pool}
 use Rattle.model.specs.State.{Disk, State, files, frames, used_of, free_count}
 use Rattle.model.specs.Setters.{raise, counted}
 use Rattle.model.specs.Parts.{of_slot}
@@ -27,12 +26,12 @@ use Rattle.model.specs.Questions.{import_questions}
 use Rattle.model.specs.Laws.Own.{leaves}
 use Rattle.model.specs.Laws.Takes.{left}
 use Rattle.model.specs.Step.{Outcome, outcome}
-use Rattle.model.specs.Import.{Sheet, Taking, sheet_of, taking, entry, store_record, store_slot, made, imported, import, import_answer}
+use Rattle.model.specs.Import.{Sheet, Taking, sheet_of, taking, store_record, store_slot, made, imported, import, import_answer}
 use Rattle.leaves.specs.FreeMap.{free_map_table}
 use Rattle.invariant.proofs.Imports.{Before}
 use Rattle.invariant.proofs.Imported.{import_before}
 use Rattle.invariant.proofs.ImportUsed.{import_used}
-use Rattle.carrying.specs.Seen.{seen, seen_asked}
+use Rattle.carrying.specs.Seen.{seen}
 use Rattle.carrying.specs.Imports.{Tables, tables_of, used_more, answered, imported_tables, import_of}
 use Rattle.carrying.proofs.Whole.{same_taking, same_entry, same_records}
 use Rattle.calls.specs.Common.{common, common_passes}

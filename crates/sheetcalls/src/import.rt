@@ -10,6 +10,7 @@ use calls::packing::pack_all;
 use carrying::import::{Imported, import};
 use model::event::Answer;
 use model::frame::{Frame, Pool};
+use model::lent::{DiskTables, MemoryTables};
 use model::sizes::Sizes;
 
 // Questions 1 and 2, then the event; the frames stay as they were.
@@ -53,11 +54,7 @@ pub fn import_core(
         frame_words.now free_queue.now removal_list.now addresses.now states.old owners.old free_map.old active.now updating.now images.now chip_words.now chip_records.now chip_next.now line.now used.old) slot account number sheet.now }
 {
     let packed = pack_all(frames);
-    let refusal = common(
-        sizes,
-        lent,
-        &packed,
-        pool,
+    let disk = DiskTables {
         records,
         numbers,
         accounts,
@@ -65,6 +62,8 @@ pub fn import_core(
         limits,
         parents,
         highest,
+    };
+    let memory = MemoryTables {
         frame_words,
         free_queue,
         removal_list,
@@ -80,9 +79,9 @@ pub fn import_core(
         chip_next,
         line,
         used,
-    );
-    if refusal != 0 {
-        let answer = Answer { refusal, result: 0 };
+    };
+    if let Err(no) = common(sizes, lent, &packed, pool, disk, memory) {
+        let answer = Answer::from(no);
         return Imported { pool, answer };
     }
     import(

@@ -1,23 +1,23 @@
 -- The form, case by case.
-use mathlib.Core.Path.{◌≡◌, refl, ap, sym, ◌∙◌}
-use mathlib.Core.Bool.{Bool, true, false, not, ◌&&◌}
+use mathlib.Core.Path.{◌≡◌, sym, ◌∙◌}
+use mathlib.Core.Bool.{Bool, true, false, not}
 use mathlib.Core.List.{List}
-use Prim.Native.Nat.{ℕ, zero, suc, ◌+◌, ◌-◌, ◌*◌, ◌/◌, ◌<◌, ◌≤◌}
-use native.Mathlib.Nat.{suc-mul, mul-le-mul, div-mul-le_self}
+use Rattle.std.specs.Prelude.{Some, None}
+use Prim.Native.Nat.{ℕ, suc, ◌+◌, ◌-◌, ◌*◌, ◌/◌, ◌<◌, ◌≤◌}
+use native.Mathlib.Nat.{suc-mul, mul-le-mul}
 use native.Mathlib.Numerals.{add-one}
 use native.Mathlib.Omega.{arith}
-use lib.Dec.{eqb, ltb, leb}
+use lib.Dec.{eqb}
 use lib.ListN.{length}
 use borrow.Author.Tests.{eq-eqb, ne_eqb}
-use Rattle.tables.specs.Base.{at, if}
-use Rattle.tables.specs.Rule.{Rule, Holds, test, sound, complete, told, untold}
-use Rattle.sheets.specs.declared.read.Parsed.TheVariants.{Of, Wrong}
+use Rattle.tables.specs.Base.{at}
+use Rattle.tables.specs.Rule.{Rule, Holds, test, non, alike, sound, complete, told, untold}
 use Rattle.sheets.specs.Laws.Formed.{Formed, formed, has_form}
 use Rattle.sheets.specs.Sheet.{number, headed, blank, words_in, pages_in, number_in, count_in, place_of, page_at, word_at, least_in, page_in, field_fits, page_fits, form, parsed}
 
 module _ (s : List ℕ) (i tag size : ℕ) where
-  pub other_tag : ¬ (at s i ≡ tag) → false ≡ test (headed s i tag size)
-  other_tag d = sym (untold (headed s i tag size) (λ h. d h.0))
+  pub other_tag : ¬ (at s i ≡ tag) → eqb (at s i) tag ≡ test (headed s i tag size)
+  other_tag d = ne_eqb (at s i) tag d ∙ sym (untold (headed s i tag size) (λ h. d h.0))
 
   pub by_size : at s i ≡ tag → (x : ℕ) → x ≡ number 2 0 s (i + 1) → eqb x size ≡ test (headed s i tag size)
   unfolding test
@@ -41,11 +41,10 @@ module _ (s : List ℕ) (w n least i : ℕ) where
   pub page_low : page_at s i < least → false ≡ test (field_fits s w n least i)
   page_low l = sym (untold (field_fits s w n least i) (λ h. h.1.1.0 l))
 
-  pub page_blank : test (blank w (word_at s i)) ≡ true → false ≡ test (field_fits s w n least i)
-  page_blank e = sym (untold (field_fits s w n least i) (λ h. h.1.1.1 (says_yes (blank w (word_at s i)) e)))
-
-  pub page_good : test (headed s i 2 (2 + 4 * w)) ≡ true → page_at s i < n → ¬ (page_at s i < least) → test (blank w (word_at s i)) ≡ false → true ≡ test (field_fits s w n least i)
-  page_good e l g f = sym (told (field_fits s w n least i) (says_yes (headed s i 2 (2 + 4 * w)) e, (l, (g, says_no_holds (blank w (word_at s i)) f))))
+  -- the rest decides where its head, its page and its place are of the form
+  pub page_told : test (headed s i 2 (2 + 4 * w)) ≡ true → page_at s i < n → ¬ (page_at s i < least) → (b : Bool) → b ≡ test (blank w (word_at s i)) → not b ≡ test (field_fits s w n least i)
+  unfolding test
+  page_told e l g b f = rw f (alike (non (blank w (word_at s i))) (field_fits s w n least i) (λ h. (says_yes (headed s i 2 (2 + 4 * w)) e, (l, (g, h)))) (λ h. h.1.1.1))
 
 le_mul : (a b m : ℕ) → a ≤ b → a * m ≤ b * m
 le_mul a b m h = mul-le-mul {n₂ = b} {m₂ = m} h (omega arith)
@@ -75,11 +74,11 @@ module _ (s : List ℕ) where
 
 -- what a reader answers
 module _ (s : List ℕ) where
-  pub wrong : ¬ (Formed s) → Wrong ≡ parsed s
+  pub wrong : ¬ (Formed s) → None ≡ parsed s
   unfolding parsed
   wrong d = rw (untold (form s) (λ h. d (formed s h)))
 
-  pub right : (w n num c : ℕ) → w ≡ words_in s → n ≡ pages_in s → num ≡ number_in s → c ≡ count_in s → Formed s → Of w n num c ≡ parsed s
+  pub right : (w n num c : ℕ) → w ≡ words_in s → n ≡ pages_in s → num ≡ number_in s → c ≡ count_in s → Formed s → Some (record { words = w; pages = n; number = num; count = c }) ≡ parsed s
   unfolding parsed
   right w n num c e f g h k = rw (told (form s) (has_form s k), e, f, g, h)
 
@@ -109,6 +108,3 @@ module _ (s : List ℕ) where
 
   pub size_by : (w c : ℕ) → w ≡ words_in s → c ≡ count_in s → c * (5 + 4 * w) ≡ count_in s * (5 + 4 * words_in s)
   size_by w c e f = rw (e, f)
-
-pub taken_fits : (a m : ℕ) → a / m * m ≤ a
-taken_fits a m = div-mul-le_self a m

@@ -1,9 +1,8 @@
 -- Edges of design sheets, as one table under one theorem, by computation: what is printed, and each way a byte string is not of the form.
-use Rattle.std.specs.Prelude.{◌≡◌, refl, Bool, true, List, [], ◌∷◌, ◌++◌, ℕ, zero, suc, take}
+use Rattle.std.specs.Prelude.{◌≡◌, refl, Option, Some, None, Bool, true, List, [], ◌∷◌, ◌++◌, ℕ, zero, suc, take}
 use Rattle.tables.specs.Base.{all, any, find}
 use Rattle.tables.specs.Rule.{non, each, test}
-use Rattle.sheets.specs.declared.read.Parsed.{Parsed}
-use Rattle.sheets.specs.declared.read.Parsed.TheVariants.{Of, Wrong}
+use Rattle.sheets.specs.declared.read.Sheet.{Sheet}
 use Rattle.sheets.specs.Sheet.{bytes, runs, head, page_field, shown_field, printed, number, words_in, pages_in, number_in, count_in, place_of, page_in, word_in, page_fits, form, text_in, parsed}
 
 -- tag 03 with W 1 and N 3, tag 01 with number 7, a page of one word v, and tag 04
@@ -32,8 +31,12 @@ woven zero j = 9
 woven (suc zero) j = 0
 woven (suc (suc p)) j = 8
 
+-- a sheet of the form: its W and N, its number, how many pages it has
+abbrev told : ℕ → ℕ → ℕ → ℕ → Option Sheet
+told w n number count = Some (record { words = w; pages = n; number = number; count = count })
+
 -- what a reader answers, all that it looks at computed
-unfoldable pub says : List ℕ → Parsed
+unfoldable pub says : List ℕ → Option Sheet
 unfolding parsed form words_in pages_in number_in count_in place_of page_in word_in page_fits number test all any find
 says s = parsed s
 
@@ -47,46 +50,46 @@ pub record Edges : Type 0 where
   printed_two : printed 1 3 7 woven ≡ two
   high_first : printed 1 258 16909060 (λ p j. 0) ≡ 3 ∷ 0 ∷ 4 ∷ 0 ∷ 1 ∷ 1 ∷ 2 ∷ 1 ∷ 0 ∷ 4 ∷ 1 ∷ 2 ∷ 3 ∷ 4 ∷ 4 ∷ 0 ∷ 0 ∷ []
   -- of the form: two pages, none, the last page that N allows
-  of_two : says two ≡ Of 1 3 7 2
-  of_none : says (sheet []) ≡ Of 1 3 7 0
-  of_last : says (sheet (page 2 1)) ≡ Of 1 3 7 1
+  of_two : says two ≡ told 1 3 7 2
+  of_none : says (sheet []) ≡ told 1 3 7 0
+  of_last : says (sheet (page 2 1)) ≡ told 1 3 7 1
   -- judged by its own W and N, whatever these are
-  of_any_sizes : says (3 ∷ 0 ∷ 4 ∷ 255 ∷ 255 ∷ 0 ∷ 0 ∷ unique ++ end) ≡ Of 65535 0 7 0
+  of_any_sizes : says (3 ∷ 0 ∷ 4 ∷ 255 ∷ 255 ∷ 0 ∷ 0 ∷ unique ++ end) ≡ told 65535 0 7 0
   -- the paper's four: number 0; a page of zeros; one of its N, and one above; bytes after tag 04
-  number_0 : says (sizes ++ 1 ∷ 0 ∷ 4 ∷ 0 ∷ 0 ∷ 0 ∷ 0 ∷ page 0 9 ++ end) ≡ Wrong
-  page_of_zeros : says (sheet (page 0 9 ++ page 2 0)) ≡ Wrong
-  page_of_n : says (sheet (page 3 9)) ≡ Wrong
-  page_above_n : says (sheet (2 ∷ 0 ∷ 6 ∷ 1 ∷ 0 ∷ 0 ∷ 0 ∷ 0 ∷ 9 ∷ [])) ≡ Wrong
-  byte_after : says (two ++ 0 ∷ []) ≡ Wrong
-  page_after : says (sheet end ++ page 0 9) ≡ Wrong
-  sheet_after : says (two ++ two) ≡ Wrong
+  number_0 : says (sizes ++ 1 ∷ 0 ∷ 4 ∷ 0 ∷ 0 ∷ 0 ∷ 0 ∷ page 0 9 ++ end) ≡ None
+  page_of_zeros : says (sheet (page 0 9 ++ page 2 0)) ≡ None
+  page_of_n : says (sheet (page 3 9)) ≡ None
+  page_above_n : says (sheet (2 ∷ 0 ∷ 6 ∷ 1 ∷ 0 ∷ 0 ∷ 0 ∷ 0 ∷ 9 ∷ [])) ≡ None
+  byte_after : says (two ++ 0 ∷ []) ≡ None
+  page_after : says (sheet end ++ page 0 9) ≡ None
+  sheet_after : says (two ++ two) ≡ None
   -- an empty string; a sheet cut short anywhere, 0 to 34 of its 35 bytes
-  empty : says [] ≡ Wrong
+  empty : says [] ≡ None
   cut_short_holds : short_wrong 35 two ≡ true
   -- pages equal, and falling
-  page_twice : says (sheet (page 1 9 ++ page 1 8)) ≡ Wrong
-  page_falling : says (sheet (page 2 9 ++ page 0 8)) ≡ Wrong
+  page_twice : says (sheet (page 1 9 ++ page 1 8)) ≡ None
+  page_falling : says (sheet (page 2 9 ++ page 0 8)) ≡ None
   -- no end, and an end that is not empty
-  no_end : says (sizes ++ unique ++ page 0 9 ++ page 2 8) ≡ Wrong
-  end_with_a_byte : says (sizes ++ unique ++ 4 ∷ 0 ∷ 1 ∷ 0 ∷ []) ≡ Wrong
+  no_end : says (sizes ++ unique ++ page 0 9 ++ page 2 8) ≡ None
+  end_with_a_byte : says (sizes ++ unique ++ 4 ∷ 0 ∷ 1 ∷ 0 ∷ []) ≡ None
   -- wrong order: number before sizes, a page before the number; sizes twice
-  number_first : says (unique ++ sizes ++ end) ≡ Wrong
-  page_first : says (sizes ++ page 0 9 ++ unique ++ end) ≡ Wrong
-  sizes_twice : says (sizes ++ sizes ++ unique ++ end) ≡ Wrong
+  number_first : says (unique ++ sizes ++ end) ≡ None
+  page_first : says (sizes ++ page 0 9 ++ unique ++ end) ≡ None
+  sizes_twice : says (sizes ++ sizes ++ unique ++ end) ≡ None
   -- another tag, in each field
-  other_tag_3 : says (2 ∷ 0 ∷ 4 ∷ 0 ∷ 1 ∷ 0 ∷ 3 ∷ unique ++ end) ≡ Wrong
-  other_tag_1 : says (sizes ++ 0 ∷ 0 ∷ 4 ∷ 0 ∷ 0 ∷ 0 ∷ 7 ∷ end) ≡ Wrong
-  other_tag_2 : says (sheet (5 ∷ 0 ∷ 6 ∷ 0 ∷ 0 ∷ 0 ∷ 0 ∷ 0 ∷ 9 ∷ [])) ≡ Wrong
-  other_tag_4 : says (sizes ++ unique ++ 3 ∷ 0 ∷ 0 ∷ []) ≡ Wrong
+  other_tag_3 : says (2 ∷ 0 ∷ 4 ∷ 0 ∷ 1 ∷ 0 ∷ 3 ∷ unique ++ end) ≡ None
+  other_tag_1 : says (sizes ++ 0 ∷ 0 ∷ 4 ∷ 0 ∷ 0 ∷ 0 ∷ 7 ∷ end) ≡ None
+  other_tag_2 : says (sheet (5 ∷ 0 ∷ 6 ∷ 0 ∷ 0 ∷ 0 ∷ 0 ∷ 0 ∷ 9 ∷ [])) ≡ None
+  other_tag_4 : says (sizes ++ unique ++ 3 ∷ 0 ∷ 0 ∷ []) ≡ None
   -- another length, in each field: one byte less or more than it holds, or its low byte first
-  other_length_3 : says (3 ∷ 0 ∷ 5 ∷ 0 ∷ 1 ∷ 0 ∷ 3 ∷ unique ++ end) ≡ Wrong
-  other_length_1 : says (sizes ++ 1 ∷ 0 ∷ 3 ∷ 0 ∷ 0 ∷ 0 ∷ 7 ∷ end) ≡ Wrong
-  other_length_2 : says (sheet (2 ∷ 0 ∷ 7 ∷ 0 ∷ 0 ∷ 0 ∷ 0 ∷ 0 ∷ 9 ∷ [])) ≡ Wrong
-  low_byte_first : says (sheet (2 ∷ 6 ∷ 0 ∷ 0 ∷ 0 ∷ 0 ∷ 0 ∷ 0 ∷ 9 ∷ [])) ≡ Wrong
+  other_length_3 : says (3 ∷ 0 ∷ 5 ∷ 0 ∷ 1 ∷ 0 ∷ 3 ∷ unique ++ end) ≡ None
+  other_length_1 : says (sizes ++ 1 ∷ 0 ∷ 3 ∷ 0 ∷ 0 ∷ 0 ∷ 7 ∷ end) ≡ None
+  other_length_2 : says (sheet (2 ∷ 0 ∷ 7 ∷ 0 ∷ 0 ∷ 0 ∷ 0 ∷ 0 ∷ 9 ∷ [])) ≡ None
+  low_byte_first : says (sheet (2 ∷ 6 ∷ 0 ∷ 0 ∷ 0 ∷ 0 ∷ 0 ∷ 0 ∷ 9 ∷ [])) ≡ None
   -- a page of two words in a sheet whose W is 1
-  page_of_two_words : says (sheet (2 ∷ 0 ∷ 10 ∷ 0 ∷ 0 ∷ 0 ∷ 0 ∷ 0 ∷ 9 ∷ 0 ∷ 0 ∷ 0 ∷ 9 ∷ [])) ≡ Wrong
+  page_of_two_words : says (sheet (2 ∷ 0 ∷ 10 ∷ 0 ∷ 0 ∷ 0 ∷ 0 ∷ 0 ∷ 9 ∷ 0 ∷ 0 ∷ 0 ∷ 9 ∷ [])) ≡ None
   -- W 0: a page has no word that is not zero
-  page_of_no_words : says (3 ∷ 0 ∷ 4 ∷ 0 ∷ 0 ∷ 0 ∷ 3 ∷ unique ++ 2 ∷ 0 ∷ 2 ∷ 0 ∷ 0 ∷ end) ≡ Wrong
+  page_of_no_words : says (3 ∷ 0 ∷ 4 ∷ 0 ∷ 0 ∷ 0 ∷ 3 ∷ unique ++ 2 ∷ 0 ∷ 2 ∷ 0 ∷ 0 ∷ end) ≡ None
   -- the words that it gives each page
   text_0 : text_in two 0 0 ≡ 9
   text_1 : text_in two 1 0 ≡ 0

@@ -1,10 +1,9 @@
 -- What a design sheet is, what export prints, and what stands in a sheet.
-use Rattle.std.specs.Prelude.{List, [], ◌∷◌, ◌++◌, ℕ, zero, suc, ◌+◌, ◌-◌, ◌*◌, ◌/◌, ◌%◌, eqb, ltb, length}
+use Rattle.std.specs.Prelude.{Option, Some, None, List, [], ◌∷◌, ◌++◌, ℕ, zero, suc, ◌+◌, ◌-◌, ◌*◌, ◌/◌, ◌%◌, eqb, ltb, length}
 use Rattle.tables.specs.Base.{at, if, find}
 use Rattle.tables.specs.Rule.{Rule, same, below, non, ◌and◌, each, test}
 use Rattle.tables.specs.Store.{store}
-use Rattle.sheets.specs.declared.read.Parsed.{Parsed}
-use Rattle.sheets.specs.declared.read.Parsed.TheVariants.{Of, Wrong}
+use Rattle.sheets.specs.declared.read.Sheet.{Sheet}
 
 -- ── what export prints ──
 -- .. every number high byte first: the n bytes of a number
@@ -112,6 +111,6 @@ module _ (s : List ℕ) where
   unfoldable pub text_in : ℕ → ℕ → ℕ
   text_in p j = let k = find count_in (λ k. eqb (page_in k) p) 0 in if (ltb k count_in) (word_in k j) 0
 
-  -- what a reader answers: W, N, the number and how many pages it has
-  unfoldable pub parsed : Parsed
-  parsed = if (test form) (Of words_in pages_in number_in count_in) Wrong
+  -- what a reader answers: W, N, the number and how many pages it has; None where it is not of the form
+  unfoldable pub parsed : Option Sheet
+  parsed = if (test form) (Some (record { words = words_in; pages = pages_in; number = number_in; count = count_in })) None

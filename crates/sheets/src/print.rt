@@ -8,8 +8,7 @@ fn put_two(b: &mut [u8], from: usize, v: u32)
     requires { from + 2 ≤ length b.old }
     ensures { b.new ≡ laid b.old from (bytes 2 v) }
 {
-    b[from] = (v / 256 % 256) as u8;
-    b[from + 1] = (v % 256) as u8;
+    b[from..from + 2].copy_from_slice(&v.to_be_bytes()[2..]);
 }
 
 // Four bytes of a number, high byte first.
@@ -17,10 +16,7 @@ fn put_four(b: &mut [u8], from: usize, v: u32)
     requires { from + 4 ≤ length b.old }
     ensures { b.new ≡ laid b.old from (bytes 4 v) }
 {
-    b[from] = (v / 256 / 256 / 256 % 256) as u8;
-    b[from + 1] = (v / 256 / 256 % 256) as u8;
-    b[from + 2] = (v / 256 % 256) as u8;
-    b[from + 3] = (v % 256) as u8;
+    b[from..from + 4].copy_from_slice(&v.to_be_bytes());
 }
 
 // A field's tag and length.
@@ -37,12 +33,8 @@ fn put_words(b: &mut [u8], from: usize, w: usize, words: &[u32], base: usize)
     requires { (from + 4 * w ≤ length b.old) × (base + w ≤ length words.now) }
     ensures { b.new ≡ laid b.old from (runs w (λ j. bytes 4 (at words.now (base + j)))) }
 {
-    let mut place = from;
-    let mut j = 0;
-    while j < w {
-        put_four(b, place, words[base + j]);
-        place += 4;
-        j += 1;
+    for (j, word) in words[base..base + w].iter().enumerate() {
+        put_four(b, from + 4 * j, *word);
     }
 }
 

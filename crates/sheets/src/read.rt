@@ -4,18 +4,13 @@ ghost use Rattle.tables.specs.Base.{at};
 ghost use Rattle.tables.specs.Rule.{each, same, test};
 ghost use Rattle.sheets.specs.Sheet.{number, words_in, pages_in, place_of, page_in, word_in, page_fits, field_fits, headed, parsed};
 
-// What a sheet says of itself.
+// What a sheet that is of the form says of itself: its W and N, its number, how many pages it has.
 #[derive(Drop)]
-pub enum Parsed {
-    // It is of the form: its W and N, its number, how many pages it has.
-    Of {
-        words: u32,
-        pages: u32,
-        number: u32,
-        count: usize,
-    },
-    // It is not of the form: 29.
-    Wrong,
+pub struct Sheet {
+    pub words: u32,
+    pub pages: u32,
+    pub number: u32,
+    pub count: usize,
 }
 
 // The number of n bytes from a place on, high byte first.
@@ -23,23 +18,11 @@ fn number_at(s: &[u8], from: usize, n: usize) -> u32
     requires { (n ≤ 4) × (from + n ≤ length s.now) }
     ensures { result ≡ number n 0 s.now from }
 {
-    let mut value: u64 = 0;
-    let mut k = 0;
-    while k < n {
-        value = value * 256 + (s[from + k] as u64);
-        k = k + 1;
+    let mut value = 0;
+    for byte in &s[from..from + n] {
+        value = value * 256 + u32::from(*byte);
     }
-    value as u32
-}
-
-// A number of two bytes.
-fn two_at(s: &[u8], from: usize) -> u32
-    requires { from + 2 ≤ length s.now }
-    ensures { (result ≡ number 2 0 s.now from) × (result < 65536) }
-{
-    let high = s[from] as u32;
-    let low = s[from + 1] as u32;
-    high * 256 + low
+    value
 }
 
 // A field of this tag and length starts at a place.
@@ -47,10 +30,7 @@ fn is_headed(s: &[u8], from: usize, tag: u8, size: u32) -> bool
     requires { from + 3 ≤ length s.now }
     ensures { result ≡ test (headed s.now from tag size) }
 {
-    if s[from] != tag {
-        return false;
-    }
-    number_at(s, from + 1, 2) == size
+    s[from] == tag && number_at(s, from + 1, 2) == size
 }
 
 // Whether so many bytes from a place on are 0: all are looked at, so that many are compared at once.
@@ -59,10 +39,8 @@ fn zeros(s: &[u8], from: usize, n: usize) -> bool
     ensures { result ≡ test (each n (λ k. same (at s.now (from + k)) 0)) }
 {
     let mut ok = true;
-    let mut k = 0;
-    while k < n {
-        ok = ok & (s[from + k] == 0);
-        k += 1;
+    for byte in &s[from..from + n] {
+        ok &= *byte == 0;
     }
     ok
 }
@@ -73,8 +51,9 @@ fn all_zero(s: &[u8], from: usize, n: usize) -> bool
     ensures { result ≡ test (each n (λ k. same (at s.now (from + k)) 0)) }
 {
     let mut k = 0;
+    // No `for`: a step takes 32 bytes and a test ends it.
     while n - k >= 32 {
-        if zeros(s, from + k, 32) {} else {
+        if !zeros(s, from + k, 32) {
             return false;
         }
         k += 32;
@@ -96,7 +75,7 @@ fn field_fits(s: &[u8], from: usize, w: usize, n: u32, least: u32) -> bool
     ensures { result ≡ test (field_fits s.now w n least from) }
 {
     let size = (2 + 4 * w) as u32;
-    if is_headed(s, from, 2, size) {} else {
+    if !is_headed(s, from, 2, size) {
         return false;
     }
     let page = number_at(s, from + 3, 2);
@@ -106,10 +85,7 @@ fn field_fits(s: &[u8], from: usize, w: usize, n: u32, least: u32) -> bool
     if page < least {
         return false;
     }
-    if is_blank(s, from + 5, w) {
-        return false;
-    }
-    true
+    !is_blank(s, from + 5, w)
 }
 
 // Every page's field is of the form.
@@ -120,37 +96,35 @@ fn pages_fit(s: &[u8], w: usize, n: u32, count: usize) -> bool
     let size = 5 + 4 * w;
     let mut from = 14;
     let mut least: u32 = 0;
-    let mut k = 0;
-    while k < count {
-        if field_fits(s, from, w, n, least) {} else {
+    for _ in 0..count {
+        if !field_fits(s, from, w, n, least) {
             return false;
         }
         least = number_at(s, from + 3, 2) + 1;
         from += size;
-        k += 1;
     }
     true
 }
 
-// What a byte string says as a sheet, whatever it is.
-pub fn parse(s: &[u8]) -> Parsed
+// What a byte string says as a sheet, whatever it is: None where it is not of the form, 29.
+pub fn parse(s: &[u8]) -> Option<Sheet>
     ensures { result ≡ parsed s.now }
 {
     let long = s.len();
     if long < 17 {
-        return Parsed::Wrong;
+        return None;
     }
-    if is_headed(s, 0, 3, 4) {} else {
-        return Parsed::Wrong;
+    if !is_headed(s, 0, 3, 4) {
+        return None;
     }
-    if is_headed(s, 7, 1, 4) {} else {
-        return Parsed::Wrong;
+    if !is_headed(s, 7, 1, 4) {
+        return None;
     }
-    let words = two_at(s, 3);
-    let pages = two_at(s, 5);
+    let words = number_at(s, 3, 2);
+    let pages = number_at(s, 5, 2);
     let number = number_at(s, 10, 4);
     if number == 0 {
-        return Parsed::Wrong;
+        return None;
     }
     let w = words as usize;
     let size = 5 + 4 * w;
@@ -158,20 +132,20 @@ pub fn parse(s: &[u8]) -> Parsed
     let count = rest / size;
     let taken = count * size;
     if taken != rest {
-        return Parsed::Wrong;
+        return None;
     }
-    if pages_fit(s, w, pages, count) {} else {
-        return Parsed::Wrong;
+    if !pages_fit(s, w, pages, count) {
+        return None;
     }
-    if is_headed(s, 14 + taken, 4, 0) {
-        return Parsed::Of {
-            words,
-            pages,
-            number,
-            count,
-        };
+    if !is_headed(s, 14 + taken, 4, 0) {
+        return None;
     }
-    Parsed::Wrong
+    Some(Sheet {
+        words,
+        pages,
+        number,
+        count,
+    })
 }
 
 // The page of the k-th field of a sheet that is of the form.

@@ -5,7 +5,6 @@ use Prim.Native.Nat.{ℕ}
 use Rattle.model.specs.declared.sizes.Sizes.{Sizes}
 use Rattle.model.specs.declared.event.Answer.{Answer}
 use Rattle.model.specs.declared.event.Event.{Event}
-use Rattle.model.specs.declared.event.Event.TheVariants as Event
 use Rattle.model.specs.declared.event.Waiting.TheVariants.{Join}
 use Rattle.model.specs.State.{State}
 use Rattle.model.specs.Setters.{set_line}

@@ -16,7 +16,6 @@ use Rattle.model.specs.declared.sizes.Sizes.{Sizes}
 use Rattle.model.specs.declared.frame.Frame.{Frame}
 use Rattle.model.specs.declared.event.Answer.{Answer}
 use Rattle.model.specs.declared.event.Event.{Event}
-use Rattle.model.specs.declared.event.Event.TheVariants as Event
 use Rattle.model.specs.declared.event.Waiting.TheVariants.{Turn}
 use Rattle.model.specs.declared.event.Writeback.TheVariants.{Claim}
 use Rattle.model.specs.State.{State, frames, framed, frame_at, all_pages, NONE}

@@ -5,39 +5,30 @@ ghost use Rattle.tables.specs.Rule.{Holds};
 ghost use Rattle.model.specs.declared.event.Event.TheVariants as Event;
 ghost use Rattle.model.specs.declared.event.Waiting.TheVariants as Waiting;
 ghost use Rattle.model.specs.State.{LINE, all_pages};
+ghost use Rattle.model.specs.Refusals.{answered};
 ghost use Rattle.model.specs.Laws.Fit.{Within};
 ghost use Rattle.model.specs.Laws.Own.{own};
 ghost use Rattle.waiting.specs.Seen.{entered_line};
 
 use leaves::queue::{push_back, size};
-use model::event::Answer;
-use model::refusals::{LINE_FULL, NO_RANGE};
+use model::refusals::Refusal;
 use model::sizes::{LINE, Sizes};
 use pages::asks::page_of;
 
 // Nothing is asked of the slot or the page but that they are there.
-pub fn join(sizes: Sizes, slot: usize, page: usize, line: &mut [u16]) -> Answer
+pub fn join(sizes: Sizes, slot: usize, page: usize, line: &mut [u16]) -> Result<u32, Refusal>
     requires { Within sizes × (length line.old ≡ LINE) × Holds (queue_of LINE (all_pages sizes) line.old) }
-    ensures answer { result ≡ (own sizes (entered_line line.old) (Event.Waiting (Waiting.Join slot page))).answer }
+    ensures answer { answered result ≡ (own sizes (entered_line line.old) (Event.Waiting (Waiting.Join slot page))).answer }
     ensures line { line.new ≡ (own sizes (entered_line line.old) (Event.Waiting (Waiting.Join slot page))).left.memory.line }
 {
     let in_range = (slot < sizes.slots) & (page < sizes.pages);
-    if in_range {} else {
-        return Answer {
-            refusal: NO_RANGE,
-            result: 0,
-        };
+    if !in_range {
+        return Err(Refusal::NoRange);
     }
     if size(line) >= LINE {
-        return Answer {
-            refusal: LINE_FULL,
-            result: 0,
-        };
+        return Err(Refusal::LineFull);
     }
     let i = page_of(sizes, slot, page);
     push_back(line, i);
-    Answer {
-        refusal: 0,
-        result: 0,
-    }
+    Ok(0)
 }

@@ -12,6 +12,7 @@ ghost use Rattle.dispatch.specs.Kept.{Kept};
 
 use crate::join::join;
 use crate::turn::turn;
+use dispatch::handed::told;
 use model::applied::Worked;
 use model::event::Waiting;
 use model::frame::Pool;
@@ -62,15 +63,7 @@ pub fn waiting_event(
         (Event.Waiting event) }
 {
     match event {
-        Waiting::Join { slot, page } => {
-            let answer = join(sizes, slot, page, line);
-            Worked {
-                taken: 0,
-                deposited: 0,
-                nulled: 0,
-                answer,
-            }
-        }
+        Waiting::Join { slot, page } => told(join(sizes, slot, page, line)),
         Waiting::Turn => turn(
             sizes,
             frames,

@@ -14,13 +14,14 @@ ghost use Rattle.leaves.specs.FrameLaws.{frame_in};
 ghost use Rattle.leaves.specs.Packed.{unpacked, frames_in};
 ghost use Rattle.dispatch.specs.Kept.{Kept};
 
-use leaves::cells::at16;
+use dispatch::handed::told;
+use leaves::cells::at;
 use leaves::packed::{frame_at, frame_of};
 use leaves::queue::{first, pop, rotate};
 use model::applied::Worked;
 use model::event::Answer;
 use model::frame::{Frame, NONE, Pool};
-use model::refusals::NO_FRAME;
+use model::refusals::Refusal;
 use model::sizes::Sizes;
 use pages::fault::fault;
 use writeback::claim::{ClaimDone, claim};
@@ -74,21 +75,6 @@ fn claimed(done: ClaimDone) -> Worked
         answer: Answer {
             refusal: answer.refusal,
             result: 0,
-        },
-    }
-}
-
-// A turn that leaves the pool as it was.
-fn told(res: u32) -> Worked
-    ensures { result ≡ record { taken = 0; deposited = 0; nulled = 0; answer = record { refusal = 0; result = res } } }
-{
-    Worked {
-        taken: 0,
-        deposited: 0,
-        nulled: 0,
-        answer: Answer {
-            refusal: 0,
-            result: res,
         },
     }
 }
@@ -152,7 +138,8 @@ fn fetch(
         active,
     );
     let answer = done.answer;
-    if answer.refusal == NO_FRAME {
+    let no_frame = Refusal::NoFrame.number();
+    if answer.refusal == no_frame {
         return claimed(claim(
             sizes,
             frames,
@@ -210,14 +197,14 @@ pub fn turn(
         frame_words.old free_queue.old removal_list.old addresses.old states.old owners.old free_map.old active.now updating.now images.now line.old used.old)
         (Event.Waiting Waiting.Turn) }
 {
-    if at16(line, 0) == 0 {
-        return told(0);
+    if at(line, 0) == 0 {
+        return told(Ok(0));
     }
     let i = first(line);
     let f = frame_of(frames, sizes.frames, i);
     if f < sizes.frames {
         let result = meet(frame_at(frames, f), line);
-        return told(result);
+        return told(Ok(result));
     }
     fetch(
         sizes,

@@ -5,10 +5,10 @@ use mathlib.Core.List.{List}
 use Prim.Native.Nat.{ℕ, suc, ◌+◌, ◌-◌, ◌*◌, ◌<◌, ◌≤◌}
 use native.Mathlib.Omega.{arith}
 use native.Mathlib.Decide.{ℕ_discrete}
-use lib.ListN.{length, set, length-set}
+use lib.ListN.{set, length-set}
 use lib.Seq.{get_or-set_same, get_or-set_other}
 use Rattle.tables.specs.Base.{at}
-use Rattle.tables.specs.Rule.{Holds, same, each, test, alike}
+use Rattle.tables.specs.Rule.{test, alike}
 use Rattle.model.specs.declared.frame.Frame.{Frame}
 use Rattle.model.specs.State.{frame_at}
 use Rattle.writeback.specs.ByPage.{ByPage, charged_entry}
@@ -17,13 +17,6 @@ use Rattle.writeback.specs.Pages.{charged}
 module _ (pages s : ℕ) (fs : List Frame) where
   abbrev page_at : ℕ → ℕ
   page_at f = (frame_at fs f).page
-
-  pub begun : (table : List ℕ) → length table ≡ 256 → Holds (each 256 λ p. same (at table p) 0) → pages < 257 → ByPage 0 pages s fs table
-  begun table l z most = record {
-    long = l;
-    in_one = λ p f b e. absurd (omega (arith, e, z p (omega arith)));
-    in_none = λ p b e h. omega (arith, h.1);
-  }
 
   module _ {table : List ℕ} (f : ℕ) (t : ByPage f pages s fs table) where
     -- frame f has another page, or none

@@ -31,8 +31,6 @@ lives pages s ads ss p = test (live ads ss (s * pages + p))
 
 -- the lists and the number that the turns below page i leave
 pub record PagesTurn (pages s k : ℕ) (ads₀ ss₀ : List ℕ) (i : ℕ) (ads ss : List ℕ) (n : ℕ) : Type 0 where
-  pub from : s * pages + k ≤ i
-  pub to : i ≤ s * pages + pages
   pub few : n ≤ i
   pub counted : n ≡ count (i - s * pages) (λ p. leb k p && lives pages s ads₀ ss₀ p)
   pub turned : Turned ads₀ (cut pages s k) (λ j. 0) i ads
@@ -41,8 +39,6 @@ pub record PagesTurn (pages s k : ℕ) (ads₀ ss₀ : List ℕ) (i : ℕ) (ads 
 module _ {z : Sizes} {s k : ℕ} {ads₀ ss₀ : List ℕ} (ready : Releasing z s k ss₀ ads₀) where
   pub pass_starts : PagesTurn z.pages s k ads₀ ss₀ (s * z.pages + k) ads₀ ss₀ 0
   pass_starts = record {
-    from = omega arith;
-    to = omega (arith, ready.from);
     few = omega arith;
     counted = let e : k ≡ s * z.pages + k - s * z.pages = omega arith in sym (none_below k (lives z.pages s ads₀ ss₀)) ∙ ap (λ (m : ℕ). count m (λ p. leb k p && lives z.pages s ads₀ ss₀ p)) e;
     turned = turned_none _ _ _ _ (λ i h. omega (arith, from_inside z.pages s ready.pages_some k i h));
@@ -50,9 +46,9 @@ module _ {z : Sizes} {s k : ℕ} {ads₀ ss₀ : List ℕ} (ready : Releasing z 
   }
 
   -- ── one turn ──
-  module _ {i n : ℕ} {ads ss : List ℕ} (t : PagesTurn z.pages s k ads₀ ss₀ i ads ss n) (l : i < s * z.pages + z.pages) where
+  module _ {i n : ℕ} {ads ss : List ℕ} (t : PagesTurn z.pages s k ads₀ ss₀ i ads ss n) (from : s * z.pages + k ≤ i) (l : i < s * z.pages + z.pages) where
     its : Holds (cut z.pages s k i)
-    its = inside_from z.pages s ready.pages_some k i (λ b. omega (arith, t.from), l)
+    its = inside_from z.pages s ready.pages_some k i (λ b. omega arith, l)
 
     within : i < length ads₀
     within = omega (arith, ready.inside, ready.addresses_long)
@@ -65,14 +61,14 @@ module _ {z : Sizes} {s k : ℕ} {ads₀ ss₀ : List ℕ} (ready : Releasing z 
     p = i - s * z.pages
 
     up : k ≤ p
-    up = omega (arith, t.from)
+    up = omega arith
 
     its_page : s * z.pages + p ≡ i
-    its_page = omega (arith, t.from)
+    its_page = omega arith
 
     -- the pages counted after the turn
     next : {m : ℕ} → m ≡ count (p + 1) (λ q. leb k q && lives z.pages s ads₀ ss₀ q) → m ≡ count (i + 1 - s * z.pages) (λ q. leb k q && lives z.pages s ads₀ ss₀ q)
-    next e = let q : p + 1 ≡ i + 1 - s * z.pages = omega (arith, t.from) in e ∙ ap (λ (m : ℕ). count m (λ q. leb k q && lives z.pages s ads₀ ss₀ q)) q
+    next e = let q : p + 1 ≡ i + 1 - s * z.pages = omega arith in e ∙ ap (λ (m : ℕ). count m (λ q. leb k q && lives z.pages s ads₀ ss₀ q)) q
 
     counts : lives z.pages s ads₀ ss₀ p ≡ true → n + 1 ≡ count (i + 1 - s * z.pages) (λ q. leb k q && lives z.pages s ads₀ ss₀ q)
     counts y = next (one_more k (lives z.pages s ads₀ ss₀) up t.counted refl y)
@@ -106,8 +102,6 @@ module _ {z : Sizes} {s k : ℕ} {ads₀ ss₀ : List ℕ} (ready : Releasing z 
       pub turn_cuts : {x m : ℕ} → x ≡ at ss r → ((x ≡ LIVE) × (m ≡ n + 1)) ⊎ ((¬ (x ≡ LIVE)) × (m ≡ n)) → {ads' ss' : List ℕ} → ads' ≡ set ads i 0 → ss' ≡ set ss r RELEASED
           → PagesTurn z.pages s k ads₀ ss₀ (i + 1) ads' ss' m
       turn_cuts e c x y = record {
-        from = omega (arith, t.from);
-        to = omega arith;
         few = elim c [ inl v ↦ omega (arith, v.1, t.few) | inr v ↦ omega (arith, v.1, t.few) ];
         counted = counted_on e c;
         turned = turned_by (i + 1) x (turn_on i t.turned within its 0 refl);
@@ -117,8 +111,6 @@ module _ {z : Sizes} {s k : ℕ} {ads₀ ss₀ : List ℕ} (ready : Releasing z 
     -- .. at one that has none
     pub turn_leaves : at ads i ≡ 0 → {ads' ss' : List ℕ} {m : ℕ} → ads' ≡ ads → ss' ≡ ss → m ≡ n → PagesTurn z.pages s k ads₀ ss₀ (i + 1) ads' ss' m
     turn_leaves e x y w = record {
-      from = omega (arith, t.from);
-      to = omega arith;
       few = omega (arith, w, t.few);
       counted = w ∙ passes (untold (live ads₀ ss₀ (s * z.pages + p)) (λ h. omega (arith, ap (at ads₀) its_page, h.1, address_same, e)));
       turned = turned_by (i + 1) (x ∙ sym (ap (set ads i) (sym e) ∙ set-get_or ads i 0)) (turn_on i t.turned within its 0 refl);
@@ -126,12 +118,12 @@ module _ {z : Sizes} {s k : ℕ} {ads₀ ss₀ : List ℕ} (ready : Releasing z 
     }
 
   -- ── the last turn is over ──
-  module _ {i n : ℕ} {ads ss : List ℕ} (t : PagesTurn z.pages s k ads₀ ss₀ i ads ss n) (l : ¬ (i < s * z.pages + z.pages)) where
+  module _ {i n : ℕ} {ads ss : List ℕ} (t : PagesTurn z.pages s k ads₀ ss₀ i ads ss n) (to : i ≤ s * z.pages + z.pages) (l : ¬ (i < s * z.pages + z.pages)) where
     last : (j : ℕ) → Holds (cut z.pages s k j) → j < i
     last j u = omega (arith, from_inside z.pages s ready.pages_some k j u)
 
     pub all_counted : n ≡ live_from z.pages s k ads₀ ss₀
-    all_counted = let e : i - s * z.pages ≡ z.pages = omega (arith, t.to) in t.counted ∙ ap (λ (m : ℕ). count m (λ q. leb k q && lives z.pages s ads₀ ss₀ q)) e
+    all_counted = let e : i - s * z.pages ≡ z.pages = omega arith in t.counted ∙ ap (λ (m : ℕ). count m (λ q. leb k q && lives z.pages s ads₀ ss₀ q)) e
 
     pub all_released : ss ≡ store ss₀ (λ r. some (all_pages z) λ j. from_page z s k j and same (at ads₀ j) (suc r)) (λ r. RELEASED)
     all_released = named_all i t.named (λ j b u. last j u) ∙ ap (λ (m : ℕ). store ss₀ (named_by m (cut z.pages s k) ads₀) (λ r. RELEASED)) ready.addresses_long

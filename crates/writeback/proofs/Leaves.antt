@@ -36,10 +36,14 @@ module _ (n : ℕ) (fs : List Frame) (i : ℕ) where
     | inr x ↦ x.1 k.0 (omega arith) (omega (arith, k.1)) (eq→T k.2)
   ]
 
+-- the lists that the turns below page i leave
+pub record LeavesTurn (z : Sizes) (s : ℕ) (fs : List Frame) (ads₀ ss₀ : List ℕ) (i : ℕ) (ads ss : List ℕ) : Type 0 where
+  pub turned : Turned ads₀ (leaving_page z fs ads₀ ss₀ s) (λ k. 0) i ads
+  pub named : Named ss₀ (length ads₀) (leaving_page z fs ads₀ ss₀ s) ads₀ (λ r. LEAVING) i ss
+
 -- ── one turn ──
 module _ {z : Sizes} {s : ℕ} (fs : List Frame) {ads₀ ss₀ ads ss : List ℕ} (ready : SlotPages z s ads₀ ss₀) (i : ℕ)
-    (t : Turned ads₀ (leaving_page z fs ads₀ ss₀ s) (λ k. 0) i ads) (n : Named ss₀ (length ads₀) (leaving_page z fs ads₀ ss₀ s) ads₀ (λ r. LEAVING) i ss)
-    (from : s * z.pages ≤ i) (to : i < s * z.pages + z.pages) where
+    (t : LeavesTurn z s fs ads₀ ss₀ i ads ss) (from : s * z.pages ≤ i) (to : i < s * z.pages + z.pages) where
   within : i < length ads₀
   within = omega (arith, ready.long)
 
@@ -47,10 +51,10 @@ module _ {z : Sizes} {s : ℕ} (fs : List Frame) {ads₀ ss₀ ads ss : List ℕ
   of_slot_holds = inside_part z.pages s ready.pages_some i (λ h. omega arith, to)
 
   address_same : at ads i ≡ at ads₀ i
-  address_same = turned_at i t i (omega arith)
+  address_same = turned_at i t.turned i (omega arith)
 
   unmet : (r : ℕ) → at ads₀ i ≡ suc r → at ss r ≡ at ss₀ r
-  unmet r e = named_at i n r (λ j b u lt q. omega (arith, ready.held_once_holds j b i within r q e))
+  unmet r e = named_at i t.named r (λ j b u lt q. omega (arith, ready.held_once_holds j b i within r q e))
 
   back : Holds (leaving z.frames fs ads ss i) → Holds (leaving z.frames fs ads₀ ss₀ i)
   back h = let e = sym address_same ∙ h.0.1 in ((h.0.0, e, sym (unmet h.0.0 e) ∙ h.0.2), h.1)
@@ -72,13 +76,14 @@ module _ {z : Sizes} {s : ℕ} (fs : List Frame) {ads₀ ss₀ ads ss : List ℕ
       pub may : T (allowed (at ss (a - 1)) LEAVING)
       may = let q : at ss (a - 1) ≡ NULLED = ap (at ss) (omega (arith, reads, does.0.1)) ∙ does.0.2 in rw q nulled_leaving
 
-      pub turn_leaves : {ads' ss' : List ℕ} → ads' ≡ set ads i 0 → ss' ≡ set ss (a - 1) LEAVING
-          → Turned ads₀ (leaving_page z fs ads₀ ss₀ s) (λ k. 0) (i + 1) ads' × Named ss₀ (length ads₀) (leaving_page z fs ads₀ ss₀ s) ads₀ (λ r. LEAVING) (i + 1) ss'
-      turn_leaves x y = (turned_by (i + 1) x (turn_on i t within (of_slot_holds, back does) 0 refl), named_on i n within (of_slot_holds, back does) (a - 1) entry (ready.inside i (a - 1) within entry) LEAVING refl y)
+      pub turn_leaves : {ads' ss' : List ℕ} → ads' ≡ set ads i 0 → ss' ≡ set ss (a - 1) LEAVING → LeavesTurn z s fs ads₀ ss₀ (i + 1) ads' ss'
+      turn_leaves x y = record {
+        turned = turned_by (i + 1) x (turn_on i t.turned within (of_slot_holds, back does) 0 refl);
+        named = named_on i t.named within (of_slot_holds, back does) (a - 1) entry (ready.inside i (a - 1) within entry) LEAVING refl y;
+      }
 
-    pub turn_stays : a ≡ 0 → {ads' ss' : List ℕ} → ads' ≡ ads → ss' ≡ ss
-        → Turned ads₀ (leaving_page z fs ads₀ ss₀ s) (λ k. 0) (i + 1) ads' × Named ss₀ (length ads₀) (leaving_page z fs ads₀ ss₀ s) ads₀ (λ r. LEAVING) (i + 1) ss'
-    turn_stays e x y = (turned_by (i + 1) x (turn_off i t (λ h. not h.1)), named_off i n (λ h. absurd (not h.1)) y)
+    pub turn_stays : a ≡ 0 → {ads' ss' : List ℕ} → ads' ≡ ads → ss' ≡ ss → LeavesTurn z s fs ads₀ ss₀ (i + 1) ads' ss'
+    turn_stays e x y = record { turned = turned_by (i + 1) x (turn_off i t.turned (λ h. not h.1)); named = named_off i t.named (λ h. absurd (not h.1)) y }
       where
         not : ¬ Holds (leaving z.frames fs ads₀ ss₀ i)
         not h = elim got [ inl v ↦ omega (arith, e, v.1, v.0.0.1) | inr v ↦ v.0 (forth h) ]

@@ -16,6 +16,7 @@ pub mod MapWork
 pub mod Moves
 pub mod Named
 pub mod Ready
+pub mod Refused
 pub mod TruncateLaws
 pub mod TruncateWork
 pub mod UpdateWork

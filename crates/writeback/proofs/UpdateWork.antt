@@ -14,7 +14,9 @@ use Rattle.tables.specs.StoreNamed.{store_or}
 use Rattle.model.specs.declared.sizes.Sizes.{Sizes}
 use Rattle.model.specs.declared.frame.Frame.{Frame}
 use Rattle.model.specs.declared.event.Answer.{Answer}
+use Rattle.model.specs.declared.refusals.Refusal.{Refusal}
 use Rattle.model.specs.Lines.{RELEASED, LEAVING}
+use Rattle.model.specs.Refusals.{number}
 use Rattle.model.specs.State.{State, all_pages}
 use Rattle.model.specs.Setters.{counted}
 use Rattle.model.specs.Questions.{questions, would_store}
@@ -29,6 +31,7 @@ use Rattle.writeback.specs.Seen.{update, seen_update}
 use Rattle.writeback.specs.Update.{leaving_page, SlotPages}
 use Rattle.tables.specs.StoreLoops.{part_fits}
 use Rattle.writeback.proofs.Named.{fits}
+use Rattle.writeback.proofs.Refused.{number_some}
 
 -- what the contract says of the answer, the addresses, the states, the update switches and the images
 abbrev pub Said : Outcome State → Answer → List ℕ → List ℕ → List ℕ → List ℕ → Type 0
@@ -71,42 +74,41 @@ module _ (z : Sizes) (fs : List Frame) (ns ds ss os ac us is : List ℕ) (s : �
   abbrev released : ℕ → Rule
   released r = same (at marked r) RELEASED and same (at os r) s
 
-  module _ {n : ℕ} (e : n ≡ first_no (questions z st (update s))) where
-    pub refused : ¬ (n ≡ 0) → Left n ds ss us is
-    refused d = left_by_holds (sym (own_no z st (update s) _ e d)) (record { answer = refl; addresses = refl; states = refl; updating = refl; images = refl })
+  pub refused : (x : Refusal) → number x ≡ first_no (questions z st (update s)) → Left (number x) ds ss us is
+  refused x e = left_by_holds (sym (own_no z st (update s) _ e (number_some x))) (record { answer = refl; addresses = refl; states = refl; updating = refl; images = refl })
 
-    module _ (yes : n ≡ 0) (ready : Sized z × Addressed z ds ss × (length os ≡ length ss) × (length is ≡ all_pages z)) where
-      inside : s < z.slots
-      inside = (all_yes 2 (questions z st (update s)) tt (sym e ∙ yes)).0
+  module _ (e : 0 ≡ first_no (questions z st (update s))) (ready : Sized z × Addressed z ds ss × (length os ≡ length ss) × (length is ≡ all_pages z)) where
+    inside : s < z.slots
+    inside = (all_yes 2 (questions z st (update s)) tt (sym e)).0
 
-      pub images_fit : s * z.pages + z.pages ≤ length is
-      images_fit = rw ready.3 (part_fits z.slots z.pages s inside)
+    pub images_fit : s * z.pages + z.pages ≤ length is
+    images_fit = rw ready.3 (part_fits z.slots z.pages s inside)
 
-      pub pages_ready : SlotPages z s ds ss
-      pages_ready = record {
-        frames_most = ready.0.frames_most;
-        pages_some = ready.0.pages_some;
-        long = rw ready.1.long (part_fits z.slots z.pages s inside);
-        short = omega (arith, ready.1.long, fits z.slots z.pages ready.0.slots_most ready.0.pages_most);
-        inside = λ i r h. ready.1.inside i r (rw ready.1.long at h);
-        held_once_holds = rw ready.1.long ready.1.held_once_holds;
-      }
+    pub pages_ready : SlotPages z s ds ss
+    pages_ready = record {
+      frames_most = ready.0.frames_most;
+      pages_some = ready.0.pages_some;
+      long = rw ready.1.long (part_fits z.slots z.pages s inside);
+      short = omega (arith, ready.1.long, fits z.slots z.pages ready.0.slots_most ready.0.pages_most);
+      inside = λ i r h. ready.1.inside i r (rw ready.1.long at h);
+      held_once_holds = rw ready.1.long ready.1.held_once_holds;
+    }
 
-      to : (r : ℕ) → r < length ss → Holds (Writeback.leaving_record z st s r) → Holds (paged r) ⊎ Holds (released r)
-      to r h (inl x) = inl (x.0, rw ready.1.long x.1, (from_model x.0 x.2.0, x.2.1))
-      to r h (inr x) = elim (at_store ss paged (λ k. LEAVING) r h) [ inl y ↦ inl y.0 | inr y ↦ inr (y.1 ∙ x.1, x.0) ]
+    to : (r : ℕ) → r < length ss → Holds (Writeback.leaving_record z st s r) → Holds (paged r) ⊎ Holds (released r)
+    to r h (inl x) = inl (x.0, rw ready.1.long x.1, (from_model x.0 x.2.0, x.2.1))
+    to r h (inr x) = elim (at_store ss paged (λ k. LEAVING) r h) [ inl y ↦ inl y.0 | inr y ↦ inr (y.1 ∙ x.1, x.0) ]
 
-      from : (r : ℕ) → r < length ss → Holds (paged r) ⊎ Holds (released r) → Holds (Writeback.leaving_record z st s r)
-      from r h (inl x) = inl (x.0, rw ready.1.long at x.1, (to_model x.0 x.2.0, x.2.1))
-      from r h (inr x) = elim (at_store ss paged (λ k. LEAVING) r h) [ inl y ↦ absurd (omega (arith, x.0, y.1)) | inr y ↦ inr (x.1, sym y.1 ∙ x.0) ]
+    from : (r : ℕ) → r < length ss → Holds (paged r) ⊎ Holds (released r) → Holds (Writeback.leaving_record z st s r)
+    from r h (inl x) = inl (x.0, rw ready.1.long at x.1, (to_model x.0 x.2.0, x.2.1))
+    from r h (inr x) = elim (at_store ss paged (λ k. LEAVING) r h) [ inl y ↦ absurd (omega (arith, x.0, y.1)) | inr y ↦ inr (x.1, sym y.1 ∙ x.0) ]
 
-      pub updated : {ds' ss₁ ss' us' is' : List ℕ} → us' ≡ set us s 1 → is' ≡ store is (λ i. same (i / z.pages) s) (live_address ds ss) → ds' ≡ store ds (leaving_page z fs ds ss s) (λ i. 0)
-          → ss₁ ≡ marked → ss' ≡ store ss₁ (λ r. same (at ss₁ r) RELEASED and same (at os r) s) (λ r. LEAVING) → Left 0 ds' ss' us' is'
-      unfolding carried result Writeback.update would_store counted
-      updated a b c d f = left_by_holds (sym (own_yes z st (update s) _ e yes)) (record {
-        answer = refl;
-        addresses = c ∙ store_same ds (leaving_page z fs ds ss s) (Writeback.leaving_page z st s) (λ i. 0) (λ i. 0) (λ i h k. to_model i k) (λ i h k. from_model i k) (λ i h k. refl);
-        states = f ∙ ap (λ (l : List ℕ). store l (λ r. same (at l r) RELEASED and same (at os r) s) (λ r. LEAVING)) d ∙ store_or ss paged released (Writeback.leaving_record z st s) (λ r. LEAVING) to from;
-        updating = a;
-        images = b;
-      })
+    pub updated : {ds' ss₁ ss' us' is' : List ℕ} → us' ≡ set us s 1 → is' ≡ store is (λ i. same (i / z.pages) s) (live_address ds ss) → ds' ≡ store ds (leaving_page z fs ds ss s) (λ i. 0)
+        → ss₁ ≡ marked → ss' ≡ store ss₁ (λ r. same (at ss₁ r) RELEASED and same (at os r) s) (λ r. LEAVING) → Left 0 ds' ss' us' is'
+    unfolding carried result Writeback.update would_store counted
+    updated a b c d f = left_by_holds (sym (own_yes z st (update s) _ e refl)) (record {
+      answer = refl;
+      addresses = c ∙ store_same ds (leaving_page z fs ds ss s) (Writeback.leaving_page z st s) (λ i. 0) (λ i. 0) (λ i h k. to_model i k) (λ i h k. from_model i k) (λ i h k. refl);
+      states = f ∙ ap (λ (l : List ℕ). store l (λ r. same (at l r) RELEASED and same (at os r) s) (λ r. LEAVING)) d ∙ store_or ss paged released (Writeback.leaving_record z st s) (λ r. LEAVING) to from;
+      updating = a;
+      images = b;
+    })

@@ -13,22 +13,11 @@ pub fn by_page(count: usize, pages: usize, slot: usize, frames: &[u64], table: &
     ensures { ByPage count pages slot (unpacked frames.now) table.new }
 {
     let start = slot * pages;
-    let mut f = 0;
-    while f < count {
+    for f in 0..count {
         let frame = frame_at(frames, f);
         let page = frame.page as usize;
-        if page > start {
-            if page <= start + pages {
-                table[page - start - 1] = (f + 1) as u8;
-            }
+        if page > start && page <= start + pages {
+            table[page - start - 1] = (f + 1) as u8;
         }
-        f += 1;
     }
-}
-
-// An entry as a number.
-pub fn wide(entry: u8) -> usize
-    ensures { result ≡ entry }
-{
-    entry as usize
 }

@@ -3,7 +3,7 @@ ghost use Rattle.std.specs.Prelude.{◌≡◌, ◌-◌, ◌≤◌, set};
 ghost use Rattle.tables.specs.Base.{at};
 ghost use Rattle.leaves.specs.Payers.{who_pays};
 
-use leaves::cells::{at16, put16};
+use leaves::cells::{at, put};
 use leaves::payer::slot_payer;
 
 // So many charges less for who pays for the slot.
@@ -22,6 +22,6 @@ pub fn uncharge(
         return;
     }
     let q = slot_payer(parents, limits, accounts, slot);
-    let less = at16(used, q) as usize - n;
-    put16(used, q, less as u16);
+    let less = at(used, q) as usize - n;
+    put(used, q, less as u16);
 }

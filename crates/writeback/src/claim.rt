@@ -12,9 +12,9 @@ ghost use Rattle.writeback.specs.Needs.{Queues, Claimable};
 ghost use Rattle.writeback.specs.Seen.{claim, entered_claim};
 
 use crate::charges::uncharge;
-use crate::names::{named, record_of, wide};
+use crate::names::{named, record_of};
 use crate::switches::{cool, writing};
-use leaves::cells::{at8, at16};
+use leaves::cells::at;
 use leaves::packed::{frame_at, put_frame};
 use leaves::queue::{first, pop, push_back, rotate};
 use leaves::states::move_record;
@@ -22,7 +22,7 @@ use leaves::words::all_zero;
 use model::event::Answer;
 use model::frame::{Frame, no_frame};
 use model::lines::{LIVE, NULLED};
-use model::refusals::NOTHING_TO_CLAIM;
+use model::refusals::Refusal;
 use model::sizes::Sizes;
 
 // What a claim hands back. nulled: the record of the modified page of zeros that it took + 1, or 0 for none.
@@ -32,15 +32,15 @@ pub struct ClaimDone {
     pub answer: Answer,
 }
 
-// The three numbers, put together.
-fn claim_done(nulled: u32, refusal: u32, res: u32) -> ClaimDone
-    ensures { result ≡ record { nulled = nulled; answer = record { refusal = refusal; result = res } } }
+// A frame is taken, after so many looks.
+fn claimed(nulled: u32, looks: u32) -> ClaimDone
+    ensures { result ≡ record { nulled = nulled; answer = record { refusal = 0; result = looks } } }
 {
     ClaimDone {
         nulled,
         answer: Answer {
-            refusal,
-            result: res,
+            refusal: 0,
+            result: looks,
         },
     }
 }
@@ -49,10 +49,7 @@ fn claim_done(nulled: u32, refusal: u32, res: u32) -> ClaimDone
 fn is_warm(frame: Frame) -> bool
     ensures { result ≡ warm frame }
 {
-    if frame.initial == 1 {
-        return true;
-    }
-    frame.used == 1
+    frame.initial == 1 || frame.used == 1
 }
 
 // The first entry goes to the list's end, cooled, while it is warm; then it is the one to take.
@@ -63,6 +60,7 @@ fn turn(frames: &mut [u64], list: &mut [u16]) -> u32
     let mut looks = 1;
     let mut f = first(list);
     let mut g = frame_at(frames, f);
+    // How many turns it takes shows only as they are made.
     while is_warm(g) {
         put_frame(frames, f, cool(g));
         rotate(list);
@@ -78,10 +76,7 @@ fn begins(size: usize, modified: u8, words: &[u32], f: usize) -> bool
     requires { f * size + size ≤ length words.now }
     ensures { result ≡ if (eqb modified 1) (not (all size (λ w. eqb (at words.now (f * size + w)) 0))) false }
 {
-    if modified == 1 {
-        return !all_zero(words, size, f);
-    }
-    false
+    modified == 1 && !all_zero(words, size, f)
 }
 
 // A live record becomes nulled where the frame was modified.
@@ -89,10 +84,8 @@ fn make_nulled(states: &mut [u8], r: usize, modified: u8)
     requires { (at states.old r ≡ NULLED) ⊎ (at states.old r ≡ LIVE) }
     ensures { states.new ≡ if (eqb modified 1) (set states.old r NULLED) states.old }
 {
-    if modified == 1 {
-        if at8(states, r) == LIVE {
-            move_record(states, r, NULLED);
-        }
+    if modified == 1 && at(states, r) == LIVE {
+        move_record(states, r, NULLED);
     }
 }
 
@@ -101,9 +94,10 @@ fn entry_nulled(addresses: &[u16], page: u16, modified: u8) -> u32
     ensures { result ≡ if (eqb modified 1) (at addresses.now (pred page)) 0 }
 {
     if modified == 1 {
-        return wide(at16(addresses, named(page)));
+        u32::from(at(addresses, named(page)))
+    } else {
+        0
     }
-    0
 }
 
 // One charge less for who pays for the slot where the frame was modified.
@@ -146,8 +140,11 @@ pub fn claim(
     ensures states { states.new ≡ (own sizes (entered_claim (frames_in sizes frames.old) accounts.now limits.now parents.now words.now free_queue.old removal_list.old addresses.now states.old used.old) claim).left.memory.held.states }
     ensures used { used.new ≡ used_left sizes (entered_claim (frames_in sizes frames.old) accounts.now limits.now parents.now words.now free_queue.old removal_list.old addresses.now states.old used.old) }
 {
-    if at16(removal_list, 0) == 0 {
-        return claim_done(0, NOTHING_TO_CLAIM, 0);
+    if at(removal_list, 0) == 0 {
+        return ClaimDone {
+            nulled: 0,
+            answer: Answer::from(Refusal::NothingToClaim),
+        };
     }
     let looks = turn(frames, removal_list);
     let f = first(removal_list);
@@ -155,7 +152,7 @@ pub fn claim(
     let old = frame_at(frames, f);
     if begins(sizes.words, old.modified, words, f) {
         put_frame(frames, f, writing(old));
-        return claim_done(0, 0, looks);
+        return claimed(0, looks);
     }
     let r = record_of(addresses, old.page);
     let nulled = entry_nulled(addresses, old.page, old.modified);
@@ -170,5 +167,5 @@ pub fn claim(
     );
     push_back(free_queue, f);
     put_frame(frames, f, no_frame());
-    claim_done(nulled, 0, looks)
+    claimed(nulled, looks)
 }

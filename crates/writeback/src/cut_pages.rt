@@ -9,7 +9,7 @@ ghost use Rattle.model.specs.Parts.{from_page};
 ghost use Rattle.writeback.specs.Pages.{live_from};
 ghost use Rattle.writeback.specs.Truncate.{Releasing};
 
-use leaves::cells::at8;
+use leaves::cells::at;
 use leaves::states::move_record;
 use model::lines::{LIVE, RELEASED};
 use model::sizes::Sizes;
@@ -28,20 +28,18 @@ pub fn cut_pages(
     ensures addresses { addresses.new ≡ store addresses.old (λ i. same (i / sizes.pages) slot and non (below (i % sizes.pages) k)) (λ i. 0) }
 {
     let pages = sizes.pages;
-    let end = slot * pages + pages;
+    let start = slot * pages;
     let mut n = 0;
-    let mut i = slot * pages + k;
-    while i < end {
+    for i in start + k..start + pages {
         let address = addresses[i];
         if address != 0 {
             let r = address as usize - 1;
-            if at8(states, r) == LIVE {
+            if at(states, r) == LIVE {
                 n += 1;
             }
             move_record(states, r, RELEASED);
             addresses[i] = 0;
         }
-        i += 1;
     }
     n
 }

@@ -6,18 +6,19 @@ ghost use Rattle.model.specs.declared.frame.Pool.{Pool};
 ghost use Rattle.model.specs.State.{free_count};
 ghost use Rattle.model.specs.Pool.{deposited};
 ghost use Rattle.model.specs.Questions.{questions};
+ghost use Rattle.model.specs.Refusals.{said, refused};
 ghost use Rattle.model.specs.Laws.Own.{own};
 ghost use Rattle.model.specs.Lent.{no_pool};
 ghost use Rattle.writeback.specs.Needs.{Mapped};
 ghost use Rattle.writeback.specs.Seen.{map_done, entered_map_done, asked_map_done};
 
-use leaves::cells::{at8, at32, put8};
+use leaves::cells::{at, put};
 use leaves::records::free_leaving;
 use leaves::slots::{clear_slot, copy_slot};
 use leaves::states::move_all;
 use model::event::Answer;
 use model::lines::{LEAVING, RELEASED};
-use model::refusals::{NO_DESIGN, NO_RANGE, NO_TRANSFER, NOT_ACTIVE};
+use model::refusals::Refusal;
 use model::sizes::Sizes;
 
 // What the work of map done hands back by value: how many records are free more, and the answer.
@@ -25,6 +26,18 @@ use model::sizes::Sizes;
 pub struct Freed {
     pub deposited: u32,
     pub answer: Answer,
+}
+
+// A refused one frees nothing.
+impl From<Refusal> for Freed {
+    ghost from_gives = { λ no freed. freed ≡ record { deposited = 0; answer = refused no } };
+
+    fn from(no: Refusal) -> Freed {
+        Freed {
+            deposited: 0,
+            answer: Answer::from(no),
+        }
+    }
 }
 
 // Questions 3, 4, 8 and 22.
@@ -35,25 +48,22 @@ fn ask_map_done(
     numbers: &[u32],
     active: &[u8],
     updating: &[u8],
-) -> u32
-    ensures { result ≡ first_no (questions sizes (asked_map_done numbers.now active.now updating.now) (map_done slot good)) }
+) -> Result<(), Refusal>
+    ensures { said result ≡ first_no (questions sizes (asked_map_done numbers.now active.now updating.now) (map_done slot good)) }
 {
-    if slot >= sizes.slots {
-        return NO_RANGE;
+    if slot >= sizes.slots || good > 1 {
+        return Err(Refusal::NoRange);
     }
-    if good > 1 {
-        return NO_RANGE;
+    if at(numbers, slot) == 0 {
+        return Err(Refusal::NoDesign);
     }
-    if at32(numbers, slot) == 0 {
-        return NO_DESIGN;
+    if at(active, slot) != 1 {
+        return Err(Refusal::NotActive);
     }
-    if at8(active, slot) != 1 {
-        return NOT_ACTIVE;
+    if at(updating, slot) != 1 {
+        return Err(Refusal::NoTransfer);
     }
-    if at8(updating, slot) != 1 {
-        return NO_TRANSFER;
-    }
-    0
+    Ok(())
 }
 
 pub fn map_done(
@@ -80,27 +90,30 @@ pub fn map_done(
     ensures updating { updating.new ≡ (own sizes (entered_map_done no_pool numbers.now maps.old states.old owners.old free_map.old active.now updating.old images.old) (map_done slot good)).left.memory.slots.updating }
     ensures images { images.new ≡ (own sizes (entered_map_done no_pool numbers.now maps.old states.old owners.old free_map.old active.now updating.old images.old) (map_done slot good)).left.memory.slots.images }
 {
-    let refusal = ask_map_done(sizes, slot, good, numbers, active, updating);
-    if refusal != 0 {
-        return counted(0, refusal);
+    if let Err(no) = ask_map_done(sizes, slot, good, numbers, active, updating) {
+        return Freed::from(no);
     }
-    put8(updating, slot, 0);
+    put(updating, slot, 0);
     if good == 1 {
         copy_slot(images, maps, sizes.pages, slot);
         clear_slot(images, sizes.pages, slot);
         let count = free_leaving(sizes, states, owners, free_map, slot);
-        return counted(count, 0);
+        return done(count);
     }
     clear_slot(images, sizes.pages, slot);
     move_all(states, owners, slot, LEAVING, RELEASED);
-    counted(0, 0)
+    done(0)
 }
 
-fn counted(deposited: u32, refusal: u32) -> Freed
-    ensures { result ≡ record { deposited = deposited; answer = record { refusal = refusal; result = 0 } } }
+// It is carried out.
+fn done(deposited: u32) -> Freed
+    ensures { result ≡ record { deposited = deposited; answer = record { refusal = 0; result = 0 } } }
 {
     Freed {
         deposited,
-        answer: Answer { refusal, result: 0 },
+        answer: Answer {
+            refusal: 0,
+            result: 0,
+        },
     }
 }

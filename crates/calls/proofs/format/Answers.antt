@@ -13,13 +13,13 @@ use Rattle.model.specs.Step.{disk_lengths, format_lengths}
 use Rattle.restarts.specs.Formats.{formats_to, format_no, format_high, format_yes}
 use Rattle.calls.proofs.format.Goals as goal
 
-pub returns-else-disk_fit-wanted : goal.returns-else-disk_fit-wanted
+pub returns-then-not-disk_fit-wanted : goal.returns-then-not-disk_fit-wanted
 unfolding test
-returns-else-disk_fit-wanted c =
+returns-then-not-disk_fit-wanted c =
     let lent : Disk = let a = c.args in disk_of a.records.now a.numbers.now a.accounts.now a.maps.now a.limits.now a.parents.now a.highest.now in
     let fitting : (c.disk_fit.result && eqb (length c.args.wanted.now) c.args.sizes.accounts ≡ test (sizes_fit c.args.sizes and format_lengths c.args.sizes c.args.wanted.now lent)) = let z = c.args.sizes in let e = eqb (length c.args.wanted.now) z.accounts in
     ap (λ (b : Bool). b && e) c.disk_fit.ensures ∙ and_assoc (test (sizes_fit z)) (test (disk_lengths z lent)) e in
-    format_no c.args.sizes c.args.wanted.now lent (sym c.if-disk_fit-wanted.false ∙ fitting)
+    format_no c.args.sizes c.args.wanted.now lent (sym c.if-not-disk_fit-wanted.true ∙ fitting)
 
 pub parents_ok-requires : goal.parents_ok-requires
 unfolding test
@@ -27,15 +27,15 @@ parents_ok-requires c =
     let lent : Disk = let a = c.args in disk_of a.records.now a.numbers.now a.accounts.now a.maps.now a.limits.now a.parents.now a.highest.now in
     let fitting : (c.disk_fit.result && eqb (length c.args.wanted.now) c.args.sizes.accounts ≡ test (sizes_fit c.args.sizes and format_lengths c.args.sizes c.args.wanted.now lent)) = let z = c.args.sizes in let e = eqb (length c.args.wanted.now) z.accounts in
     ap (λ (b : Bool). b && e) c.disk_fit.ensures ∙ and_assoc (test (sizes_fit z)) (test (disk_lengths z lent)) e in
-    omega (arith, (learn (sizes_fit c.args.sizes and format_lengths c.args.sizes c.args.wanted.now lent) (sym c.if-disk_fit-wanted.true ∙ fitting)).1.1)
+    omega (arith, (learn (sizes_fit c.args.sizes and format_lengths c.args.sizes c.args.wanted.now lent) (sym c.if-not-disk_fit-wanted.false ∙ fitting)).1.1)
 
-pub returns-else-parents_ok : goal.returns-else-parents_ok
+pub returns-then-not-parents_ok : goal.returns-then-not-parents_ok
 unfolding test
-returns-else-parents_ok c =
+returns-then-not-parents_ok c =
     let lent : Disk = let a = c.args in disk_of a.records.now a.numbers.now a.accounts.now a.maps.now a.limits.now a.parents.now a.highest.now in
     let fitting : (c.disk_fit.result && eqb (length c.args.wanted.now) c.args.sizes.accounts ≡ test (sizes_fit c.args.sizes and format_lengths c.args.sizes c.args.wanted.now lent)) = let z = c.args.sizes in let e = eqb (length c.args.wanted.now) z.accounts in
     ap (λ (b : Bool). b && e) c.disk_fit.ensures ∙ and_assoc (test (sizes_fit z)) (test (disk_lengths z lent)) e in
-    format_high c.args.sizes c.args.wanted.now lent (sym c.if-disk_fit-wanted.true ∙ fitting) (sym c.if-parents_ok.false ∙ c.parents_ok.ensures)
+    format_high c.args.sizes c.args.wanted.now lent (sym c.if-not-disk_fit-wanted.false ∙ fitting) (sym c.if-not-parents_ok.true ∙ c.parents_ok.ensures)
 
 pub returns : goal.returns
 unfolding test
@@ -45,4 +45,4 @@ returns c =
     ap (λ (b : Bool). b && e) c.disk_fit.ensures ∙ and_assoc (test (sizes_fit z)) (test (disk_lengths z lent)) e in
     let e = c.format_tables.ensures in
     (λ x. formats_to 0 (disk_of (e.records x) (e.numbers x) (e.accounts x) (e.maps x) (e.limits x) (e.parents x) (e.highest x)))
-    ∙ format_yes c.args.sizes c.args.wanted.now lent (sym c.if-disk_fit-wanted.true ∙ fitting) (sym c.if-parents_ok.true ∙ c.parents_ok.ensures)
+    ∙ format_yes c.args.sizes c.args.wanted.now lent (sym c.if-not-disk_fit-wanted.false ∙ fitting) (sym c.if-not-parents_ok.false ∙ c.parents_ok.ensures)

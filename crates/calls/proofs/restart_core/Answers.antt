@@ -19,16 +19,16 @@ use Rattle.calls.specs.Lined.{no_line_zeros, no_copy_zeros}
 use Rattle.calls.specs.Restarting.{restarted_lent, restart_left}
 use Rattle.calls.proofs.restart_core.Goals as goal
 
-pub returns-else-lent_fit : goal.returns-else-lent_fit
-returns-else-lent_fit c =
+pub returns-then-not-lent_fit : goal.returns-then-not-lent_fit
+returns-then-not-lent_fit c =
     let at : List Frame → State = λ l.
     let a = c.args in
     all_of l a.pool a.records.now a.numbers.now a.accounts.now a.maps.now a.limits.now a.parents.now a.highest.now a.frame_words.now a.free_queue.now a.removal_list.now
     a.addresses.now a.states.now a.owners.now a.free_map.now a.active.now a.updating.now a.images.now a.chip_words.now a.chip_records.now a.chip_next.now a.line.now a.used.now in
     let lent : State = at (frames_of c.args.frames c.args.lent) in
     let a = c.args in
-    restart_unfit a.sizes lent
-    (sym c.if-lent_fit.false ∙ c.lent_fit.ensures (frames_of a.frames a.lent) a.pool (length_frames a.frames a.lent))
+    rw c.from.ensures (restart_unfit a.sizes lent
+    (sym c.if-not-lent_fit.true ∙ c.lent_fit.ensures (frames_of a.frames a.lent) a.pool (length_frames a.frames a.lent)))
 
 pub disk_rules-requires : goal.disk_rules-requires
 disk_rules-requires c =
@@ -39,12 +39,12 @@ disk_rules-requires c =
     let lent : State = at (frames_of c.args.frames c.args.lent) in
     let fitted : (true ≡ test (all_fit c.args.sizes lent)) =
     let a = c.args in
-    sym c.if-lent_fit.true ∙ c.lent_fit.ensures (frames_of a.frames a.lent) a.pool (length_frames a.frames a.lent) in
+    sym c.if-not-lent_fit.false ∙ c.lent_fit.ensures (frames_of a.frames a.lent) a.pool (length_frames a.frames a.lent) in
     let f = fit_told c.args.sizes lent fitted in
     (sizes_fit_holds c.args.sizes f.sizes, fit_disk c.args.sizes lent.disk f.disk)
 
-pub returns-else-disk_rules : goal.returns-else-disk_rules
-returns-else-disk_rules c =
+pub returns-then-not-disk_rules : goal.returns-then-not-disk_rules
+returns-then-not-disk_rules c =
     let at : List Frame → State = λ l.
     let a = c.args in
     all_of l a.pool a.records.now a.numbers.now a.accounts.now a.maps.now a.limits.now a.parents.now a.highest.now a.frame_words.now a.free_queue.now a.removal_list.now
@@ -52,8 +52,8 @@ returns-else-disk_rules c =
     let lent : State = at (frames_of c.args.frames c.args.lent) in
     let fitted : (true ≡ test (all_fit c.args.sizes lent)) =
     let a = c.args in
-    sym c.if-lent_fit.true ∙ c.lent_fit.ensures (frames_of a.frames a.lent) a.pool (length_frames a.frames a.lent) in
-    restart_unruled c.args.sizes lent fitted (sym c.if-disk_rules.false ∙ c.disk_rules.ensures lent.memory)
+    sym c.if-not-lent_fit.false ∙ c.lent_fit.ensures (frames_of a.frames a.lent) a.pool (length_frames a.frames a.lent) in
+    rw c.from-then-not-disk_rules.ensures (restart_unruled c.args.sizes lent fitted (sym c.if-not-disk_rules.true ∙ c.disk_rules.ensures lent.memory))
 
 pub restart_tables-requires : goal.restart_tables-requires
 restart_tables-requires c =
@@ -64,8 +64,8 @@ restart_tables-requires c =
     let lent : State = at (frames_of c.args.frames c.args.lent) in
     let fitted : (true ≡ test (all_fit c.args.sizes lent)) =
     let a = c.args in
-    sym c.if-lent_fit.true ∙ c.lent_fit.ensures (frames_of a.frames a.lent) a.pool (length_frames a.frames a.lent) in
-    let listed : (true ≡ test (disk_rules c.args.sizes lent)) = sym c.if-disk_rules.true ∙ c.disk_rules.ensures lent.memory in
+    sym c.if-not-lent_fit.false ∙ c.lent_fit.ensures (frames_of a.frames a.lent) a.pool (length_frames a.frames a.lent) in
+    let listed : (true ≡ test (disk_rules c.args.sizes lent)) = sym c.if-not-disk_rules.false ∙ c.disk_rules.ensures lent.memory in
     ready c.args.sizes lent (fit_told c.args.sizes lent fitted) (disk_told c.args.sizes lent listed)
 
 pub returns : goal.returns
@@ -77,8 +77,8 @@ returns c =
     let lent : State = at (frames_of c.args.frames c.args.lent) in
     let fitted : (true ≡ test (all_fit c.args.sizes lent)) =
     let a = c.args in
-    sym c.if-lent_fit.true ∙ c.lent_fit.ensures (frames_of a.frames a.lent) a.pool (length_frames a.frames a.lent) in
-    let listed : (true ≡ test (disk_rules c.args.sizes lent)) = sym c.if-disk_rules.true ∙ c.disk_rules.ensures lent.memory in
+    sym c.if-not-lent_fit.false ∙ c.lent_fit.ensures (frames_of a.frames a.lent) a.pool (length_frames a.frames a.lent) in
+    let listed : (true ≡ test (disk_rules c.args.sizes lent)) = sym c.if-not-disk_rules.false ∙ c.disk_rules.ensures lent.memory in
     let top : List ℕ = c.raise_highest.new.highest in
     let after : State =
     let t = c.restart_tables in

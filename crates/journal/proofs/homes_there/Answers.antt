@@ -1,18 +1,8 @@
--- The invariant: the home sectors before number i are there.
-use Rattle.std.proofs.Common.{arith}
-use Rattle.tables.specs.Turn.{none, again, fails, done, yes_so, not_so}
+-- The chain asks of each home sector's number whether it is below the room.
+use Rattle.std.proofs.Common.{◌+◌, rules, arith, refl}
+use Rattle.tables.specs.Rule.{below}
+use Rattle.journal.specs.Laws.Each.{each_between}
 use Rattle.journal.proofs.homes_there.Goals as goal
 
-pub loop-i-init : goal.loop-i-init
-loop-i-init c = none _
-
-pub returns-else-words-i : goal.returns-else-words-i
-returns-else-words-i c =
-    fails c.loop-i.i _ _ c.loop-i-test.true (not_so _ (omega (arith, c.if-words-i.false)))
-
-pub loop-i-preserved : goal.loop-i-preserved
-loop-i-preserved c =
-    again _ _ c.loop-i.invariant (yes_so _ (omega (arith, c.if-words-i.true)))
-
 pub returns : goal.returns
-returns c = done _ _ _ c.loop-i.invariant c.loop-i-test.false
+returns c = each_between (λ x. below x c.args.room) c.args.words.now 3 c.args.count (3 + c.args.count) c.all.result refl (omega arith) (search rules)

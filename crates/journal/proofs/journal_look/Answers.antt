@@ -15,19 +15,17 @@ pub returns-then-count-gt125 : goal.returns-then-count-gt125
 returns-then-count-gt125 c =
     look_over_sector c.args.most c.args.room c.args.words.now (omega arith) (omega arith) (omega arith)
 
--- both tests pass
-pub returns-then-zeros_behind : goal.returns-then-zeros_behind
-returns-then-zeros_behind c =
-    look_store c.args.most c.args.room c.args.words.now (record { magic = omega arith; in_area = omega arith; in_sector_holds = omega arith })
-    (sym c.if-homes_there.true ∙ c.homes_there.ensures) (sym c.if-zeros_behind.true ∙ c.zeros_behind.ensures)
+pub returns-then-not-homes_there : goal.returns-then-not-homes_there
+returns-then-not-homes_there c =
+    look_no_home c.args.most c.args.room c.args.words.now (record { magic = omega arith; in_area = omega arith; in_sector_holds = omega arith }) (sym c.if-not-homes_there.true ∙ c.homes_there.ensures)
 
--- the second does not
-pub returns-then-homes_there : goal.returns-then-homes_there
-returns-then-homes_there c =
+pub returns-then-not-zeros_behind : goal.returns-then-not-zeros_behind
+returns-then-not-zeros_behind c =
     look_not_zero c.args.most c.args.room c.args.words.now (record { magic = omega arith; in_area = omega arith; in_sector_holds = omega arith })
-    (sym c.if-homes_there.true ∙ c.homes_there.ensures) (sym c.if-zeros_behind.false ∙ c.zeros_behind.ensures)
+    (sym c.if-not-homes_there.false ∙ c.homes_there.ensures) (sym c.if-not-zeros_behind.true ∙ c.zeros_behind.ensures)
 
--- the first does not
+-- all tests pass
 pub returns : goal.returns
 returns c =
-    look_no_home c.args.most c.args.room c.args.words.now (record { magic = omega arith; in_area = omega arith; in_sector_holds = omega arith }) (sym c.if-homes_there.false ∙ c.homes_there.ensures)
+    look_store c.args.most c.args.room c.args.words.now (record { magic = omega arith; in_area = omega arith; in_sector_holds = omega arith })
+    (sym c.if-not-homes_there.false ∙ c.homes_there.ensures) (sym c.if-not-zeros_behind.false ∙ c.zeros_behind.ensures)

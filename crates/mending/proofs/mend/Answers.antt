@@ -8,43 +8,43 @@ use Rattle.mending.specs.Steps.{lent_of}
 use Rattle.mending.specs.Answers.{fits, roomy, mend_unfit, mend_short, places_most, given_first, chain_none, chain_next, given_next, given_accounts, given_maps, chain_fit, chain_most, chain_all}
 use Rattle.mending.proofs.mend.Goals as goal
 
-pub returns-else-disk_fit : goal.returns-else-disk_fit
-returns-else-disk_fit c =
+pub returns-then-not-disk_fit : goal.returns-then-not-disk_fit
+returns-then-not-disk_fit c =
     let lent : Lent = lent_of c.args.records.now c.args.numbers.now c.args.accounts.now c.args.maps.now c.args.limits.now c.args.parents.now c.args.highest.now c.args.changes.now in
-    mend_unfit c.args.sizes lent (said_no (fits c.args.sizes lent) c.disk_fit.ensures c.if-disk_fit.false)
+    mend_unfit c.args.sizes lent (said_no (fits c.args.sizes lent) c.disk_fit.ensures c.if-not-disk_fit.true)
 
 pub overflow_add-sizes : goal.overflow_add-sizes
 overflow_add-sizes c =
     let lent : Lent = lent_of c.args.records.now c.args.numbers.now c.args.accounts.now c.args.maps.now c.args.limits.now c.args.parents.now c.args.highest.now c.args.changes.now in
-    let f = said_yes (fits c.args.sizes lent) c.disk_fit.ensures c.if-disk_fit.true in
+    let f = said_yes (fits c.args.sizes lent) c.disk_fit.ensures c.if-not-disk_fit.false in
     let w = within c.args.sizes f.0 in
     omega (arith, w.pages_most)
 
 pub overflow_mul-sizes : goal.overflow_mul-sizes
 overflow_mul-sizes c =
     let lent : Lent = lent_of c.args.records.now c.args.numbers.now c.args.accounts.now c.args.maps.now c.args.limits.now c.args.parents.now c.args.highest.now c.args.changes.now in
-    let f = said_yes (fits c.args.sizes lent) c.disk_fit.ensures c.if-disk_fit.true in
+    let f = said_yes (fits c.args.sizes lent) c.disk_fit.ensures c.if-not-disk_fit.false in
     let w = within c.args.sizes f.0 in
     omega (arith, places_most c.args.sizes w)
 
 pub overflow_mul-sizes-2 : goal.overflow_mul-sizes-2
 overflow_mul-sizes-2 c =
     let lent : Lent = lent_of c.args.records.now c.args.numbers.now c.args.accounts.now c.args.maps.now c.args.limits.now c.args.parents.now c.args.highest.now c.args.changes.now in
-    let f = said_yes (fits c.args.sizes lent) c.disk_fit.ensures c.if-disk_fit.true in
+    let f = said_yes (fits c.args.sizes lent) c.disk_fit.ensures c.if-not-disk_fit.false in
     let w = within c.args.sizes f.0 in
     omega (arith, places_most c.args.sizes w)
 
 pub returns-then-changes-sizes : goal.returns-then-changes-sizes
 returns-then-changes-sizes c =
     let lent : Lent = lent_of c.args.records.now c.args.numbers.now c.args.accounts.now c.args.maps.now c.args.limits.now c.args.parents.now c.args.highest.now c.args.changes.now in
-    mend_short c.args.sizes lent (said_yes (fits c.args.sizes lent) c.disk_fit.ensures c.if-disk_fit.true) (λ h. h c.if-changes-sizes.true)
+    mend_short c.args.sizes lent (said_yes (fits c.args.sizes lent) c.disk_fit.ensures c.if-not-disk_fit.false) (λ h. h c.if-changes-sizes.true)
 
 pub empty_doubled-first-requires : goal.empty_doubled-first-requires
 empty_doubled-first-requires c =
     let lent : Lent = lent_of c.args.records.now c.args.numbers.now c.args.accounts.now c.args.maps.now c.args.limits.now c.args.parents.now c.args.highest.now c.args.changes.now in
     let z = c.args.sizes in
     let l = lent in
-    let f = said_yes (fits z l) c.disk_fit.ensures c.if-disk_fit.true in
+    let f = said_yes (fits z l) c.disk_fit.ensures c.if-not-disk_fit.false in
     let r : Holds (roomy z l) = λ h. omega (arith, h, c.if-changes-sizes.false) in
     given_first z l f r
 
@@ -53,7 +53,7 @@ empty_unfilled-second-requires c =
     let lent : Lent = lent_of c.args.records.now c.args.numbers.now c.args.accounts.now c.args.maps.now c.args.limits.now c.args.parents.now c.args.highest.now c.args.changes.now in
     let z = c.args.sizes in
     let l = lent in
-    let f = said_yes (fits z l) c.disk_fit.ensures c.if-disk_fit.true in
+    let f = said_yes (fits z l) c.disk_fit.ensures c.if-not-disk_fit.false in
     let r : Holds (roomy z l) = λ h. omega (arith, h, c.if-changes-sizes.false) in
     let c0 = chain_none z l f in
     let c1 = chain_next z l f 0 c0 c.empty_doubled-first.ensures in
@@ -64,7 +64,7 @@ fit_accounts-third-requires c =
     let lent : Lent = lent_of c.args.records.now c.args.numbers.now c.args.accounts.now c.args.maps.now c.args.limits.now c.args.parents.now c.args.highest.now c.args.changes.now in
     let z = c.args.sizes in
     let l = lent in
-    let f = said_yes (fits z l) c.disk_fit.ensures c.if-disk_fit.true in
+    let f = said_yes (fits z l) c.disk_fit.ensures c.if-not-disk_fit.false in
     let r : Holds (roomy z l) = λ h. omega (arith, h, c.if-changes-sizes.false) in
     let c0 = chain_none z l f in
     let c1 = chain_next z l f 0 c0 c.empty_doubled-first.ensures in
@@ -76,7 +76,7 @@ fit_entries-fourth-requires c =
     let lent : Lent = lent_of c.args.records.now c.args.numbers.now c.args.accounts.now c.args.maps.now c.args.limits.now c.args.parents.now c.args.highest.now c.args.changes.now in
     let z = c.args.sizes in
     let l = lent in
-    let f = said_yes (fits z l) c.disk_fit.ensures c.if-disk_fit.true in
+    let f = said_yes (fits z l) c.disk_fit.ensures c.if-not-disk_fit.false in
     let r : Holds (roomy z l) = λ h. omega (arith, h, c.if-changes-sizes.false) in
     let c0 = chain_none z l f in
     let c1 = chain_next z l f 0 c0 c.empty_doubled-first.ensures in
@@ -89,7 +89,7 @@ drop_shared-fifth-requires c =
     let lent : Lent = lent_of c.args.records.now c.args.numbers.now c.args.accounts.now c.args.maps.now c.args.limits.now c.args.parents.now c.args.highest.now c.args.changes.now in
     let z = c.args.sizes in
     let l = lent in
-    let f = said_yes (fits z l) c.disk_fit.ensures c.if-disk_fit.true in
+    let f = said_yes (fits z l) c.disk_fit.ensures c.if-not-disk_fit.false in
     let r : Holds (roomy z l) = λ h. omega (arith, h, c.if-changes-sizes.false) in
     let c0 = chain_none z l f in
     let c1 = chain_next z l f 0 c0 c.empty_doubled-first.ensures in
@@ -103,7 +103,7 @@ overflow_cast-result c =
     let lent : Lent = lent_of c.args.records.now c.args.numbers.now c.args.accounts.now c.args.maps.now c.args.limits.now c.args.parents.now c.args.highest.now c.args.changes.now in
     let z = c.args.sizes in
     let l = lent in
-    let f = said_yes (fits z l) c.disk_fit.ensures c.if-disk_fit.true in
+    let f = said_yes (fits z l) c.disk_fit.ensures c.if-not-disk_fit.false in
     let r : Holds (roomy z l) = λ h. omega (arith, h, c.if-changes-sizes.false) in
     let c0 = chain_none z l f in
     let c1 = chain_next z l f 0 c0 c.empty_doubled-first.ensures in
@@ -118,7 +118,7 @@ returns c =
     let lent : Lent = lent_of c.args.records.now c.args.numbers.now c.args.accounts.now c.args.maps.now c.args.limits.now c.args.parents.now c.args.highest.now c.args.changes.now in
     let z = c.args.sizes in
     let l = lent in
-    let f = said_yes (fits z l) c.disk_fit.ensures c.if-disk_fit.true in
+    let f = said_yes (fits z l) c.disk_fit.ensures c.if-not-disk_fit.false in
     let r : Holds (roomy z l) = λ h. omega (arith, h, c.if-changes-sizes.false) in
     let c0 = chain_none z l f in
     let c1 = chain_next z l f 0 c0 c.empty_doubled-first.ensures in

@@ -1,5 +1,5 @@
 -- Laws of a move: the limits' length and their sum stay.
-use Rattle.std.specs.Prelude.{◌≡◌, refl, List, [], ◌∷◌, ℕ, zero, suc, ◌+◌, ◌-◌, ◌<◌, length, set}
+use Rattle.std.specs.Prelude.{◌≡◌, List, [], ◌∷◌, ℕ, zero, suc, ◌+◌, ◌-◌, ◌<◌, length, set}
 use Rattle.std.proofs.Common.{◌∙◌, arith, length-set, get_or-set_other}
 use Rattle.tables.specs.Base.{at}
 use Rattle.model.specs.Accounts.{shifted}

@@ -1,10 +1,9 @@
 -- Questions 1 and 2 in two parts: those of all tables but the chip's, which most of the code asks, and those of the chip.
 use Rattle.std.specs.Prelude.{◌≡◌}
-use Rattle.tables.specs.Base.{at}
 use Rattle.tables.specs.Rule.{Rule, Holds, test, alike, ◌and◌}
 use Rattle.model.specs.declared.sizes.Sizes.{Sizes}
 use Rattle.model.specs.Sizes.{sizes_fit}
-use Rattle.model.specs.State.{Chip, State}
+use Rattle.model.specs.State.{State}
 use Rattle.model.specs.Rules.{disk_rules, table_rules, chip_rules, memory_rules, all_rules}
 use Rattle.model.specs.Step.{disk_lengths, table_lengths, chip_lengths, all_fit}
 use Rattle.model.specs.Laws.Fit.{Fit, within, sizes_fit_holds, disk_fit, fit_disk, memory_fit, fit_memory}

@@ -18,7 +18,7 @@ use Rattle.model.specs.State.{slot_of}
 use Rattle.model.specs.Laws.Index.{slot_of_page, place_below, page_again}
 use Rattle.model.specs.Terms.{Nearest}
 use Rattle.model.specs.Laws.Nearest.{nearest_is, nearest_below}
-use Rattle.model.specs.Parts.{by_hand, neighbour, nearest, picked, pick}
+use Rattle.model.specs.Parts.{by_hand, neighbour, picked, pick}
 
 module _ (z : Sizes) (state : ℕ → ℕ) (hand : ℕ) where
   pub hand_below : 0 < z.records → by_hand z state hand < z.records

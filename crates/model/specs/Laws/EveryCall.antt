@@ -1,5 +1,5 @@
 -- The calls as one (step, apply, restart, format, look): what each asks, and demand 1's refusal, which leaves everything lent as it was.
-use Rattle.std.specs.Prelude.{◌≡◌, refl, List, [], ℕ, zero, suc, T, length}
+use Rattle.std.specs.Prelude.{◌≡◌, refl, List, [], ℕ, zero, suc, T, length, Option, Some, None}
 use Rattle.std.proofs.Common.{arith}
 use Rattle.tables.specs.Base.{at}
 use Rattle.tables.specs.Questions.{Questions, none, ask, above, rising, rising_above, first_no}
@@ -7,8 +7,6 @@ use Rattle.tables.specs.Rule.{Rule, same, ◌and◌}
 use Rattle.model.specs.declared.sizes.Sizes.{Sizes}
 use Rattle.model.specs.declared.event.Event.{Event}
 use Rattle.model.specs.declared.request.Request.{Request}
-use Rattle.model.specs.declared.request.Decoded.{Decoded}
-use Rattle.model.specs.declared.request.Decoded.TheVariants.{Known, Unknown}
 use Rattle.model.specs.Sizes.{sizes_fit}
 use Rattle.model.specs.Requests.{decoded, decoded_number}
 use Rattle.model.specs.State.{Disk, State}
@@ -82,9 +80,9 @@ lengths (importing z st s q n b) = disk_lengths z st.disk and memory_lengths z s
 lengths (exporting z st s buffer) = disk_lengths z st.disk and memory_lengths z st.memory
 
 -- the questions of a request's event; a kind that is no event fails 3
-abbrev pub decoded_questions : Sizes → State → Decoded → Questions
-decoded_questions z st (Known e) = questions z st e
-decoded_questions z st Unknown = ask (decoded_number Unknown) (same 0 1) none
+abbrev pub decoded_questions : Sizes → State → Option Event → Questions
+decoded_questions z st (Some e) = questions z st e
+decoded_questions z st None = ask (decoded_number None) (same 0 1) none
 
 -- the questions after 1
 abbrev pub later : Call → Questions
@@ -100,10 +98,10 @@ abbrev pub asks : Call → Questions
 asks c = ask 1 (sizes_fit (sizes_in c) and lengths c) (later c)
 
 -- in the order of their places
-decoded_order : (z : Sizes) (st : State) (d : Decoded) → T (rising rank 20 (decoded_questions z st d))
+decoded_order : (z : Sizes) (st : State) (d : Option Event) → T (rising rank 20 (decoded_questions z st d))
 unfolding rank
-decoded_order z st (Known e) = in_order z st e
-decoded_order z st Unknown = tt
+decoded_order z st (Some e) = in_order z st e
+decoded_order z st None = tt
 
 pub later_order : (c : Call) → T (rising rank 10 (later c))
 unfolding rank
@@ -130,10 +128,10 @@ by_outcome : {A : Type 0} (q : Questions) (n r : ℕ) (old new : A) → n ≡ fi
 by_outcome q zero r old new e = record { first = e; result = λ h. absurd (h refl); left = λ h. absurd (h refl) }
 by_outcome q (suc n) r old new e = record { first = e; result = λ h. refl; left = λ h. refl }
 
-by_decoded : (z : Sizes) (st : State) (d : Decoded) → Answers (ask 1 (all_fit z st) (ask 2 (all_rules z st) (decoded_questions z st d))) st (step_of z st d)
+by_decoded : (z : Sizes) (st : State) (d : Option Event) → Answers (ask 1 (all_fit z st) (ask 2 (all_rules z st) (decoded_questions z st d))) st (step_of z st d)
 unfolding step_of unknown step answer
-by_decoded z st (Known e) = by_outcome _ _ _ _ _ refl
-by_decoded z st Unknown = by_outcome _ _ _ _ _ refl
+by_decoded z st (Some e) = by_outcome _ _ _ _ _ refl
+by_decoded z st None = by_outcome _ _ _ _ _ refl
 
 pub refused_unchanged : (c : Call) → Answers (asks c) (unchanged c) (outcome_of c)
 unfolding all_fit step answer apply restart format look import_answer import export

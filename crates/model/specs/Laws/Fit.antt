@@ -4,7 +4,7 @@ use Rattle.tables.specs.Rule.{Holds}
 use Rattle.model.specs.declared.sizes.Sizes.{Sizes}
 use Rattle.model.specs.Sizes.{sizes_fit}
 use Rattle.model.specs.State.{Disk, Memory, Chip, State, LINE, all_pages, map_words}
-use Rattle.model.specs.Step.{disk_lengths, table_lengths, chip_lengths, memory_lengths, all_fit}
+use Rattle.model.specs.Step.{disk_lengths, table_lengths, chip_lengths, all_fit}
 
 -- each size is above 0 and at most its limit
 pub record Within (z : Sizes) : Type 0 where

@@ -1,11 +1,10 @@
 -- What a turn's treatment of the first request says of the tables.
-use Rattle.std.specs.Prelude.{◌≡◌, refl, Bool, true, false, ℕ, zero, suc, ◌<◌, T, eqb}
-use Rattle.std.proofs.Common.{sym, arith, eq-eqb, ne_eqb}
+use Rattle.std.specs.Prelude.{◌≡◌, refl, ℕ, ◌<◌}
+use Rattle.std.proofs.Common.{arith, eq-eqb, ne_eqb}
 use Rattle.std.proofs.Math.Decide.{ℕ_discrete}
-use Rattle.tables.specs.Base.{if}
 use Rattle.tables.specs.Queue.{size}
 use Rattle.tables.specs.Questions.{Asked, first_no, all_yes}
-use Rattle.tables.specs.Rule.{Holds, test, decided, told, untold}
+use Rattle.tables.specs.Rule.{Holds, decided, told, untold}
 use Rattle.model.specs.declared.sizes.Sizes.{Sizes}
 use Rattle.model.specs.State.{State, frames, framed}
 use Rattle.model.specs.Questions.{Turning, nobody, serves, goes_back, faults, claims, sends_away, still, next_page, next_fault, by_fault, turning, page_questions}

@@ -1,15 +1,14 @@
 -- A list of requests in one call is a list of acts: what it leaves is what its events leave one after the other, so that whatever is said of every list of acts is said of it.
-use Rattle.std.specs.Prelude.{◌≡◌, refl, true, List, [], ◌∷◌, ◌++◌, ℕ, zero, suc, T, length}
-use Rattle.std.proofs.Common.{ap, sym, ◌∙◌}
+use Rattle.model.specs.declared.event.Event.{Event}
+use Rattle.std.specs.Prelude.{◌≡◌, refl, true, List, [], ◌∷◌, ◌++◌, ℕ, zero, suc, T, length, Option, Some, None}
+use Rattle.std.proofs.Common.{ap, ◌∙◌}
 use Rattle.tables.specs.Laws.{and_intro, and_left, and_right}
 use Rattle.tables.specs.Questions.{none, ask, first_no}
 use Rattle.tables.specs.Rule.{same}
 use Rattle.model.specs.declared.sizes.Sizes.{Sizes}
-use Rattle.model.specs.declared.request.Decoded.{Decoded}
-use Rattle.model.specs.declared.request.Decoded.TheVariants.{Known, Unknown}
 use Rattle.model.specs.Requests.{decoded, decoded_number}
 use Rattle.model.specs.State.{State}
-use Rattle.model.specs.Step.{outcome, asked, step}
+use Rattle.model.specs.Step.{outcome, asked}
 use Rattle.model.specs.Calls.{apply, step_of, unknown}
 use Rattle.model.specs.ApplyAll.{request_at, request_count, turned, after, apply_all}
 use Rattle.model.specs.Acts.{Act, World, act, run, legal, allowed}
@@ -22,10 +21,10 @@ run_on z w [] ys = refl
 run_on z w (x ∷ xs) ys = run_on z (act z w x) xs ys
 
 -- one request
-by_request : (z : Sizes) (w : World) (d : Decoded) → (run z w (acts_of d)).state ≡ (step_of z w.state d).left
+by_request : (z : Sizes) (w : World) (d : Option Event) → (run z w (acts_of d)).state ≡ (step_of z w.state d).left
 unfolding run act step_of unknown
-by_request z w (Known e) = refl
-by_request z w Unknown = go (first_no (asked z w.state (ask (decoded_number Unknown) (same 0 1) none)))
+by_request z w (Some e) = refl
+by_request z w None = go (first_no (asked z w.state (ask (decoded_number None) (same 0 1) none)))
   where
     go : (n : ℕ) → w.state ≡ (outcome n 0 w.state w.state).left
     go zero = refl
@@ -46,10 +45,10 @@ unfolding apply_all
 call_acts z w requests answers = listed_acts z w requests answers (request_count (length requests) (length answers))
 
 -- events leave the keeper up, so the acts of a list of requests are legal once it is restarted
-up_on : (z : Sizes) (w : World) (d : Decoded) → (run z w (acts_of d)).up ≡ w.up
+up_on : (z : Sizes) (w : World) (d : Option Event) → (run z w (acts_of d)).up ≡ w.up
 unfolding run act
-up_on z w (Known e) = refl
-up_on z w Unknown = refl
+up_on z w (Some e) = refl
+up_on z w None = refl
 
 up_all : (z : Sizes) (w : World) (requests : List ℕ) (k : ℕ) → (run z w (acts_to requests k)).up ≡ w.up
 unfolding run acts_to
@@ -64,10 +63,10 @@ legal_on z w [] ys a b = b
 legal_on z w (x ∷ xs) ys a b = and_intro (allowed z w x) (legal z (act z w x) (xs ++ ys)) (and_left (allowed z w x) (legal z (act z w x) xs) a)
     (legal_on z (act z w x) xs ys (and_right (allowed z w x) (legal z (act z w x) xs) a) b)
 
-legal_one : (z : Sizes) (w : World) (d : Decoded) → T w.up → T (legal z w (acts_of d))
+legal_one : (z : Sizes) (w : World) (d : Option Event) → T w.up → T (legal z w (acts_of d))
 unfolding legal allowed
-legal_one z w (Known e) u = and_intro w.up true u tt
-legal_one z w Unknown u = tt
+legal_one z w (Some e) u = and_intro w.up true u tt
+legal_one z w None u = tt
 
 pub legal_acts : (z : Sizes) (w : World) (requests : List ℕ) (k : ℕ) → T w.up → T (legal z w (acts_to requests k))
 unfolding legal acts_to

@@ -1,9 +1,9 @@
 -- Laws of the free record nearest to another: no free record is nearer, and none equally near is lower.
-use Rattle.std.specs.Prelude.{◌≡◌, Bool, true, false, ◌||◌, ℕ, suc, ◌+◌, ◌-◌, ◌%◌, ◌<◌, ◌≤◌, T, eqb, ltb, leb}
+use Rattle.std.specs.Prelude.{◌≡◌, Bool, ◌||◌, ℕ, suc, ◌+◌, ◌-◌, ◌%◌, ◌<◌, ◌≤◌, T, eqb, ltb, leb}
 use Rattle.std.proofs.Common.{◌∙◌, subst, mod-lt, mod-eq_of_lt, arith, eqb→eq, ltb→lt, lt→ltb, leb→le, le→leb, T_not}
 use Rattle.std.proofs.Math.Logic.{inl, inr}
 use Rattle.std.proofs.Math.Decide.{dec_le}
-use Rattle.tables.specs.Base.{if, find}
+use Rattle.tables.specs.Base.{find}
 use Rattle.tables.specs.Laws.{Found, found, and_left, and_right, and_intro, or_cases, or_left, or_right, eq→T, if_elim}
 use Rattle.model.specs.declared.sizes.Sizes.{Sizes}
 use Rattle.model.specs.Lines.{FREE}

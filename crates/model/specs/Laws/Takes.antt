@@ -1,15 +1,15 @@
 -- The records that an import takes: each was free, and no two are one.
-use Rattle.std.specs.Prelude.{◌≡◌, Bool, ◌⊎◌, T, set}
+use Rattle.std.specs.Prelude.{◌≡◌, ◌⊎◌, set}
 use Rattle.std.proofs.Math.Path.{refl, ap}
-use Rattle.std.proofs.Common.{sym, ◌∙◌, subst}
+use Rattle.std.proofs.Common.{sym, ◌∙◌}
 use mathlib.Core.List.{List}
 use Rattle.std.proofs.Math.Logic.{inl, inr}
-use Prim.Native.Nat.{ℕ, zero, suc, ◌+◌, ◌-◌, ◌*◌, ◌%◌, ◌<◌, ◌≤◌}
+use Prim.Native.Nat.{ℕ, zero, suc, ◌+◌, ◌<◌, ◌≤◌}
 use native.Mathlib.Omega.{arith}
 use Rattle.std.proofs.Math.Decide.{ℕ_discrete}
 use Rattle.std.proofs.Math.Dec.{eqb, eqb→eq}
 use Rattle.std.proofs.Math.ListN.{length, length-set}
-use Rattle.tables.specs.Base.{at, count}
+use Rattle.tables.specs.Base.{at}
 use Rattle.tables.specs.Laws.{last, eq→T}
 use Rattle.tables.specs.CountLaws.{count_some, count_less}
 use Rattle.tables.specs.Store.{Split}
@@ -20,7 +20,7 @@ use Rattle.model.specs.Parts.{picked}
 use Rattle.model.specs.Laws.Choice.{hand_below, hand_free}
 use Rattle.model.specs.Laws.Nearest.{nearest_is, nearest_below}
 use Rattle.model.specs.Laws.Index.{split_set}
-use Rattle.model.specs.Import.{Taking, taking, taken}
+use Rattle.model.specs.Import.{taking, taken}
 
 module _ (z : Sizes) (state : ℕ → ℕ) (hand : ℕ) where
   pub picked_below : 0 < z.records → (a : ℕ) → picked z state hand a < z.records

@@ -1,5 +1,5 @@
 -- Question 23 of paper 01, "Good map done: no leaving record in the image?", is not asked: no_leaving_imaged of Implied. Its number stays unused: no call answers it.
-use Rattle.std.specs.Prelude.{◌≡◌, refl, Bool, true, false, ◌||◌, List, ℕ, T, eqb}
+use Rattle.std.specs.Prelude.{◌≡◌, refl, Bool, true, false, ◌||◌, List, ℕ, T, eqb, Option, Some, None}
 use Rattle.std.proofs.Common.{ap, sym, ◌∙◌, arith}
 use Rattle.tables.specs.Base.{if}
 use Rattle.tables.specs.Laws.{or_left, or_right, eq→T}
@@ -7,14 +7,11 @@ use Rattle.tables.specs.Questions.{Questions, none, ask, first_no, Asked}
 use Rattle.tables.specs.Rule.{Rule, Holds, same, non, ◌then◌, each, named, test, sound, told}
 use Rattle.model.specs.declared.sizes.Sizes.{Sizes}
 use Rattle.model.specs.declared.event.Event.{Event}
-use Rattle.model.specs.declared.event.Event.TheVariants as Event
 use Rattle.model.specs.declared.event.Design.TheVariants.{Create, Delete, Activate, Deactivate}
 use Rattle.model.specs.declared.event.Account.TheVariants.{Limit, Move}
 use Rattle.model.specs.declared.event.Page.TheVariants.{Fault, Read, Write, Wire, Unwire}
 use Rattle.model.specs.declared.event.Writeback.TheVariants.{Claim, Truncate, Update, PageDone, MapDone}
 use Rattle.model.specs.declared.event.Waiting.TheVariants.{Join, Turn}
-use Rattle.model.specs.declared.request.Decoded.{Decoded}
-use Rattle.model.specs.declared.request.Decoded.TheVariants.{Known, Unknown}
 use Rattle.model.specs.Lines.{LEAVING}
 use Rattle.model.specs.State.{State, files, page_of}
 use Rattle.model.specs.Laws.Ruled.{ruled}
@@ -103,9 +100,9 @@ own_23 z st (Event.Writeback (MapDone s good)) t = t
 own_23 z st (Event.Waiting (Join s p)) t = t
 own_23 z st (Event.Waiting Turn) t = turn_23 z st (turning z st) t
 
-decoded_23 : (z : Sizes) (st : State) (d : Decoded) → ¬ (T (asks_number 23 (decoded_questions z st d)))
-decoded_23 z st (Known e) t = own_23 z st e t
-decoded_23 z st Unknown t = t
+decoded_23 : (z : Sizes) (st : State) (d : Option Event) → ¬ (T (asks_number 23 (decoded_questions z st d)))
+decoded_23 z st (Some e) t = own_23 z st e t
+decoded_23 z st None t = t
 
 asks_23 : (c : Call) → ¬ (T (asks_number 23 (asks c)))
 asks_23 (stepping z st e) t = own_23 z st e t

@@ -10,7 +10,7 @@ pub returns-then-at-lt600 : goal.returns-then-at-lt600
 unfolding tab
 returns-then-at-lt600 c =
     let r = c.args.record in
-    start_yes r _ c.if-at-lt600.true (c.wide.ensures ∙ at_tab0 600 start r 0 c.if-at-lt600.true)
+    start_yes r _ c.if-at-lt600.true (c.from.ensures ∙ at_tab0 600 start r 0 c.if-at-lt600.true)
 
 pub returns : goal.returns
 returns c =

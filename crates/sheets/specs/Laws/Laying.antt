@@ -1,12 +1,13 @@
 -- Runs of bytes laid over a buffer: one after another is one.
-use Rattle.std.specs.Prelude.{◌≡◌, refl, List, [], ◌∷◌, ◌++◌, ℕ, zero, suc, ◌+◌, ◌-◌, ◌*◌, ◌/◌, ◌%◌, ◌<◌, ◌≤◌, length, set}
+use Rattle.std.specs.Prelude.{◌≡◌, refl, List, [], ◌∷◌, ◌++◌, ℕ, ◌+◌, ◌-◌, ◌*◌, ◌/◌, ◌%◌, ◌<◌, ◌≤◌, length, set, take, drop}
 use Rattle.std.proofs.Math.Path.{ap}
 use Rattle.std.proofs.Common.{sym, ◌∙◌, inl, inr, add-one, arith, length-append, length-set, get_or-append-add, get_or-set_same, get_or-set_other}
 use Rattle.std.proofs.Math.Decide.{ℕ_discrete, dec_lt}
 use Rattle.std.proofs.Math.ListN.{get_or-append}
+use Rattle.std.proofs.lemmas.List.{length-take, length-drop, get_or-take, get_or-drop}
 use Rattle.tables.specs.Base.{at}
 use Rattle.tables.specs.Rule.{Rule, Holds, below, non, ◌and◌}
-use Rattle.tables.specs.Store.{store, choose, choose_ext, at_store, length_store, Split}
+use Rattle.tables.specs.Store.{store, choose_ext, at_store, length_store, Split}
 use Rattle.sheets.specs.Sheet.{bytes, runs, field, page_field, head, laid}
 use Rattle.sheets.specs.Laws.Runs.{length_runs, length_bytes}
 
@@ -61,28 +62,29 @@ laid_more b i a c = laid_by (laid (laid b i a) (i + length a) c) b i (a ++ c) (l
 pub laid_then : (b : List ℕ) {x y : List ℕ} (i : ℕ) (a c : List ℕ) (j : ℕ) → x ≡ laid b i a → j ≡ i + length a → y ≡ laid x j c → y ≡ laid b i (a ++ c)
 laid_then b i a c j e f g = g ∙ (λ t. laid (e t) (f t) c) ∙ laid_more b i a c
 
--- byte after byte
-pub laid_set : (b : List ℕ) (i : ℕ) (run : List ℕ) (v j : ℕ) → j ≡ i + length run → j < length b → set (laid b i run) j v ≡ laid b i (run ++ v ∷ [])
-laid_set b i run v j e h = laid_one (laid b i run) j v (omega (arith, h, length_laid b i run)) ∙ ap (λ (k : ℕ). laid (laid b i run) k (v ∷ [])) e ∙ laid_more b i run (v ∷ [])
+-- a run that is copied over a part of its length
+pub laid_copied : (b : List ℕ) (i k : ℕ) (l run : List ℕ) → l ≡ run → k ≡ length run → i + k ≤ length b → take i b ++ (l ++ drop k (drop i b)) ≡ laid b i run
+laid_copied b i k l run d e f = ap (λ (r : List ℕ). take i b ++ (r ++ drop k (drop i b))) d ∙ (
+    let front : length (take i b) ≡ i = omega (arith, length-take i b) in
+    let rest : List ℕ = drop k (drop i b) in
+    let long : length ((take i b ++ (run ++ drop k (drop i b)))) ≡ length b = omega (arith, length-append (take i b) (run ++ rest), length-append run rest, length-drop k (drop i b), length-drop i b) in
+    laid_by ((take i b ++ (run ++ drop k (drop i b)))) b i run long (λ j l. elim (dec_lt j i) [
+      | yes a ↦ inr (λ p. p.0 a, get_or-append (take i b) (run ++ rest) 0 j (omega arith) ∙ get_or-take i b j 0 a)
+      | no a ↦
+          let o : ℕ = j - i in
+          let past : at ((take i b ++ (run ++ drop k (drop i b)))) j ≡ at (run ++ rest) o = ap (at ((take i b ++ (run ++ drop k (drop i b))))) (omega arith) ∙ get_or-append-add (take i b) (run ++ rest) o 0 in
+          elim (dec_lt j (i + length run)) [
+            | yes c ↦ inl ((a, c), past ∙ get_or-append run rest 0 o (omega arith))
+            | no c ↦ inr (λ p. c p.1, past ∙ ap (at (run ++ rest)) (omega arith) ∙ get_or-append-add run rest (o - length run) 0 ∙ get_or-drop k (drop i b) (o - length run) 0 ∙ get_or-drop i b (k + (o - length run)) 0 ∙ ap (at b) (omega arith))
+          ]
+    ]))
+
+-- the bytes of a number of 32 bits, high byte first, and the last two of them
+pub high_first_4 : (l : List ℕ) (v : ℕ) → l ≡ v / 16777216 % 256 ∷ v / 65536 % 256 ∷ v / 256 % 256 ∷ v % 256 ∷ [] → l ≡ bytes 4 v
+unfolding bytes
+high_first_4 l v e = let a : v / 16777216 ≡ v / 256 / 256 / 256 = omega arith in let b : v / 65536 ≡ v / 256 / 256 = omega arith in rw (a, b) at e
 
 module _ (b : List ℕ) (i : ℕ) where
-  pub laid_2 : (x y : ℕ) → i + 2 ≤ length b → set (set b i x) (i + 1) y ≡ laid b i (x ∷ y ∷ [])
-  laid_2 x y h = ap (λ (l : List ℕ). set l (i + 1) y) (laid_one b i x (omega (arith, h))) ∙ laid_set b i (x ∷ []) y (i + 1) (omega arith) (omega (arith, h))
-
-  pub laid_4 : (x y u v : ℕ) → i + 4 ≤ length b → set (set (set (set b i x) (i + 1) y) (i + 2) u) (i + 3) v ≡ laid b i (x ∷ y ∷ u ∷ v ∷ [])
-  laid_4 x y u v h =
-      ap (λ (l : List ℕ). set (set l (i + 2) u) (i + 3) v) (laid_2 x y (omega (arith, h)))
-      ∙ ap (λ (l : List ℕ). set l (i + 3) v) (laid_set b i (x ∷ y ∷ []) u (i + 2) (omega arith) (omega (arith, h)))
-      ∙ laid_set b i (x ∷ y ∷ u ∷ []) v (i + 3) (omega arith) (omega (arith, h))
-
-  pub laid_2_by : (v : ℕ) → i + 2 ≤ length b → set (set b i (v / 256 % 256)) (i + 1) (v % 256) ≡ laid b i (bytes 2 v)
-  unfolding bytes
-  laid_2_by v h = laid_2 (v / 256 % 256) (v % 256) h
-
-  pub laid_4_by : (v : ℕ) → i + 4 ≤ length b → set (set (set (set b i (v / 256 / 256 / 256 % 256)) (i + 1) (v / 256 / 256 % 256)) (i + 2) (v / 256 % 256)) (i + 3) (v % 256) ≡ laid b i (bytes 4 v)
-  unfolding bytes
-  laid_4_by v h = laid_4 (v / 256 / 256 / 256 % 256) (v / 256 / 256 % 256) (v / 256 % 256) (v % 256) h
-
   -- a tag and a length
   pub laid_head : (tag size : ℕ) {x : List ℕ} → i < length b → x ≡ laid (set b i tag) (i + 1) (bytes 2 size) → x ≡ laid b i (tag ∷ bytes 2 size)
   laid_head tag size h e = laid_then b i (tag ∷ []) (bytes 2 size) (i + 1) (laid_one b i tag h) (omega arith) e

@@ -1,22 +1,22 @@
 -- Printing what a sheet of the form says gives the sheet back, byte for byte.
-use Rattle.std.specs.Prelude.{◌≡◌, Bool, true, false, not, T, ltb, length}
+use Rattle.std.specs.Prelude.{◌≡◌, Bool, true, false, T, length}
 use Rattle.std.proofs.Math.Path.{refl, ap, sym}
 use Rattle.std.proofs.Common.{◌∙◌, subst, arith, eqb→eq, T_not, lt-ltb, le-ltb}
 use mathlib.Core.List.{List, [], ◌∷◌, ◌++◌}
 use Rattle.std.proofs.Math.Logic.{inl, inr}
-use Prim.Native.Nat.{ℕ, zero, suc, ◌+◌, ◌-◌, ◌*◌, ◌/◌, ◌%◌, ◌<◌, ◌≤◌}
+use Prim.Native.Nat.{ℕ, zero, suc, ◌+◌, ◌*◌, ◌<◌, ◌≤◌}
 use Rattle.std.proofs.Math.Decide.{ℕ_discrete, dec_lt}
 use Rattle.std.proofs.Math.Dec.{eqb, not_T}
 use Rattle.std.proofs.Math.ListN.{length-append}
-use Rattle.tables.specs.Base.{at, if, count, find}
-use Rattle.tables.specs.Laws.{last, eq→T, Found, ¬T→false}
+use Rattle.tables.specs.Base.{at, count, find}
+use Rattle.tables.specs.Laws.{eq→T}
 use Rattle.tables.specs.FindLaws.{find_cases}
-use Rattle.tables.specs.Rule.{Rule, Holds, test, same, each, sound, complete, told, untold}
-use Rattle.sheets.specs.Sheet.{bytes, runs, field, blank, page_field, shown_field, head, printed, number, words_in, pages_in, number_in, page_bytes, count_in, place_of, page_in, word_in, headed, least_in, page_fits, form, text_in}
+use Rattle.tables.specs.Rule.{Holds, test, sound, complete}
+use Rattle.sheets.specs.Sheet.{bytes, runs, field, blank, page_field, shown_field, head, printed, words_in, pages_in, number_in, count_in, place_of, page_in, word_in, headed, least_in, form, text_in}
 use Rattle.sheets.specs.Laws.Counts.{count_on, count_gap}
 use Rattle.sheets.specs.Laws.Formed.{Formed, formed, Page, page_of_holds, rising, page_once}
 use Rattle.sheets.specs.Laws.Runs.{length_bytes, length_runs, Stands, Bytes, stands_moved, stands_both, stands_runs, stands_whole, number_2_below, bytes_2, bytes_4}
-use Rattle.sheets.specs.Laws.Printed.{shown, shown_field_holds, length_area, length_head, length_printed, length_page}
+use Rattle.sheets.specs.Laws.Printed.{shown, shown_field_holds, length_area, length_head, length_printed}
 
 blank_field : (w : ℕ) (word : ℕ → ℕ → ℕ) (p : ℕ) → test (blank w (word p)) ≡ true → shown_field w word p ≡ []
 unfolding shown_field

@@ -1,21 +1,20 @@
 -- Parsing what export prints gives the design back.
-use Rattle.std.specs.Prelude.{◌≡◌, Bool, not, List, [], ◌∷◌, ◌++◌, ℕ, zero, suc, ◌+◌, ◌-◌, ◌*◌, ◌/◌, ◌%◌, ◌<◌, ◌≤◌, T, ltb, length}
+use Rattle.std.specs.Prelude.{◌≡◌, Bool, not, Some, List, [], ◌∷◌, ◌++◌, ℕ, zero, suc, ◌+◌, ◌*◌, ◌/◌, ◌<◌, ◌≤◌, T, length}
 use Rattle.std.proofs.Math.Path.{refl, ap, sym}
-use Rattle.std.proofs.Common.{◌∙◌, subst, suc-mul, mul-le-mul_right, arith, T_not, lt-ltb, le-ltb}
+use Rattle.std.proofs.Common.{◌∙◌, subst, suc-mul, arith, T_not, lt-ltb, le-ltb}
 use Rattle.std.proofs.Math.Bool.{true, false}
 use Rattle.std.proofs.Math.Logic.{inl, inr}
 use Rattle.std.proofs.Math.Nat.{mul-div_cancel}
-use Rattle.std.proofs.Math.Decide.{ℕ_discrete, dec_lt}
-use Rattle.std.proofs.Math.Dec.{eqb, eqb→eq, not_T}
+use Rattle.std.proofs.Math.Decide.{dec_lt}
+use Rattle.std.proofs.Math.Dec.{eqb, eqb→eq}
 use Rattle.std.proofs.Math.ListN.{length-append}
 use Rattle.tables.specs.Base.{at, if, count, find}
-use Rattle.tables.specs.Laws.{count_same, last, eq→T, found, Found}
-use Rattle.tables.specs.FindLaws.{find_none, find_cases}
-use Rattle.tables.specs.Rule.{Rule, Holds, test, same, each, sound, complete, told, untold}
-use Rattle.sheets.specs.declared.read.Parsed.TheVariants.{Of}
-use Rattle.sheets.specs.Sheet.{bytes, runs, field, blank, page_field, shown_field, head, printed, number, words_in, pages_in, number_in, page_bytes, count_in, place_of, page_in, word_in, headed, least_in, page_fits, form, text_in, parsed}
+use Rattle.tables.specs.Laws.{eq→T}
+use Rattle.tables.specs.FindLaws.{find_cases}
+use Rattle.tables.specs.Rule.{Holds, test, sound, complete, told}
+use Rattle.sheets.specs.Sheet.{bytes, runs, field, blank, page_field, shown_field, head, printed, number, words_in, pages_in, number_in, count_in, place_of, page_in, word_in, headed, least_in, page_fits, form, text_in, parsed}
 use Rattle.sheets.specs.Laws.Counts.{count_mono, count_on, nth}
-use Rattle.sheets.specs.Laws.Runs.{length_bytes, length_runs, Stands, stands_moved, stands_all, stands_left, stands_right, stands_both, stands_run, number_2, number_4}
+use Rattle.sheets.specs.Laws.Runs.{length_bytes, length_runs, Stands, stands_moved, stands_all, stands_left, stands_right, stands_run, number_2, number_4}
 
 -- ── a field that stands in a list ──
 module _ (s : List ℕ) (i tag : ℕ) (body : List ℕ) (h : Stands s i (field tag body)) where
@@ -230,7 +229,7 @@ module _ (w n num : ℕ) (word : ℕ → ℕ → ℕ) where
       )
 
       -- so parsing it gives back its sizes, its number and how many pages are not all zeros ..
-      pub parsed_printed : 0 < num → parsed sheet ≡ Of w n num shows
+      pub parsed_printed : 0 < num → parsed sheet ≡ Some (record { words = w; pages = n; number = num; count = shows })
       unfolding parsed
       parsed_printed pos = rw (told (form sheet) (form_printed pos), words_printed, pages_printed, number_printed, count_printed)
 

@@ -1,5 +1,4 @@
 -- `waiting_event` meets its contract: a join's line is the whole outcome's, and a turn's outcome is the event's.
-use borrow.Author.Rules.{rules}
 use mathlib.Core.Path.{refl}
 use Rattle.model.specs.State.{State}
 use Rattle.model.specs.Lent.{lined_of}
@@ -9,8 +8,8 @@ use Rattle.leaves.specs.Packed.{frames_in}
 use Rattle.waiting.proofs.Joined.{join_own}
 use Rattle.waiting.proofs.waiting_event.Goals as goal
 
-pub join-answer-requires : goal.join-answer-requires
-join-answer-requires c = let k = c.requires in (k.fits.sizes, k.fits.memory.line, k.rules.line)
+pub join-requires : goal.join-requires
+join-requires c = let k = c.requires in (k.fits.sizes, k.fits.memory.line, k.rules.line)
 
 pub turn-requires : goal.turn-requires
 turn-requires c = c.requires
@@ -22,7 +21,7 @@ returns-in-Join c =
     let a = c.args in
     lined_of (frames_in a.sizes a.frames.now) a.pool a.records.now a.numbers.now a.accounts.now a.maps.now a.limits.now a.parents.now a.highest.now a.frame_words.now a.free_queue.now a.removal_list.now
     a.addresses.now a.states.now a.owners.now a.free_map.now a.active.now a.updating.now a.images.now a.line.now a.used.now in
-    rw c.in-Join.is (record { left = join_own c.args.sizes lent _ _ c.join-answer.ensures.answer c.join-answer.ensures.line; nulled = refl })
+    rw (c.in-Join.is, c.told.ensures) (record { left = join_own c.args.sizes lent _ _ c.join.ensures.answer c.join.ensures.line; nulled = refl })
 
 pub returns-in-Turn : goal.returns-in-Turn
 returns-in-Turn c =

@@ -7,7 +7,7 @@ pub loop-i-init : goal.loop-i-init
 loop-i-init c = begun_none _ _
 
 pub loop-i-preserved : goal.loop-i-preserved
-loop-i-preserved c = begun_on c.loop-i.invariant (omega arith) _ c.at16.ensures
+loop-i-preserved c = begun_on c.loop-i.invariant (omega arith) _ c.at.ensures
 
 pub returns : goal.returns
 returns c = filled_tab (begun_all c.loop-i.invariant (omega arith))

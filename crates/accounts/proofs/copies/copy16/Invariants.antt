@@ -1,4 +1,3 @@
-use Prim.Native.Nat.{◌-◌}
 use lib.ListN.{length}
 use Rattle.tables.specs.Base.{at}
 use Rattle.leaves.specs.ByEntry.{Begun}
@@ -6,6 +5,3 @@ use Rattle.accounts.proofs.copies.copy16.Given as goal
 
 abbrev pub invariant-loop-i : goal.invariant-loop-i
 invariant-loop-i l = Begun (length l.initial.table) (at l.source) l.i l.table
-
-abbrev pub decreases-loop-i : goal.decreases-loop-i
-decreases-loop-i l = length l.initial.table - l.i

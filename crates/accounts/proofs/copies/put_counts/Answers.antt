@@ -7,10 +7,6 @@ use Rattle.accounts.proofs.copies.put_counts.Goals as goal
 pub loop-q-init : goal.loop-q-init
 loop-q-init c = begun_none _ _
 
-pub overflow_cast-used : goal.overflow_cast-used
-overflow_cast-used c =
-    omega (arith, c.requires.1 c.loop-q.q (omega (arith, c.loop-q-test.true, c.loop-q.invariant.long)))
-
 pub loop-q-preserved : goal.loop-q-preserved
 loop-q-preserved c = begun_on c.loop-q.invariant (omega arith) _ refl
 

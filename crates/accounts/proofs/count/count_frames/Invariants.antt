@@ -1,4 +1,3 @@
-use Prim.Native.Nat.{◌-◌, ◌≤◌}
 use Rattle.model.specs.State.{frame_at}
 use Rattle.model.specs.Laws.Woven.{woven_page}
 use Rattle.leaves.specs.Packed.{unpacked}
@@ -6,7 +5,4 @@ use Rattle.rules.proofs.Charges.{Tallied}
 use Rattle.accounts.proofs.count.count_frames.Given as goal
 
 abbrev pub invariant-loop-f : goal.invariant-loop-f
-invariant-loop-f l = (l.f ≤ l.z.frames) × Tallied l.z.pages (λ k. woven_page (frame_at (unpacked l.frames) k)) l.payers l.addresses l.states l.initial.totals l.f l.totals
-
-abbrev pub decreases-loop-f : goal.decreases-loop-f
-decreases-loop-f l = l.z.frames - l.f
+invariant-loop-f l = Tallied l.z.pages (λ k. woven_page (frame_at (unpacked l.frames) k)) l.payers l.addresses l.states l.initial.totals l.f l.totals

@@ -7,11 +7,8 @@ use Rattle.rules.proofs.Entries.{fit_le}
 use Rattle.rules.proofs.Tally.{one_le, count_start, count_next, count_end, count_few}
 use Rattle.accounts.proofs.count.count_row.Goals as goal
 
-pub overflow_mul-base : goal.overflow_mul-base
-overflow_mul-base c = omega (arith, c.requires.0, c.requires.2)
-
 pub loop-p-init : goal.loop-p-init
-loop-p-init c = (count_start _, omega arith)
+loop-p-init c = count_start _
 
 pub used_one-used-requires : goal.used_one-used-requires
 used_one-used-requires c =
@@ -22,11 +19,11 @@ pub overflow_add-used : goal.overflow_add-used
 overflow_add-used c =
     let a = c.args in
     let i = a.s * a.pages + c.loop-p.p in
-    omega (arith, count_few _ _ _ c.loop-p.invariant.0, one_le (used_page a.active (at a.maps.now i) (at a.addresses.now i) (at a.states.now)), c.used_one-used.ensures, c.loop-p-test.true, c.requires.0, c.requires.2)
+    omega (arith, count_few _ _ _ c.loop-p.invariant, one_le (used_page a.active (at a.maps.now i) (at a.addresses.now i) (at a.states.now)), c.used_one-used.ensures, c.loop-p-test.true, c.requires.0, c.requires.2)
 
 pub loop-p-preserved : goal.loop-p-preserved
 loop-p-preserved c =
-    (count_next _ _ _ _ c.loop-p.invariant.0 c.used_one-used.ensures, omega (arith, c.loop-p-test.true))
+    count_next _ _ _ _ c.loop-p.invariant c.used_one-used.ensures
 
 pub returns : goal.returns
-returns c = count_end _ _ _ _ c.loop-p.invariant.0 c.loop-p.invariant.1 c.loop-p-test.false
+returns c = count_end _ _ _ _ c.loop-p.invariant c.loop-p.auto.p-end c.loop-p-test.false

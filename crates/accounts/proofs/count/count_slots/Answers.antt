@@ -15,12 +15,6 @@ pub count_row-used-requires : goal.count_row-used-requires
 count_row-used-requires c =
     (omega (arith, part_fits c.args.slots c.args.pages c.loop-s.s c.loop-s-test.true, c.requires.3), c.requires.4, c.requires.5, c.requires.6)
 
-pub offset_bounds-totals-q : goal.offset_bounds-totals-q
-offset_bounds-totals-q c = omega (arith, c.requires.7 c.loop-s.s c.loop-s-test.true)
-
-pub bounds-totals-q : goal.bounds-totals-q
-bounds-totals-q c = omega (arith, c.requires.7 c.loop-s.s c.loop-s-test.true, c.loop-s.invariant.sized)
-
 pub overflow_add-totals : goal.overflow_add-totals
 overflow_add-totals c =
     let a = c.args in let k = c.loop-s.s in
@@ -33,9 +27,6 @@ overflow_add-totals c =
       c.requires.3,
       c.requires.5,
     )
-
-pub bounds-totals-q-in-loop-s : goal.bounds-totals-q-in-loop-s
-bounds-totals-q-in-loop-s c = omega (arith, c.requires.7 c.loop-s.s c.loop-s-test.true, c.loop-s.invariant.sized)
 
 pub loop-s-preserved : goal.loop-s-preserved
 loop-s-preserved c =

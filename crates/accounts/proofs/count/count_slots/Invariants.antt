@@ -1,9 +1,5 @@
-use Prim.Native.Nat.{◌-◌}
 use Rattle.rules.proofs.Tally.{Totals}
 use Rattle.accounts.proofs.count.count_slots.Given as goal
 
 abbrev pub invariant-loop-s : goal.invariant-loop-s
 invariant-loop-s l = Totals l.pages l.payers l.active l.maps l.addresses l.states l.slots l.totals l.s
-
-abbrev pub decreases-loop-s : goal.decreases-loop-s
-decreases-loop-s l = l.slots - l.s

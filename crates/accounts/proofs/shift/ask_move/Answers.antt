@@ -12,18 +12,18 @@ use Rattle.accounts.proofs.shift.ask_move.Goals as goal
 abbrev range : ℕ → ℕ → ℕ → Rule
 range accounts giver taker = below giver accounts and below taker accounts
 
-pub returns-else-giver-accounts : goal.returns-else-giver-accounts
+pub returns-then-not-giver-accounts : goal.returns-then-not-giver-accounts
 unfolding test
-returns-else-giver-accounts c = sym (first_no_holds 3 (range c.args.accounts c.args.giver c.args.taker) _ (unlearn (range c.args.accounts c.args.giver c.args.taker) (sym c.if-giver-accounts.false)))
+returns-then-not-giver-accounts c = sym (first_no_holds 3 (range c.args.accounts c.args.giver c.args.taker) _ (unlearn (range c.args.accounts c.args.giver c.args.taker) (sym c.if-not-giver-accounts.true)))
 
-pub returns-else-can_move : goal.returns-else-can_move
+pub returns-then-not-can_move : goal.returns-then-not-can_move
 unfolding test
-returns-else-can_move c =
-    let inside : (Holds (range c.args.accounts c.args.giver c.args.taker)) = learn (range c.args.accounts c.args.giver c.args.taker) (sym c.if-giver-accounts.true) in
-    sym (first_yes 3 (range c.args.accounts c.args.giver c.args.taker) _ inside ∙ first_no_holds 25 (kin (at c.args.limits.now) (at c.args.parents.now) c.args.giver c.args.taker c.args.pages) _ (unlearn (kin (at c.args.limits.now) (at c.args.parents.now) c.args.giver c.args.taker c.args.pages) (sym c.if-can_move.false ∙ c.can_move.ensures)))
+returns-then-not-can_move c =
+    let inside : (Holds (range c.args.accounts c.args.giver c.args.taker)) = learn (range c.args.accounts c.args.giver c.args.taker) (sym c.if-not-giver-accounts.false) in
+    sym (first_yes 3 (range c.args.accounts c.args.giver c.args.taker) _ inside ∙ first_no_holds 25 (kin (at c.args.limits.now) (at c.args.parents.now) c.args.giver c.args.taker c.args.pages) _ (unlearn (kin (at c.args.limits.now) (at c.args.parents.now) c.args.giver c.args.taker c.args.pages) (sym c.if-not-can_move.true ∙ c.can_move.ensures)))
 
 pub returns : goal.returns
 unfolding test
 returns c =
-    let inside : (Holds (range c.args.accounts c.args.giver c.args.taker)) = learn (range c.args.accounts c.args.giver c.args.taker) (sym c.if-giver-accounts.true) in
-    sym (yes_all _ (inside, (learn (kin (at c.args.limits.now) (at c.args.parents.now) c.args.giver c.args.taker c.args.pages) (sym c.if-can_move.true ∙ c.can_move.ensures), tt)))
+    let inside : (Holds (range c.args.accounts c.args.giver c.args.taker)) = learn (range c.args.accounts c.args.giver c.args.taker) (sym c.if-not-giver-accounts.false) in
+    sym (yes_all _ (inside, (learn (kin (at c.args.limits.now) (at c.args.parents.now) c.args.giver c.args.taker c.args.pages) (sym c.if-not-can_move.false ∙ c.can_move.ensures), tt)))

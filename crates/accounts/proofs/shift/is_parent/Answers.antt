@@ -8,4 +8,4 @@ use Rattle.accounts.proofs.shift.is_parent.Goals as goal
 pub returns : goal.returns
 unfolding test
 returns c =
-    λ x. ltb 0 c.args.b && eqb ((c.wide.ensures ∙ c.at16.ensures) x) c.args.a
+    λ x. ltb 0 c.args.b && eqb ((c.from.ensures ∙ c.at.ensures) x) c.args.a

@@ -17,6 +17,8 @@ use Rattle.model.specs.State.{State}
 use Rattle.model.specs.Accounts.{shifted}
 use Rattle.model.specs.Accounts as Accounts
 use Rattle.model.specs.Setters.{counted}
+use Rattle.std.proofs.lemmas.Result.{err_from_is_err_and}
+use Rattle.model.specs.Refusals.{number, number_above}
 use Rattle.model.specs.Laws.Own.{first_yes, first_no_holds}
 use Rattle.model.specs.Laws.OwnLaws.{own_no}
 use Rattle.leaves.specs.Packed.{unpacked}
@@ -62,22 +64,26 @@ module _ (z : Sizes) (fs : List Frame) (accounts maps limits parents addresses s
     back-so = (λ x. tab (length limits) (at (shifting x)) 0)
         ∙ back limits n (omega (arith, ready.limits_long, few, room)) giver taker pages (omega (arith, allowed.0.0, ready.limits_long)) (omega (arith, allowed.0.1, ready.limits_long))
 
-pub returns-then-refusal-ne0 : goal.returns-then-refusal-ne0
-returns-then-refusal-ne0 c =
+pub returns-in_err-ask_move : goal.returns-in_err-ask_move
+returns-in_err-ask_move c =
     let a = c.args in let z = a.sizes in
+    let p = err_from_is_err_and c.from_residual.result c.from_residual.ensures.1 in
     let st = state z (take z.frames (unpacked a.frames.now)) a.accounts.now a.maps.now a.limits.now a.parents.now a.addresses.now a.states.now a.active.now a.used.now a.giver a.taker a.pages in
-    let o = own_no z st (Event.Account (Move a.giver a.taker a.pages)) c.ask_move-refusal.result
-    (c.ask_move-refusal.ensures ∙ first_refused _ _ _ (λ e. c.if-refusal-ne0.true (c.ask_move-refusal.ensures ∙ e))) c.if-refusal-ne0.true in record {
+    let e = c.in_err-ask_move.field-0.0 in
+    let above = number_above e in
+    let asked = c.in_err-ask_move.ensures in
+    let o = own_no z st (Event.Account (Move a.giver a.taker a.pages)) (number e) (asked ∙ first_refused _ _ _ (λ x. omega (arith, above, asked, x))) (λ x. omega (arith, above, x)) in
+    rw (p.1, p.2) (record {
       answer = λ i. (o i).answer;
       limits = λ i. (o i).left.disk.limits;
       used = λ i. (o i).left.memory.used;
-    }
+    })
 
 pub shift_limits-requires : goal.shift_limits-requires
 shift_limits-requires c =
     let r = c.requires in
     let allowed : (let a = c.args in Asked (first_asked a.sizes.accounts (at a.limits.now) (at a.parents.now) a.giver a.taker a.pages)) =
-    all_yes 2 _ tt (sym c.ask_move-refusal.ensures ∙ c.if-refusal-ne0.false) in
+    all_yes 2 _ tt (sym c.in_ok-ask_move.ensures) in
     (omega (arith, r.limits_long, r.countable.within.accounts_most, length-replicate {A = ℕ} 16 0), omega (arith, allowed.1.0.1.1.0), allowed.1.0.1.1.1)
 
 pub count_used-requires : goal.count_used-requires
@@ -92,15 +98,15 @@ within-requires c =
       omega (arith, few, c.count_used.auto.totals, length-replicate {A = ℕ} 16 0),
     )
 
-pub returns-else-within : goal.returns-else-within
-returns-else-within c =
+pub returns-then-not-within : goal.returns-then-not-within
+returns-then-not-within c =
     let a = c.args in let z = a.sizes in
-    let allowed : (Asked (first_asked z.accounts (at a.limits.now) (at a.parents.now) a.giver a.taker a.pages)) = all_yes 2 _ tt (sym c.ask_move-refusal.ensures ∙ c.if-refusal-ne0.false) in
+    let allowed : (Asked (first_asked z.accounts (at a.limits.now) (at a.parents.now) a.giver a.taker a.pages)) = all_yes 2 _ tt (sym c.in_ok-ask_move.ensures) in
     let st = state z (take z.frames (unpacked a.frames.now)) a.accounts.now a.maps.now a.limits.now a.parents.now a.addresses.now a.states.now a.active.now a.used.now a.giver a.taker a.pages in
     let last = lasting z (take z.frames (unpacked a.frames.now)) a.accounts.now a.maps.now a.limits.now a.parents.now a.addresses.now a.states.now a.active.now a.used.now a.giver a.taker a.pages in
     let so = asked-so z (take z.frames (unpacked a.frames.now)) a.accounts.now a.maps.now a.limits.now a.parents.now a.addresses.now a.states.now a.active.now a.used.now a.giver a.taker a.pages
     c.requires allowed _ (omega (arith, length-replicate {A = ℕ} 16 0)) c.shift_limits.new.wanted c.count_used.new.totals c.shift_limits.ensures c.count_used.ensures in
-    let q = first_yes 3 _ _ allowed.0 ∙ first_yes 25 _ _ allowed.1.0 ∙ first_no_holds 26 last _ (unlearn last (sym c.if-within.false ∙ c.within.ensures ∙ so)) in
+    let q = first_yes 3 _ _ allowed.0 ∙ first_yes 25 _ _ allowed.1.0 ∙ first_no_holds 26 last _ (unlearn last (sym c.if-not-within.true ∙ c.within.ensures ∙ so)) in
     let o = own_no z st (Event.Account (Move a.giver a.taker a.pages)) 26 (sym q) (omega arith) in record {
       answer = λ i. (o i).answer;
       limits = λ i. (o i).left.disk.limits;
@@ -115,7 +121,7 @@ put_counts-requires c =
 pub returns : goal.returns
 returns c =
     let a = c.args in let z = a.sizes in
-    let allowed : (Asked (first_asked z.accounts (at a.limits.now) (at a.parents.now) a.giver a.taker a.pages)) = all_yes 2 _ tt (sym c.ask_move-refusal.ensures ∙ c.if-refusal-ne0.false) in
+    let allowed : (Asked (first_asked z.accounts (at a.limits.now) (at a.parents.now) a.giver a.taker a.pages)) = all_yes 2 _ tt (sym c.in_ok-ask_move.ensures) in
     let room : 16 ≤ length (replicate {A = ℕ} 16 0) = omega (arith, length-replicate {A = ℕ} 16 0) in
     let st = state z (take z.frames (unpacked a.frames.now)) a.accounts.now a.maps.now a.limits.now a.parents.now a.addresses.now a.states.now a.active.now a.used.now a.giver a.taker a.pages in
     let last = lasting z (take z.frames (unpacked a.frames.now)) a.accounts.now a.maps.now a.limits.now a.parents.now a.addresses.now a.states.now a.active.now a.used.now a.giver a.taker a.pages in
@@ -125,7 +131,7 @@ returns c =
     c.requires allowed _ room c.shift_limits.new.wanted c.count_used.new.totals c.shift_limits.ensures c.count_used.ensures in
     let copied = back-so z (take z.frames (unpacked a.frames.now)) a.accounts.now a.maps.now a.limits.now a.parents.now a.addresses.now a.states.now a.active.now a.used.now a.giver a.taker a.pages
     c.requires allowed _ room c.shift_limits.new.wanted c.count_used.new.totals c.shift_limits.ensures c.count_used.ensures in
-    let o = carried_out_holds z st (Move a.giver a.taker a.pages) 0 (sym (yes_all _ (allowed.0, (allowed.1.0, (learn last (sym c.if-within.true ∙ c.within.ensures ∙ so), tt))))) refl in record {
+    let o = carried_out_holds z st (Move a.giver a.taker a.pages) 0 (sym (yes_all _ (allowed.0, (allowed.1.0, (learn last (sym c.if-not-within.false ∙ c.within.ensures ∙ so), tt))))) refl in record {
       answer = λ i. (o i).answer;
       limits = c.copy16.ensures ∙ copied ∙ move_limits z st a.giver a.taker a.pages ∙ (λ i. (o i).left.disk.limits);
       used = c.put_counts.ensures ∙ put ∙ move_used z st a.giver a.taker a.pages ∙ (λ i. (o i).left.memory.used);

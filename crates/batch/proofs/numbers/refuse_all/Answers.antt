@@ -4,17 +4,17 @@ use Rattle.batch.proofs.Refusing.{refused_none, refused_long, refused_next, refu
 use Rattle.batch.proofs.numbers.refuse_all.Goals as goal
 
 pub loop-k-init : goal.loop-k-init
-loop-k-init c = (omega arith, refused_none)
+loop-k-init c = refused_none
 
 pub put_answer-requires : goal.put_answer-requires
 put_answer-requires c =
-    omega (arith, c.requires, refused_long c.loop-k.invariant.1)
+    omega (arith, c.requires, refused_long c.loop-k.invariant)
 
 pub loop-k-preserved : goal.loop-k-preserved
 loop-k-preserved c =
-    (omega arith, refused_next c.loop-k.invariant.1 c.put_answer.ensures)
+    refused_next c.loop-k.invariant c.put_answer.ensures
 
 pub returns : goal.returns
 returns c =
-    let r = refused_end c.loop-k.invariant.0 (omega (arith, c.loop-k-test.false)) c.loop-k.invariant.1 in
+    let r = refused_end c.loop-k.auto.k-end c.loop-k-test.false c.loop-k.invariant in
     (r.last_is, r.all_are)

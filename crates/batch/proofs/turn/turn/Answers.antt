@@ -21,10 +21,10 @@ returns-in_default c =
     all_of (frames_in a.sizes a.frames.now) a.last.pool a.records.now a.numbers.now a.accounts.now a.maps.now a.limits.now a.parents.now a.highest.now
     a.frame_words.now a.free_queue.now a.removal_list.now a.addresses.now a.states.now a.owners.now a.free_map.now a.active.now a.updating.now a.images.now a.chip_words.now a.chip_records.now a.chip_next.now a.line.now a.used.now in
     let a = c.args in
-    record {
-      turned = turned_unknown a.sizes a.requests.now a.answers.now a.k a.last.answer lent c.requires.2 _ c.request_at.ensures (sym c.in_default.is ∙ c.decode-decoded.ensures.0) c.put_answer.ensures;
+    rw c.from-answer.ensures (record {
+      turned = turned_unknown a.sizes a.requests.now a.answers.now a.k a.last.answer lent c.requires.2 _ c.request_at.ensures (sym c.in_default.is ∙ c.decode-decoded.ensures.0) (rw c.from-answer.ensures at c.put_answer.ensures);
       pool = refl;
-    }
+    })
 
 pub carry_whole-out-requires : goal.carry_whole-out-requires
 carry_whole-out-requires c =
@@ -42,7 +42,7 @@ returns c =
     a.frame_words.now a.free_queue.now a.removal_list.now a.addresses.now a.states.now a.owners.now a.free_map.now a.active.now a.updating.now a.images.now a.chip_words.now a.chip_records.now a.chip_next.now a.line.now a.used.now in
     let a = c.args in
     let e = c.deposit-pool.ensures ∙ ap (deposited c.carry_whole-out.result.deposited) c.take-fewer.ensures in record {
-      turned = turned_known a.sizes a.requests.now a.answers.now a.k a.last.answer lent c.requires.2 _ _ _ c.request_at.ensures (sym c.in-Known.is ∙ c.decode-decoded.ensures.0)
+      turned = turned_known a.sizes a.requests.now a.answers.now a.k a.last.answer lent c.requires.2 _ _ _ c.request_at.ensures (sym c.in-Some.is ∙ c.decode-decoded.ensures.0)
           c.carry_whole-out.ensures e c.put_answer-2.ensures;
       pool = e;
     }

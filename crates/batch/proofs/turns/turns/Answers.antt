@@ -7,34 +7,27 @@ use Rattle.batch.proofs.Together.{turned_none, turned_next, turned_end, turned_l
 use Rattle.batch.proofs.turns.turns.Goals as goal
 
 pub loop-k-init : goal.loop-k-init
-loop-k-init c = (omega arith, turned_none, refl, λ h. refl, λ h. absurd (omega (arith, h)))
+loop-k-init c = (turned_none, refl, λ h. refl, λ h. absurd (omega (arith, h)))
 
 pub turn-last-requires : goal.turn-last-requires
 turn-last-requires c = (
   omega (arith, c.requires.0, c.loop-k-test.true),
-  omega (arith, c.requires.1, c.loop-k-test.true, turned_long c.loop-k.invariant.1),
-  turned_kept c.requires.2 c.loop-k.invariant.1,
+  omega (arith, c.requires.1, c.loop-k-test.true, turned_long c.loop-k.invariant.0),
+  turned_kept c.requires.2 c.loop-k.invariant.0,
 )
-
-pub overflow_add-k : goal.overflow_add-k
-overflow_add-k c = omega (arith, c.loop-k-test.true)
-
-pub loop-k-smaller : goal.loop-k-smaller
-loop-k-smaller c = omega (arith, c.loop-k-test.true)
 
 pub loop-k-preserved : goal.loop-k-preserved
 loop-k-preserved c =
     let l = c.loop-k in (
-      omega (arith, c.loop-k-test.true),
-      turned_next l.invariant.1 c.turn-last.ensures.turned,
-      c.turn-last.auto.frames ∙ l.invariant.2,
+      turned_next l.invariant.0 c.turn-last.ensures.turned,
+      c.turn-last.auto.frames ∙ l.invariant.1,
       λ h. absurd (omega (arith, h)),
-      λ h. c.turn-last.ensures.pool ∙ ap (λ (p : Pool). deposited c.turn-last.result.deposited (taken c.args.sizes c.turn-last.result.taken p)) (l.invariant.3 (omega (arith, h))),
+      λ h. c.turn-last.ensures.pool ∙ ap (λ (p : Pool). deposited c.turn-last.result.deposited (taken c.args.sizes c.turn-last.result.taken p)) (l.invariant.2 (omega (arith, h))),
     )
 
 pub returns : goal.returns
 returns c =
     record {
-      listed = (turned_end c.loop-k.invariant.0 (omega (arith, c.loop-k-test.false)) c.loop-k.invariant.1).is;
-      one = λ h. c.loop-k.invariant.4 (omega (arith, h, c.loop-k-test.false, c.loop-k.invariant.0));
+      listed = (turned_end c.loop-k.auto.k-end c.loop-k-test.false c.loop-k.invariant.0).is;
+      one = λ h. c.loop-k.invariant.3 (omega (arith, h, c.loop-k-test.false, c.loop-k.auto.k-end));
     }

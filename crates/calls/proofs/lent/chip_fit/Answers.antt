@@ -16,4 +16,4 @@ pub returns : goal.returns
 unfolding test
 returns c =
     let a = c.args in let z = a.sizes in
-    and_assoc (eqb (length a.chip_words.now) (z.chip * z.words)) (eqb (length a.chip_records.now) z.chip) (eqb (length a.chip_next.now) 1)
+    and_assoc (eqb (length a.memory.chip_words.now) (z.chip * z.words)) (eqb (length a.memory.chip_records.now) z.chip) (eqb (length a.memory.chip_next.now) 1)

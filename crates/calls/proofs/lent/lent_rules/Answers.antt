@@ -3,7 +3,7 @@ use native.Mathlib.Omega.{arith}
 use lib.ListN.{take}
 use Rattle.model.specs.State.{Chip, State}
 use Rattle.model.specs.Rules.{chip_rules}
-use Rattle.model.specs.Lent.{state_of, chip_of, all_of}
+use Rattle.model.specs.Lent.{tables_read, chip_of, all_read}
 use Rattle.model.specs.Laws.Fit.{Fit, fit, chip_fits}
 use Rattle.model.specs.Laws.Bounds.{pages_most}
 use Rattle.leaves.specs.Packed.{unpacked}
@@ -14,8 +14,7 @@ pub overflow_mul-pages : goal.overflow_mul-pages
 overflow_mul-pages c =
     let lent : State =
     let a = c.args in
-    all_of (take a.lent (unpacked a.frames.now)) a.pool a.records.now a.numbers.now a.accounts.now a.maps.now a.limits.now a.parents.now a.highest.now a.frame_words.now a.free_queue.now a.removal_list.now
-    a.addresses.now a.states.now a.owners.now a.free_map.now a.active.now a.updating.now a.images.now a.chip_words.now a.chip_records.now a.chip_next.now a.line.now a.used.now in
+    all_read (take a.lent (unpacked a.frames.now)) a.pool a.disk a.memory in
     let fits : Fit c.args.sizes lent = fit c.args.sizes lent c.requires in
     omega (arith, pages_most c.args.sizes fits.sizes)
 
@@ -23,17 +22,15 @@ pub all_rules-requires : goal.all_rules-requires
 all_rules-requires c =
     let others : State =
     let a = c.args in
-    state_of (take a.lent (unpacked a.frames.now)) a.pool a.records.now a.numbers.now a.accounts.now a.maps.now a.limits.now a.parents.now a.highest.now a.frame_words.now a.free_queue.now a.removal_list.now
-    a.addresses.now a.states.now a.owners.now a.free_map.now a.active.now a.updating.now a.images.now a.used.now in
-    let chip : Chip = let a = c.args in chip_of a.chip_words.now a.chip_records.now a.chip_next.now in
-    fit_quiet c.args.sizes others c.args.line.now chip c.requires
+    tables_read (take a.lent (unpacked a.frames.now)) a.pool a.disk a.memory in
+    let chip : Chip = let a = c.args in chip_of a.memory.chip_words.now a.memory.chip_records.now a.memory.chip_next.now in
+    fit_quiet c.args.sizes others c.args.memory.line.now chip c.requires
 
 pub queue-requires : goal.queue-requires
 queue-requires c =
     let lent : State =
     let a = c.args in
-    all_of (take a.lent (unpacked a.frames.now)) a.pool a.records.now a.numbers.now a.accounts.now a.maps.now a.limits.now a.parents.now a.highest.now a.frame_words.now a.free_queue.now a.removal_list.now
-    a.addresses.now a.states.now a.owners.now a.free_map.now a.active.now a.updating.now a.images.now a.chip_words.now a.chip_records.now a.chip_next.now a.line.now a.used.now in
+    all_read (take a.lent (unpacked a.frames.now)) a.pool a.disk a.memory in
     let fits : Fit c.args.sizes lent = fit c.args.sizes lent c.requires in
     (omega (arith, fits.memory.line), omega (arith, pages_most c.args.sizes fits.sizes))
 
@@ -41,8 +38,7 @@ pub chip_ruled-requires : goal.chip_ruled-requires
 chip_ruled-requires c =
     let lent : State =
     let a = c.args in
-    all_of (take a.lent (unpacked a.frames.now)) a.pool a.records.now a.numbers.now a.accounts.now a.maps.now a.limits.now a.parents.now a.highest.now a.frame_words.now a.free_queue.now a.removal_list.now
-    a.addresses.now a.states.now a.owners.now a.free_map.now a.active.now a.updating.now a.images.now a.chip_words.now a.chip_records.now a.chip_next.now a.line.now a.used.now in
+    all_read (take a.lent (unpacked a.frames.now)) a.pool a.disk a.memory in
     let fits : Fit c.args.sizes lent = fit c.args.sizes lent c.requires in
     let f = fits in
     (f.sizes, f.disk.records, f.memory.states, chip_fits c.args.sizes lent c.requires)
@@ -52,7 +48,6 @@ unfolding chip_rules
 returns c =
     let others : State =
     let a = c.args in
-    state_of (take a.lent (unpacked a.frames.now)) a.pool a.records.now a.numbers.now a.accounts.now a.maps.now a.limits.now a.parents.now a.highest.now a.frame_words.now a.free_queue.now a.removal_list.now
-    a.addresses.now a.states.now a.owners.now a.free_map.now a.active.now a.updating.now a.images.now a.used.now in
-    let chip : Chip = let a = c.args in chip_of a.chip_words.now a.chip_records.now a.chip_next.now in
-    ruled_told_all c.args.sizes others c.args.line.now chip c.all_rules.result c.queue.result c.chip_ruled.result c.all_rules.ensures c.queue.ensures c.chip_ruled.ensures
+    tables_read (take a.lent (unpacked a.frames.now)) a.pool a.disk a.memory in
+    let chip : Chip = let a = c.args in chip_of a.memory.chip_words.now a.memory.chip_records.now a.memory.chip_next.now in
+    ruled_told_all c.args.sizes others c.args.memory.line.now chip c.all_rules.result c.queue.result c.chip_ruled.result c.all_rules.ensures c.queue.ensures c.chip_ruled.ensures

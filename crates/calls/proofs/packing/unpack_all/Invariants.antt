@@ -1,12 +1,9 @@
 use mathlib.Core.Path.{◌≡◌}
-use Prim.Native.Nat.{ℕ, ◌-◌, ◌<◌, ◌≤◌}
+use Prim.Native.Nat.{ℕ, ◌<◌}
 use lib.ListN.{length}
 use Rattle.model.specs.State.{frame_at}
 use Rattle.leaves.specs.Packed.{unpacked}
 use Rattle.calls.proofs.packing.unpack_all.Given as goal
 
 abbrev pub invariant-loop-f : goal.invariant-loop-f
-invariant-loop-f l = (l.f ≤ 64) × (length l.frames ≡ 64) × ((k : ℕ) → k < l.f → frame_at l.frames k ≡ frame_at (unpacked l.packed) k)
-
-abbrev pub decreases-loop-f : goal.decreases-loop-f
-decreases-loop-f l = 64 - l.f
+invariant-loop-f l = (length l.frames ≡ 64) × ((k : ℕ) → k < l.f → frame_at l.frames k ≡ frame_at (unpacked l.packed) k)

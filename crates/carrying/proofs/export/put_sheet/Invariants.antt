@@ -1,5 +1,5 @@
 use mathlib.Core.Path.{◌≡◌}
-use Prim.Native.Nat.{◌+◌, ◌-◌, ◌≤◌}
+use Prim.Native.Nat.{◌+◌}
 use lib.ListN.{length}
 use Rattle.sheets.specs.Sheet.{laid}
 use Rattle.carrying.proofs.Printed.{area}
@@ -7,7 +7,4 @@ use Rattle.carrying.proofs.export.put_sheet.Given as goal
 
 abbrev pub invariant-loop-p : goal.invariant-loop-p
 invariant-loop-p l =
-    (l.p ≤ l.pages) × (l.from ≡ 14 + length (area l.pages l.w l.slot l.number l.records l.maps l.p)) × (l.buffer ≡ laid l.initial.buffer 14 (area l.pages l.w l.slot l.number l.records l.maps l.p))
-
-abbrev pub decreases-loop-p : goal.decreases-loop-p
-decreases-loop-p l = l.pages - l.p
+    (l.from ≡ 14 + length (area l.pages l.w l.slot l.number l.records l.maps l.p)) × (l.buffer ≡ laid l.initial.buffer 14 (area l.pages l.w l.slot l.number l.records l.maps l.p))

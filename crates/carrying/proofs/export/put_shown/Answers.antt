@@ -9,14 +9,11 @@ use Rattle.carrying.proofs.export.put_shown.Goals as goal
 pub overflow_sub-start : goal.overflow_sub-start
 overflow_sub-start c = let q = sym c.is_shown.ensures ∙ c.if-is_shown.true in omega (arith, shown_listed c.args.w c.args.records.now c.args.entry q)
 
-pub overflow_mul-start : goal.overflow_mul-start
-overflow_mul-start c = let q = sym c.is_shown.ensures ∙ c.if-is_shown.true in record { fits = omega (arith, room c.args.w c.args.records.now c.args.entry (shown_listed c.args.w c.args.records.now c.args.entry q) c.requires.2) }
-
 pub put_page-requires : goal.put_page-requires
 put_page-requires c =
     let q = sym c.is_shown.ensures ∙ c.if-is_shown.true in
     let long = shown_long c.args.w c.args.records.now c.args.entry c.args.page q in
-    (c.requires.1, omega (arith, c.requires.3, long), room c.args.w c.args.records.now c.args.entry (shown_listed c.args.w c.args.records.now c.args.entry q) c.requires.2)
+    (c.requires.1, omega (arith, c.requires.3, long), rw c.from.ensures (room c.args.w c.args.records.now c.args.entry (shown_listed c.args.w c.args.records.now c.args.entry q) c.requires.2))
 
 pub returns-then-is_shown : goal.returns-then-is_shown
 returns-then-is_shown c =
@@ -25,7 +22,7 @@ returns-then-is_shown c =
     let text = field_is c.args.w c.args.records.now c.args.entry listed c.args.page ∙ sym (shown_text_holds c.args.w c.args.records.now c.args.entry c.args.page q) in
     record {
       next = ap (λ (n : ℕ). c.args.from + n) (sym (shown_long c.args.w c.args.records.now c.args.entry c.args.page q));
-      buffer = c.put_page.ensures ∙ ap (laid c.args.buffer.now c.args.from) text;
+      buffer = rw c.from.ensures at c.put_page.ensures ∙ ap (laid c.args.buffer.now c.args.from) text;
     }
 
 pub returns : goal.returns

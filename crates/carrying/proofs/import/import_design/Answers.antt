@@ -6,7 +6,6 @@ use native.Mathlib.Omega.{arith}
 use lib.ListN.{length, replicate}
 use Rattle.tables.specs.Base.{at}
 use Rattle.tables.specs.Laws.{at_zeros}
-use Rattle.tables.specs.StoreLoops.{part_fits}
 use Rattle.tables.specs.Rule.{same}
 use Rattle.tables.specs.Store.{store}
 use Rattle.sheets.specs.Sheet.{count_in, pages_in, page_in}
@@ -22,16 +21,6 @@ blank = replicate 256 0
 
 page-below-256 : (b : List ℕ) (f : Formed b) (n : ℕ) → n ≡ pages_in b → n < 257 → (k : ℕ) → k < count_in b → page_in b k < length blank
 page-below-256 b f n e l k h = omega (arith, (page_of_holds b f k h).below, e, l)
-
-pub carry_pages-last-requires : goal.carry_pages-last-requires
-carry_pages-last-requires c = (omega (arith, c.requires.0, c.requires.1.sizes.slots_most), c.requires.1)
-
-pub store_slot-requires : goal.store_slot-requires
-store_slot-requires c =
-    let a = c.args in
-    let z = c.requires.1.sizes in
-    let kept = c.carry_pages-last.auto.entries in
-    (z.pages, omega (arith, part_fits a.sizes.slots a.sizes.pages a.slot c.requires.0, c.requires.2.maps_long), omega (arith, kept, z.pages_most))
 
 pub returns : goal.returns
 returns c =

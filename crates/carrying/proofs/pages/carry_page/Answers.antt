@@ -1,26 +1,15 @@
 -- `carry_page` meets its contract: a record is taken, listed and stored.
-use mathlib.Core.Path.{ap, ◌∙◌}
-use Prim.Native.Nat.{ℕ, ◌-◌, ◌<◌}
+use Prim.Native.Nat.{◌-◌}
 use native.Mathlib.Omega.{arith}
-use lib.ListN.{set}
 use Rattle.tables.specs.StoreLoops.{part_fits}
 use Rattle.carrying.proofs.Going.{page_below}
 use Rattle.carrying.proofs.pages.carry_page.Goals as goal
-
-pub take_record-taken-requires : goal.take_record-taken-requires
-take_record-taken-requires c = (c.requires.0, c.requires.1.choice)
 
 pub overflow_cast-taken : goal.overflow_cast-taken
 overflow_cast-taken c =
     let a = c.args in
     let within = page_below a.sizes a.hand a.last a.states.now a.map.now c.requires.1.choice c.take_record-taken.result c.take_record-taken.ensures.taken in
     omega (arith, within.1)
-
-pub overflow_sub-target : goal.overflow_sub-target
-overflow_sub-target c =
-    let a = c.args in
-    let within = page_below a.sizes a.hand a.last a.states.now a.map.now c.requires.1.choice c.take_record-taken.result c.take_record-taken.ensures.taken in
-    omega (arith, within.0)
 
 pub store_record-requires : goal.store_record-requires
 store_record-requires c =
@@ -29,15 +18,3 @@ store_record-requires c =
     let z = k.choice.sizes in
     let within = page_below a.sizes a.hand a.last a.states.now a.map.now k.choice c.take_record-taken.result c.take_record-taken.ensures.taken in
     (z.words, omega (arith, z.words_most), k.few, k.words, k.room, omega (arith, part_fits a.sizes.records a.sizes.words (c.take_record-taken.result - 1) within.2, k.records_long))
-
-pub returns : goal.returns
-returns c =
-    let t = c.take_record-taken.ensures in
-    record {
-      taken = t.taken;
-      states = t.states;
-      owners = t.owners;
-      map = t.map;
-      entries = c.put16.ensures ∙ ap (λ (n : ℕ). set c.args.entries.now n c.take_record-taken.result) c.page_in-page.ensures;
-      records = c.store_record.ensures;
-    }

@@ -10,9 +10,6 @@ use Rattle.carrying.proofs.steps.store_record.Goals as goal
 pub loop-j-init : goal.loop-j-init
 loop-j-init c = let a = c.args in (omega arith, turned_none _ _ _ _ (λ i h. omega (arith, part_inside a.w a.target c.requires.0 i h)))
 
-pub store_words-requires : goal.store_words-requires
-store_words-requires c = (omega (arith, c.loop-j.invariant.0, c.loop-j-test.true), c.requires.1, c.requires.2, c.requires.3, c.requires.4, omega (arith, c.loop-j.invariant.1.long, c.requires.5))
-
 pub loop-j-preserved : goal.loop-j-preserved
 loop-j-preserved c =
     let a = c.args in
@@ -22,9 +19,6 @@ loop-j-preserved c =
       left,
       rw e at (turned_by (from + 8) c.store_words.ensures (turn_run from 8 c.loop-j.invariant.1 (λ k h. inside_part a.w a.target c.requires.0 k (λ b. h.0 (omega (arith, b)), omega (arith, h.1, left))))),
     )
-
-pub store_words-requires-2 : goal.store_words-requires-2
-store_words-requires-2 c = (omega (arith, c.loop-j.invariant.0), c.requires.1, c.requires.2, c.requires.3, c.requires.4, omega (arith, c.loop-j.invariant.1.long, c.requires.5))
 
 pub returns : goal.returns
 returns c =

@@ -7,17 +7,8 @@ use Rattle.tables.specs.StoreLoops.{turned_none, turn_on, turned_all}
 use Rattle.sheets.specs.Sheet.{word_in}
 use Rattle.carrying.proofs.steps.store_words.Goals as goal
 
-pub overflow_add-start : goal.overflow_add-start
-overflow_add-start c = omega (arith, c.requires.0, c.requires.5)
-
 pub loop-j-init : goal.loop-j-init
-loop-j-init c = (omega arith, turned_none _ _ _ _ (λ i h. omega (arith, h.0)))
-
-pub word_in-requires : goal.word_in-requires
-word_in-requires c = (c.requires.3, c.requires.2, c.requires.1, omega (arith, c.requires.0), c.requires.4)
-
-pub bounds-records-start : goal.bounds-records-start
-bounds-records-start c = omega (arith, c.loop-j.invariant.1.long, c.requires.0, c.requires.5)
+loop-j-init c = (turned_none _ _ _ _ (λ i h. omega (arith, h.0)))
 
 pub loop-j-preserved : goal.loop-j-preserved
 loop-j-preserved c =
@@ -26,10 +17,9 @@ loop-j-preserved c =
     let at : ℕ = a.target * a.w + a.first in
     let e : at + c.loop-j.j ≡ a.target * a.w + (a.first + c.loop-j.j) = omega arith in
     let f : at + c.loop-j.j + 1 ≡ at + (c.loop-j.j + 1) = omega arith in (
-      omega arith,
-      rw f at (turn_on (at + c.loop-j.j) c.loop-j.invariant.1 (omega (arith, c.requires.0, c.requires.5)) (λ h. omega (arith, h), omega arith) _
-          (c.word_in.ensures ∙ ap (word_in a.sheet.now a.k) (sym (digits_mod a.target less) ∙ ap (λ (i : ℕ). i % a.w) (sym e)))),
+    rw f at (turn_on (at + c.loop-j.j) c.loop-j.invariant (omega (arith, c.requires.0, c.requires.5)) (λ h. omega (arith, h), omega arith) _
+    (c.word_in.ensures ∙ ap (word_in a.sheet.now a.k) (sym (digits_mod a.target less) ∙ ap (λ (i : ℕ). i % a.w) (sym e))))
     )
 
 pub returns : goal.returns
-returns c = turned_all _ c.loop-j.invariant.1 (λ i h k. omega (arith, k.1))
+returns c = turned_all _ c.loop-j.invariant (λ i h k. omega (arith, k.1))

@@ -1,11 +1,8 @@
-use Prim.Native.Nat.{◌+◌, ◌-◌, ◌*◌, ◌%◌, ◌≤◌}
+use Prim.Native.Nat.{◌+◌, ◌*◌, ◌%◌}
 use Rattle.tables.specs.StoreLoops.{Turned, between}
 use Rattle.sheets.specs.Sheet.{word_in}
 use Rattle.carrying.proofs.steps.store_words.Given as goal
 
 abbrev pub invariant-loop-j : goal.invariant-loop-j
 invariant-loop-j l =
-    (l.j ≤ l.n) × Turned l.initial.records (between (l.target * l.w + l.first) (l.target * l.w + l.first + l.n)) (λ i. word_in l.sheet l.k (i % l.w)) (l.target * l.w + l.first + l.j) l.records
-
-abbrev pub decreases-loop-j : goal.decreases-loop-j
-decreases-loop-j l = l.n - l.j
+    Turned l.initial.records (between (l.target * l.w + l.first) (l.target * l.w + l.first + l.n)) (λ i. word_in l.sheet l.k (i % l.w)) (l.target * l.w + l.first + l.j) l.records

@@ -54,7 +54,7 @@ returns c =
     let filed = c.move_record.ensures ∙ ap (λ (n : ℕ). set a.states.now n FILED) e in record {
       taken = add-one c.choose-taken.result ∙ ap suc e;
       states = filed;
-      owners = c.put8.ensures ∙ ap (λ (n : ℕ). set a.owners.now n a.slot) e;
+      owners = c.put.ensures ∙ ap (λ (n : ℕ). set a.owners.now n a.slot) e;
       map = c.clear_mark.ensures ∙ ap (λ (n : ℕ). set a.map.now (n / 32) (at a.map.now (n / 32) - 2 ^ (n % 32))) e
           ∙ map_after a.sizes a.hand a.last a.states.now a.map.now c.requires.1
           ∙ ap (λ (l : List ℕ). free_map_table a.sizes (at l)) (sym filed);

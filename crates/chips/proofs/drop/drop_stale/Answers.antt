@@ -16,27 +16,21 @@ abbrev old : List ℕ → ℕ → Rule
 old states n = names n (λ r. non (same (at states r) LIVE))
 
 pub loop-place-init : goal.loop-place-init
-loop-place-init c = (omega arith, gone_none _ _ _ _)
-
-pub bounds-chip_records-place : goal.bounds-chip_records-place
-bounds-chip_records-place c =
-    omega (arith, long_copies _ _ _ _ c.loop-place.invariant.1, c.requires.1.copies, c.loop-place-test.true)
+loop-place-init c = gone_none _ _ _ _
 
 pub empty_place-requires : goal.empty_place-requires
 empty_place-requires c =
-    (c.requires.0, c.loop-place-test.true, record { words = long_words _ _ _ _ c.loop-place.invariant.1 ∙ c.requires.1.words; copies = long_copies _ _ _ _ c.loop-place.invariant.1 ∙ c.requires.1.copies })
+    (c.requires.0, c.loop-place-test.true, record { words = long_words _ _ _ _ c.loop-place.invariant ∙ c.requires.1.words; copies = long_copies _ _ _ _ c.loop-place.invariant ∙ c.requires.1.copies })
 
 pub loop-place-preserved : goal.loop-place-preserved
 loop-place-preserved c =
     let a = c.args in
-    let e = c.is_stale.ensures ∙ ap (λ (n : ℕ). test (old a.states.now n)) (same_entry a.sizes (at a.states.now) a.chip_words.now a.chip_records.now c.loop-place.invariant.1) in (
-      omega (arith, c.loop-place-test.true),
-      elim c.if-is_stale.branch [
-        | then-is_stale w ↦ gone_on a.sizes (at a.states.now) a.chip_words.now a.chip_records.now c.loop-place.invariant.1 (omega (arith, c.requires.1.copies, c.loop-place-test.true)) (said_yes (old a.states.now (at a.chip_records.now c.loop-place.place)) e w.if-is_stale.true) (w.chip_words-is ∙ w.empty_place.ensures.words) (w.chip_records-is ∙ w.empty_place.ensures.copies)
-        | else-is_stale w ↦ gone_off a.sizes (at a.states.now) a.chip_words.now a.chip_records.now c.loop-place.invariant.1 (said_no (old a.states.now (at a.chip_records.now c.loop-place.place)) e w.if-is_stale.false) w.chip_words-is w.chip_records-is
-      ],
-    )
+    let e = c.is_stale.ensures ∙ ap (λ (n : ℕ). test (old a.states.now n)) (same_entry a.sizes (at a.states.now) a.chip_words.now a.chip_records.now c.loop-place.invariant) in
+    elim c.if-is_stale.branch [
+      | then-is_stale w ↦ gone_on a.sizes (at a.states.now) a.chip_words.now a.chip_records.now c.loop-place.invariant (omega (arith, c.requires.1.copies, c.loop-place-test.true)) (said_yes (old a.states.now (at a.chip_records.now c.loop-place.place)) e w.if-is_stale.true) (w.chip_words-is ∙ w.empty_place.ensures.words) (w.chip_records-is ∙ w.empty_place.ensures.copies)
+      | else-is_stale w ↦ gone_off a.sizes (at a.states.now) a.chip_words.now a.chip_records.now c.loop-place.invariant (said_no (old a.states.now (at a.chip_records.now c.loop-place.place)) e w.if-is_stale.false) w.chip_words-is w.chip_records-is
+    ]
 
 pub returns : goal.returns
 returns c next =
-    gone_all _ _ _ _ c.loop-place.invariant.1 c.requires.0.words c.requires.1.words c.requires.1.copies c.loop-place-test.false next
+    gone_all _ _ _ _ c.loop-place.invariant c.requires.0.words c.requires.1.words c.requires.1.copies c.loop-place-test.false next

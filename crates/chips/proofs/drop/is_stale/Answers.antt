@@ -17,9 +17,10 @@ test-other a b = refl
 names-one : (a : ℕ) (f : ℕ → Rule) → ¬ (a ≡ 0) → test (f (a - 1)) ≡ test (names a f)
 names-one a f d = alike (f (a - 1)) (names a f) (λ h. (a - 1, omega arith, h)) (λ h. let q : h.0 ≡ a - 1 = omega (arith, h.1) in rw q at h.2)
 
-pub returns-then-entry-eq0 : goal.returns-then-entry-eq0
-returns-then-entry-eq0 c = not_so (names c.args.entry (λ r. non (same (at c.args.states.now r) LIVE))) (λ h. omega (arith, h.1, c.if-entry-eq0.true))
+pub returns-then-entry-ne0 : goal.returns-then-entry-ne0
+returns-then-entry-ne0 c =
+    ap (λ (n : ℕ). not (eqb n LIVE)) c.at.ensures ∙ test-other (at c.args.states.now (c.args.entry - 1)) LIVE ∙ names-one c.args.entry (λ r. non (same (at c.args.states.now r) LIVE)) c.if-entry-ne0.true
 
-pub returns : goal.returns
-returns c =
-    ap (λ (n : ℕ). not (eqb n LIVE)) c.at8.ensures ∙ test-other (at c.args.states.now (c.args.entry - 1)) LIVE ∙ names-one c.args.entry (λ r. non (same (at c.args.states.now r) LIVE)) c.if-entry-eq0.false
+pub returns-else-entry-ne0 : goal.returns-else-entry-ne0
+returns-else-entry-ne0 c =
+    ap (λ (n : ℕ). not (eqb n 0)) c.if-entry-ne0.false ∙ not_so (names c.args.entry (λ r. non (same (at c.args.states.now r) LIVE))) (λ h. omega (arith, h.1, c.if-entry-ne0.false))

@@ -2,7 +2,6 @@
 use mathlib.Core.Path.{◌≡◌, refl}
 use mathlib.Core.Bool.{not}
 use Prim.Native.Nat.{ℕ}
-use native.Mathlib.Omega.{arith}
 use lib.Dec.{eqb}
 use Rattle.tables.specs.Rule.{same, non, test}
 use Rattle.tables.specs.Turn.{each_none, each_next, each_end}
@@ -12,11 +11,11 @@ test-other : (a b : ℕ) → not (eqb a b) ≡ test (non (same a b))
 unfolding test
 test-other a b = refl
 
-pub loop-k-init : goal.loop-k-init
-loop-k-init c = (each_none _, omega arith)
+pub loop-entry-init : goal.loop-entry-init
+loop-entry-init c = each_none _
 
-pub loop-k-preserved : goal.loop-k-preserved
-loop-k-preserved c = (each_next _ _ _ _ c.loop-k.invariant.0 (test-other _ _), omega (arith, c.loop-k-test.true))
+pub loop-entry-preserved : goal.loop-entry-preserved
+loop-entry-preserved c = each_next _ _ _ _ c.loop-entry.invariant (test-other _ _)
 
 pub returns : goal.returns
-returns c = each_end _ _ _ _ c.loop-k.invariant.0 c.loop-k.invariant.1 c.loop-k-test.false
+returns c = each_end _ _ _ _ c.loop-entry.invariant c.loop-entry.auto.entry-index-end c.loop-entry-test.false

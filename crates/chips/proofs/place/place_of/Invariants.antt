@@ -1,10 +1,7 @@
 use mathlib.Core.Path.{◌≡◌}
-use Prim.Native.Nat.{ℕ, suc, ◌-◌, ◌<◌, ◌≤◌}
+use Prim.Native.Nat.{ℕ, suc, ◌<◌}
 use Rattle.tables.specs.Base.{at}
 use Rattle.chips.proofs.place.place_of.Given as goal
 
 abbrev pub invariant-loop-b : goal.invariant-loop-b
-invariant-loop-b l = (l.b ≤ l.n) × ((k : ℕ) → k < l.b → at l.copies k ≡ suc l.r → ⊥)
-
-abbrev pub decreases-loop-b : goal.decreases-loop-b
-decreases-loop-b l = l.n - l.b
+invariant-loop-b l = (k : ℕ) → k < l.b → at l.copies k ≡ suc l.r → ⊥

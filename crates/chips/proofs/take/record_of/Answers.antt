@@ -8,5 +8,5 @@ pub returns : goal.returns
 returns c =
     record {
       within = c.named-2.ensures.within;
-      is = c.named-2.ensures.is ∙ ap pred (c.at16.ensures ∙ ap (at c.args.addresses.now) c.named.ensures.is);
+      is = c.named-2.ensures.is ∙ ap pred (c.at.ensures ∙ ap (at c.args.addresses.now) c.named.ensures.is);
     }

@@ -15,33 +15,33 @@ use Rattle.designs.proofs.asks.ask_held.Goals as goal
 pub none_framed-requires : goal.none_framed-requires
 none_framed-requires c = omega (arith, slot_most c.args.sizes c.requires.0 c.args.slot c.requires.1)
 
-pub returns-else-none_framed : goal.returns-else-none_framed
-returns-else-none_framed c =
+pub returns-then-not-none_framed : goal.returns-then-not-none_framed
+returns-then-not-none_framed c =
     let out : Rule = let a = c.args in unframed a.sizes.frames (take a.sizes.frames (unpacked a.frames.now)) a.sizes.pages a.slot in
     let a = c.args in
     let u = c.none_framed.ensures ∙ unframed_taken a.sizes.frames (unpacked a.frames.now) a.sizes.pages a.slot in
-    sym (first_no_holds 11 _ _ (said_no out u c.if-none_framed.false))
+    sym (first_no_holds 11 _ _ (said_no out u c.if-not-none_framed.true))
 
 pub map_true-requires : goal.map_true-requires
 map_true-requires c = omega (arith, slot_most c.args.sizes c.requires.0 c.args.slot c.requires.1)
 
-pub returns-else-map_true : goal.returns-else-map_true
-returns-else-map_true c =
+pub returns-then-not-map_true : goal.returns-then-not-map_true
+returns-then-not-map_true c =
     let out : Rule = let a = c.args in unframed a.sizes.frames (take a.sizes.frames (unpacked a.frames.now)) a.sizes.pages a.slot in
     let true-map : Rule = let a = c.args in true_map a.maps.now a.addresses.now a.states.now a.sizes.pages a.slot in
     let none_in : Holds out =
     let a = c.args in
-    said_yes out (c.none_framed.ensures ∙ unframed_taken a.sizes.frames (unpacked a.frames.now) a.sizes.pages a.slot) c.if-none_framed.true in
-    sym (first_yes 11 _ _ none_in ∙ first_no_holds 12 _ _ (λ h. said_no true-map c.map_true.ensures c.if-map_true.false h.0))
+    said_yes out (c.none_framed.ensures ∙ unframed_taken a.sizes.frames (unpacked a.frames.now) a.sizes.pages a.slot) c.if-not-none_framed.false in
+    sym (first_yes 11 _ _ none_in ∙ first_no_holds 12 _ _ (λ h. said_no true-map c.map_true.ensures c.if-not-map_true.true h.0))
 
-pub returns-else-records_settled : goal.returns-else-records_settled
-returns-else-records_settled c =
+pub returns-then-not-records_settled : goal.returns-then-not-records_settled
+returns-then-not-records_settled c =
     let out : Rule = let a = c.args in unframed a.sizes.frames (take a.sizes.frames (unpacked a.frames.now)) a.sizes.pages a.slot in
     let at_rest : Rule = let a = c.args in settled a.sizes.records a.states.now a.owners.now a.slot in
     let none_in : Holds out =
     let a = c.args in
-    said_yes out (c.none_framed.ensures ∙ unframed_taken a.sizes.frames (unpacked a.frames.now) a.sizes.pages a.slot) c.if-none_framed.true in
-    sym (first_yes 11 _ _ none_in ∙ first_no_holds 12 _ _ (λ h. said_no at_rest c.records_settled.ensures c.if-records_settled.false h.1))
+    said_yes out (c.none_framed.ensures ∙ unframed_taken a.sizes.frames (unpacked a.frames.now) a.sizes.pages a.slot) c.if-not-none_framed.false in
+    sym (first_yes 11 _ _ none_in ∙ first_no_holds 12 _ _ (λ h. said_no at_rest c.records_settled.ensures c.if-not-records_settled.true h.1))
 
 pub returns : goal.returns
 returns c =
@@ -50,5 +50,5 @@ returns c =
     let at_rest : Rule = let a = c.args in settled a.sizes.records a.states.now a.owners.now a.slot in
     let none_in : Holds out =
     let a = c.args in
-    said_yes out (c.none_framed.ensures ∙ unframed_taken a.sizes.frames (unpacked a.frames.now) a.sizes.pages a.slot) c.if-none_framed.true in
-    sym (yes_all _ (none_in, ((said_yes true-map c.map_true.ensures c.if-map_true.true, said_yes at_rest c.records_settled.ensures c.if-records_settled.true), tt)))
+    said_yes out (c.none_framed.ensures ∙ unframed_taken a.sizes.frames (unpacked a.frames.now) a.sizes.pages a.slot) c.if-not-none_framed.false in
+    sym (yes_all _ (none_in, ((said_yes true-map c.map_true.ensures c.if-not-map_true.false, said_yes at_rest c.records_settled.ensures c.if-not-records_settled.false), tt)))

@@ -1,19 +1,14 @@
 -- `none_framed` meets its contract: no frame passed has a page of the slot.
-use borrow.Author.Rules.{rules}
 use mathlib.Core.Path.{◌≡◌, ap, sym}
 use native.Mathlib.Omega.{arith}
 use Prim.Native.Nat.{◌+◌, ◌-◌, ◌*◌}
-use borrow.Author.Count.{below_more}
 use Rattle.tables.specs.Rule.{told, untold}
 use Rattle.model.specs.declared.frame.Frame.{Frame}
 use Rattle.model.specs.State.{frame_at}
 use Rattle.leaves.specs.Packed.{unpacked}
 use Rattle.designs.specs.Asks.{unframed}
-use Rattle.designs.proofs.Tests.{two_yes, two_no}
+use Rattle.designs.proofs.Tests.{two_yes}
 use Rattle.designs.proofs.frames.none_framed.Goals as goal
-
-pub loop-f-init : goal.loop-f-init
-loop-f-init c = (omega arith, λ k h. omega arith)
 
 pub returns-then-start-page : goal.returns-then-start-page
 returns-then-start-page c =
@@ -24,15 +19,7 @@ returns-then-start-page c =
     let y = two_yes b e e (b + a.pages + 1) c.if-start-page.true in
     sym (untold (unframed a.count (unpacked a.frames.now) a.pages a.slot) (λ h. h (e - b - 1) (omega (arith, y.0, y.1)) (c.loop-f.f, omega arith, omega (arith, page, y.0))))
 
-pub loop-f-preserved : goal.loop-f-preserved
-loop-f-preserved c =
-    let page : (c.frame_at-frame.result.page ≡ (frame_at (unpacked c.args.frames.now) c.loop-f.f).page) = ap (λ (x : Frame). x.page) c.frame_at-frame.ensures in
-    let a = c.args in
-    let e = c.frame_at-frame.result.page in
-    let b = a.slot * a.pages in
-    (search rules, below_more _ _ c.loop-f.invariant.1 (λ h. two_no b e e (b + a.pages + 1) c.if-start-page.false (omega (arith, page, h.0), omega (arith, page, h.1))))
-
 pub returns : goal.returns
 returns c =
     let a = c.args in
-    sym (told (unframed a.count (unpacked a.frames.now) a.pages a.slot) (λ p h (f, m, e). c.loop-f.invariant.1 f (omega arith) (omega (arith, e), omega (arith, e))))
+    sym (told (unframed a.count (unpacked a.frames.now) a.pages a.slot) (λ p h (f, m, e). c.loop-f.invariant f (omega arith) (omega (arith, e), omega (arith, e))))

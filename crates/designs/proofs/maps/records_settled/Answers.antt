@@ -1,5 +1,5 @@
 -- `records_settled` meets its contract: all the records passed are settled, or not; one past the end of the states is.
-use mathlib.Core.Path.{◌≡◌, ap, sym, ◌∙◌}
+use mathlib.Core.Path.{◌≡◌, sym, ◌∙◌}
 use mathlib.Core.Logic.{inl, inr}
 use mathlib.Core.List.{List}
 use native.Mathlib.Omega.{arith}
@@ -18,22 +18,24 @@ rest states owners slot records end most short = alike (settled end states owner
     (λ h i b. elim (dec_lt i end) [ yes l ↦ h i l | no l ↦ λ e k. let z : at states i ≡ 0 = get_or-eq_default states 0 (omega (arith, short (omega arith))) in elim k [ inl q ↦ omega (arith, z, q) | inr q ↦ omega (arith, z, q) ] ])
     (λ h i b. h i (omega arith))
 
-pub returns-then-slot-gt255 : goal.returns-then-slot-gt255
-returns-then-slot-gt255 c =
+pub returns-in_default : goal.returns-in_default
+returns-in_default c =
     let a = c.args in
-    sym (told (settled a.records a.states.now a.owners.now a.slot) (λ i h e k. omega (arith, c.type_inv.owners i, c.if-slot-gt255.true, e)))
+    sym (told (settled a.records a.states.now a.owners.now a.slot) (λ i h e k. omega (arith, c.type_inv.owners i, c.in_default.ensures, e)))
 
 pub loop-r-init : goal.loop-r-init
 loop-r-init c =
-    let a = c.args in (omega arith, sym (told (settled 0 a.states.now a.owners.now a.slot) (λ i h e k. omega arith)))
+    let a = c.args in sym (told (settled 0 a.states.now a.owners.now c.in-Ok.own) (λ i h e k. omega arith))
 
 pub loop-r-preserved : goal.loop-r-preserved
 loop-r-preserved c =
     let a = c.args in
-    (omega arith, each_next c.loop-r.r (λ i. settled_record (at a.states.now i) (at a.owners.now i) a.slot) _ _ c.loop-r.invariant.1 c.is_settled-all.ensures)
+    each_next c.loop-r.r (λ i. settled_record (at a.states.now i) (at a.owners.now i) c.in-Ok.own) _ _ c.loop-r.invariant c.is_settled-all.ensures
 
 pub returns : goal.returns
 returns c =
     let a = c.args in
-    let e : c.loop-r.r ≡ c.smaller-end.result = omega (arith, c.loop-r-test.false) in
-    c.loop-r.invariant.1 ∙ ap (λ (n : ℕ). test (settled n a.states.now a.owners.now a.slot)) e ∙ rest a.states.now a.owners.now a.slot a.records c.smaller-end.result c.smaller-end.ensures.0 c.smaller-end.ensures.2
+    let end = c.min-end.result in
+    let e : c.loop-r.r ≡ end = omega arith in
+    let own : c.in-Ok.own ≡ a.slot = omega (arith, c.in-Ok.ensures) in
+    c.loop-r.invariant ∙ (λ i. test (settled (e i) a.states.now a.owners.now (own i))) ∙ rest a.states.now a.owners.now a.slot a.records end (omega arith) (λ h. omega arith)

@@ -20,17 +20,18 @@ pub returns-then-words-ne-VERSION : goal.returns-then-words-ne-VERSION
 returns-then-words-ne-VERSION c =
     look_version c.args.sizes c.args.words.now (sym c.if-zeros_from.false ∙ c.zeros_from.ensures) (omega arith) (omega arith) (omega arith)
 
-pub returns-then-sizes_in : goal.returns-then-sizes_in
-returns-then-sizes_in c =
+-- the magic and the version are there
+pub returns-then-not-zeros_from : goal.returns-then-not-zeros_from
+returns-then-not-zeros_from c =
     let b : Begun c.args.sizes c.args.words.now = record { some = sym c.if-zeros_from.false ∙ c.zeros_from.ensures; first = omega arith; second = omega arith; version = omega arith } in
-    look_ours c.args.sizes c.args.words.now b (sym c.if-zeros_from-2.true ∙ c.zeros_from-2.ensures) (sym c.if-sizes_in.true ∙ c.sizes_in.ensures)
+    look_damaged c.args.sizes c.args.words.now b (sym c.if-not-zeros_from.true ∙ c.zeros_from-2.ensures)
 
-pub returns-then-zeros_from-2 : goal.returns-then-zeros_from-2
-returns-then-zeros_from-2 c =
+pub returns-then-not-sizes_in : goal.returns-then-not-sizes_in
+returns-then-not-sizes_in c =
     let b : Begun c.args.sizes c.args.words.now = record { some = sym c.if-zeros_from.false ∙ c.zeros_from.ensures; first = omega arith; second = omega arith; version = omega arith } in
-    look_sizes c.args.sizes c.args.words.now b (sym c.if-zeros_from-2.true ∙ c.zeros_from-2.ensures) (sym c.if-sizes_in.false ∙ c.sizes_in.ensures)
+    look_sizes c.args.sizes c.args.words.now b (sym c.if-not-zeros_from.false ∙ c.zeros_from-2.ensures) (sym c.if-not-sizes_in.true ∙ c.sizes_in.ensures)
 
 pub returns : goal.returns
 returns c =
     let b : Begun c.args.sizes c.args.words.now = record { some = sym c.if-zeros_from.false ∙ c.zeros_from.ensures; first = omega arith; second = omega arith; version = omega arith } in
-    look_damaged c.args.sizes c.args.words.now b (sym c.if-zeros_from-2.false ∙ c.zeros_from-2.ensures)
+    look_ours c.args.sizes c.args.words.now b (sym c.if-not-zeros_from.false ∙ c.zeros_from-2.ensures) (sym c.if-not-sizes_in.false ∙ c.sizes_in.ensures)

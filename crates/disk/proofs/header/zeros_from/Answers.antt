@@ -1,18 +1,11 @@
--- The invariant: the first i words from the place on are zero.
+-- The chain asks of each word from the place on whether it is zero.
+use Prim.Native.Nat.{◌-◌}
+use lib.ListN.{length}
 use native.Mathlib.Omega.{arith}
-use Rattle.tables.specs.Turn.{none, again, fails, done, yes_so, not_so}
+use borrow.Author.Rules.{rules}
+use Rattle.tables.specs.Rule.{same}
+use Rattle.journal.specs.Laws.Each.{each_between}
 use Rattle.disk.proofs.header.zeros_from.Goals as goal
 
-pub loop-i-init : goal.loop-i-init
-loop-i-init c = none _
-
-pub returns-else-words-from-eq0 : goal.returns-else-words-from-eq0
-returns-else-words-from-eq0 c =
-    fails c.loop-i.i _ _ (omega (arith, c.loop-i-test.true)) (not_so _ c.if-words-from-eq0.false)
-
-pub loop-i-preserved : goal.loop-i-preserved
-loop-i-preserved c =
-    again _ _ c.loop-i.invariant (yes_so _ c.if-words-from-eq0.true)
-
 pub returns : goal.returns
-returns c = done _ _ _ c.loop-i.invariant (omega (arith, c.loop-i-test.false))
+returns c = each_between (λ x. same x 0) c.args.words.now c.args.from (128 - c.args.from) (length c.args.words.now) c.all.result (omega arith) (omega arith) (search rules)

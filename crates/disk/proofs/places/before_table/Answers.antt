@@ -8,17 +8,17 @@ use Rattle.disk.proofs.places.before_table.Goals as goal
 
 pub loop-t-init : goal.loop-t-init
 loop-t-init c =
-    (omega arith, before_none c.args.sizes)
+    before_none c.args.sizes
 
 pub overflow_add-sum : goal.overflow_add-sum
 overflow_add-sum c =
     let z = limits c.args.sizes c.requires.0 in
-    omega (arith, c.loop-t.invariant.0, c.loop-t.invariant.1, c.sectors_of-more.ensures, before_small c.args.sizes z c.loop-t.t, sectors_small c.args.sizes z (table c.loop-t.t))
+    omega (arith, c.loop-t.auto.t-end, c.loop-t.invariant, c.sectors_of-sum.ensures, before_small c.args.sizes z c.loop-t.t, sectors_small c.args.sizes z (table c.loop-t.t))
 
 pub loop-t-preserved : goal.loop-t-preserved
 loop-t-preserved c =
-    (omega arith, rw (c.loop-t.invariant.1, c.sectors_of-more.ensures) (before_next c.args.sizes c.loop-t.t))
+    rw (c.loop-t.invariant, c.sectors_of-sum.ensures) (before_next c.args.sizes c.loop-t.t)
 
 pub returns : goal.returns
 returns c =
-    c.loop-t.invariant.1 ∙ ap (before c.args.sizes) (omega (arith, c.loop-t.invariant.0, c.loop-t-test.false))
+    c.loop-t.invariant ∙ ap (before c.args.sizes) (omega (arith, c.loop-t.auto.t-end, c.loop-t-test.false))

@@ -1,4 +1,4 @@
-use Prim.Native.Nat.{◌+◌, ◌-◌}
+use Prim.Native.Nat.{◌+◌}
 use lib.Dec.{ltb}
 use Rattle.tables.specs.Base.{at, if}
 use Rattle.disk.specs.Laws.Filling.{Filling}
@@ -6,6 +6,3 @@ use Rattle.disk.proofs.rows.fill_u32.Given as goal
 
 abbrev pub invariant-loop-j : goal.invariant-loop-j
 invariant-loop-j l = Filling 128 (λ k. if (ltb k l.count) (at l.table (l.start + k)) 0) l.j l.words
-
-abbrev pub decreases-loop-j : goal.decreases-loop-j
-decreases-loop-j l = 128 - l.j

@@ -7,7 +7,7 @@ use Rattle.disk.proofs.rows.take_u16.Goals as goal
 
 pub loop-i-init : goal.loop-i-init
 loop-i-init c =
-    (omega arith, turned_none _ _ _ _ (λ i h. omega (arith, h.0)))
+    turned_none _ _ _ _ (λ i h. omega (arith, h.0))
 
 pub overflow_cast-table : goal.overflow_cast-table
 overflow_cast-table c =
@@ -15,12 +15,12 @@ overflow_cast-table c =
 
 pub bounds-table-i : goal.bounds-table-i
 bounds-table-i c =
-    omega (arith, c.loop-i.invariant.1.long, c.requires.0, c.loop-i-test.true)
+    omega (arith, c.loop-i.invariant.long, c.requires.0, c.loop-i-test.true)
 
 pub loop-i-preserved : goal.loop-i-preserved
 loop-i-preserved c =
-    (omega arith, turn_on c.loop-i.i c.loop-i.invariant.1 (omega (arith, c.requires.0, c.loop-i-test.true)) (λ h. omega (arith, h, c.loop-i.invariant.0), c.loop-i-test.true) _ refl)
+    turn_on c.loop-i.i c.loop-i.invariant (omega (arith, c.requires.0, c.loop-i-test.true)) (λ h. omega (arith, h, c.loop-i.auto.i), c.loop-i-test.true) _ refl
 
 pub returns : goal.returns
 returns c =
-    turned_all c.loop-i.i c.loop-i.invariant.1 (λ i h t. omega (arith, t.1, c.loop-i-test.false))
+    turned_all c.loop-i.i c.loop-i.invariant (λ i h t. omega (arith, t.1, c.loop-i-test.false))

@@ -1,5 +1,4 @@
 -- `writeback_event` meets its contract: each arm hands on what questions 1 and 2 give, and its event's outcome over all tables.
-use borrow.Author.Rules.{rules}
 use mathlib.Core.Path.{refl}
 use Rattle.writeback.proofs.ClaimLaws.{claim_ready}
 use Rattle.writeback.proofs.Ready.{done_ready, map_ready, update_ready}

@@ -9,16 +9,16 @@ use Rattle.model.specs.Laws.Nulled.{nulled_by}
 use Rattle.dispatch.specs.Beside.{kept_alone, leaves_beside, nulls_beside}
 use Rattle.events.proofs.carry.carry.Goals as goal
 
-pub design_event-answer-requires : goal.design_event-answer-requires
-design_event-answer-requires c =
+pub design_event-requires : goal.design_event-requires
+design_event-requires c =
     let lent : State =
     let a = c.args in
     lined_of (frames_in a.sizes a.frames.now) a.pool a.records.now a.numbers.now a.accounts.now a.maps.now a.limits.now a.parents.now a.highest.now a.frame_words.now a.free_queue.now a.removal_list.now
     a.addresses.now a.states.now a.owners.now a.free_map.now a.active.now a.updating.now a.images.now a.line.now a.used.now in
     kept_alone c.args.sizes lent c.requires
 
-pub account_event-answer-requires : goal.account_event-answer-requires
-account_event-answer-requires c =
+pub account_event-requires : goal.account_event-requires
+account_event-requires c =
     let lent : State =
     let a = c.args in
     lined_of (frames_in a.sizes a.frames.now) a.pool a.records.now a.numbers.now a.accounts.now a.maps.now a.limits.now a.parents.now a.highest.now a.frame_words.now a.free_queue.now a.removal_list.now
@@ -51,7 +51,7 @@ returns-in-Design c =
     let a = c.args in
     state_of (frames_in a.sizes a.frames.now) a.pool a.records.now a.numbers.now a.accounts.now a.maps.now a.limits.now a.parents.now a.highest.now a.frame_words.now a.free_queue.now a.removal_list.now
     a.addresses.now a.states.now a.owners.now a.free_map.now a.active.now a.updating.now a.images.now a.used.now in
-    rw c.in-Design.is (record { left = leaves_beside c.args.line.now c.args.sizes alone (Event.Design c.in-Design.e) tt _ c.design_event-answer.ensures; nulled = refl })
+    rw (c.in-Design.is, c.told.ensures) (record { left = leaves_beside c.args.line.now c.args.sizes alone (Event.Design c.in-Design.e) tt _ c.design_event.ensures; nulled = refl })
 
 pub returns-in-Account : goal.returns-in-Account
 unfolding taken deposited nulled_by
@@ -60,7 +60,7 @@ returns-in-Account c =
     let a = c.args in
     state_of (frames_in a.sizes a.frames.now) a.pool a.records.now a.numbers.now a.accounts.now a.maps.now a.limits.now a.parents.now a.highest.now a.frame_words.now a.free_queue.now a.removal_list.now
     a.addresses.now a.states.now a.owners.now a.free_map.now a.active.now a.updating.now a.images.now a.used.now in
-    rw c.in-Account.is (record { left = leaves_beside c.args.line.now c.args.sizes alone (Event.Account c.in-Account.e) tt _ c.account_event-answer.ensures; nulled = refl })
+    rw (c.in-Account.is, c.told-in-Account.ensures) (record { left = leaves_beside c.args.line.now c.args.sizes alone (Event.Account c.in-Account.e) tt _ c.account_event.ensures; nulled = refl })
 
 pub returns-in-Page : goal.returns-in-Page
 unfolding nulled_by

@@ -5,10 +5,10 @@ use Rattle.tables.specs.Base.{at}
 use Rattle.events.specs.declared.chore.Chore.TheVariants.{Take}
 use Rattle.events.proofs.chore.waiting_chore.Goals as goal
 
-pub returns-then-at16-eq0 : goal.returns-then-at16-eq0
-returns-then-at16-eq0 c =
-    rw c.in-Turn.is (rw (eq-eqb (at c.args.free_queue.now 0) 0 (sym c.at16.ensures ∙ c.if-at16-eq0.true)) refl)
+pub returns-then-at-eq0 : goal.returns-then-at-eq0
+returns-then-at-eq0 c =
+    rw c.in-Turn.is (rw (eq-eqb (at c.args.free_queue.now 0) 0 (sym c.at.ensures ∙ c.if-at-eq0.true)) refl)
 
-pub returns-else-at16-eq0 : goal.returns-else-at16-eq0
-returns-else-at16-eq0 c =
-    rw c.in-Turn.is (rw (ne_eqb (at c.args.free_queue.now 0) 0 (λ h. c.if-at16-eq0.false (c.at16.ensures ∙ h))) (ap Take c.first.ensures))
+pub returns-else-at-eq0 : goal.returns-else-at-eq0
+returns-else-at-eq0 c =
+    rw c.in-Turn.is (rw (ne_eqb (at c.args.free_queue.now 0) 0 (λ h. c.if-at-eq0.false (c.at.ensures ∙ h))) (ap Take c.first.ensures))

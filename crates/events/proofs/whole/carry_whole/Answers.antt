@@ -1,5 +1,4 @@
 -- `carry_whole` meets its contract: refused, all is as it was; carried out, the chip tends what the event left.
-use borrow.Author.Rules.{rules}
 use mathlib.Core.Path.{◌≡◌, ap, sym, ◌∙◌}
 use Prim.Native.Nat.{ℕ, ◌<◌}
 use lib.ListN.{take}

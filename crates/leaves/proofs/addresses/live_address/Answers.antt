@@ -4,14 +4,14 @@ use Rattle.leaves.proofs.addresses.live_address.Goals as goal
 
 pub returns-then-address-eq0 : goal.returns-then-address-eq0
 returns-then-address-eq0 c =
-    let a = c.args in live_none a.addresses.now a.states.now a.i _ c.at16-address.ensures c.if-address-eq0.true
+    let a = c.args in live_none a.addresses.now a.states.now a.i _ c.at-address.ensures c.if-address-eq0.true
 
-pub returns-then-at8-eq-LIVE : goal.returns-then-at8-eq-LIVE
-returns-then-at8-eq-LIVE c =
+pub returns-then-at-eq-LIVE : goal.returns-then-at-eq-LIVE
+returns-then-at-eq-LIVE c =
     let a = c.args in
-    live_on a.addresses.now a.states.now a.i _ c.at16-address.ensures c.if-address-eq0.false _ c.at8.ensures c.if-at8-eq-LIVE.true
+    live_on a.addresses.now a.states.now a.i _ c.at-address.ensures c.if-address-eq0.false _ c.at.ensures c.if-at-eq-LIVE.true
 
 pub returns : goal.returns
 returns c =
     let a = c.args in
-    live_off a.addresses.now a.states.now a.i _ c.at16-address.ensures c.if-address-eq0.false _ c.at8.ensures c.if-at8-eq-LIVE.false
+    live_off a.addresses.now a.states.now a.i _ c.at-address.ensures c.if-address-eq0.false _ c.at.ensures c.if-at-eq-LIVE.false

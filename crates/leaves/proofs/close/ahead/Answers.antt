@@ -3,7 +3,7 @@ use mathlib.Core.Path.{◌≡◌, ap, sym, ◌∙◌}
 use mathlib.Core.List.{List}
 use Prim.Native.Nat.{ℕ, ◌+◌, ◌-◌, ◌*◌, ◌/◌, ◌%◌, ◌^◌, ◌<◌}
 use native.Mathlib.Omega.{arith}
-use lib.Count.{count_trailing_zeros, trailing_le}
+use lib.Count.{count_trailing_zeros}
 use lib.Dec.{eqb→eq}
 use Rattle.tables.specs.Base.{at}
 use Rattle.tables.specs.Bits.{bit}
@@ -34,18 +34,15 @@ returns-then-rest-eq0 c =
     let a = c.args in
     let m = a.map.now in
     let w = a.i / 32 in
-    let e = c.pair.ensures ∙ ap (λ (x : ℕ). x * 4294967296 + at m w) c.at32.ensures in
-    none-on m a.i c.pair.result (c.shared_slice_known-1.given w).fits e c.if-rest-eq0.true
-
-pub overflow_cast-result : goal.overflow_cast-result
-overflow_cast-result c = omega (arith, trailing_le 64 (c.pair.result / 2 ^ (c.args.i % 32)))
+    let e = c.pair.ensures ∙ ap (λ (x : ℕ). x * 4294967296 + at m w) c.at.ensures in
+    none-on m a.i c.pair.result (c.type_inv.map w).fits e c.if-rest-eq0.true
 
 pub returns : goal.returns
 returns c =
     let a = c.args in
     let m = a.map.now in
     let w = a.i / 32 in
-    let e = c.pair.ensures ∙ ap (λ (x : ℕ). x * 4294967296 + at m w) c.at32.ensures in
-    let low : at m w < 2 ^ 32 = (c.shared_slice_known-1.given w).fits in
-    let high : at m (w + 1) < 2 ^ 32 = (c.shared_slice_known-1.given (w + 1)).fits in
+    let e = c.pair.ensures ∙ ap (λ (x : ℕ). x * 4294967296 + at m w) c.at.ensures in
+    let low : at m w < 2 ^ 32 = (c.type_inv.map w).fits in
+    let high : at m (w + 1) < 2 ^ 32 = (c.type_inv.map (w + 1)).fits in
     first_on m a.i c.pair.result low e (omega (arith, e, low, high)) c.if-rest-eq0.false

@@ -4,7 +4,7 @@ use mathlib.Core.List.{List}
 use Prim.Native.Nat.{ℕ, suc, ◌+◌, ◌-◌, ◌*◌, ◌/◌, ◌%◌, ◌^◌, ◌<◌, ◌≤◌}
 use native.Mathlib.Omega.{arith}
 use native.Mathlib.Decide.{dec_lt, dec_le}
-use lib.Count.{count_leading_zeros, leading_le}
+use lib.Count.{count_leading_zeros}
 use lib.Dec.{eqb, eqb→eq}
 use Rattle.tables.specs.Base.{if, at}
 use Rattle.tables.specs.Bits.{bit}
@@ -74,9 +74,6 @@ pub returns-then-rest-eq0 : goal.returns-then-rest-eq0
 returns-then-rest-eq0 c =
     let a = c.args in
     none-on a.map.now a.i c.word_before.result c.pair.result c.word_before.type_inv c.word_before.ensures c.pair.ensures c.if-rest-eq0.true
-
-pub overflow_cast-result : goal.overflow_cast-result
-overflow_cast-result c = omega (arith, leading_le 64 (c.pair.result * 2 ^ (31 - c.args.i % 32) % 2 ^ 64))
 
 pub returns : goal.returns
 returns c =

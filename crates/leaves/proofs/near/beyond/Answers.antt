@@ -1,36 +1,33 @@
 -- `beyond` meets its contract: whichever record is found, all that lie between it and its mirror image on the other side have been passed.
 use mathlib.Core.Path.{◌≡◌}
 use mathlib.Core.List.{List}
-use Prim.Native.Nat.{ℕ, suc, ◌+◌, ◌-◌, ◌%◌, ◌<◌, ◌≤◌}
+use Prim.Native.Nat.{ℕ, ◌+◌, ◌-◌, ◌%◌, ◌<◌, ◌≤◌, min}
 use native.Mathlib.Omega.{arith}
 use native.Mathlib.Decide.{dec_lt}
-use lib.Dec.{T, ltb}
-use Rattle.tables.specs.Base.{if}
+use lib.Dec.{T}
 use Rattle.model.specs.declared.sizes.Sizes.{Sizes}
 use Rattle.model.specs.Parts.{nearest}
 use Rattle.leaves.specs.FreeMap.{told_by}
 use Rattle.leaves.specs.Search.{first_mark, last_mark, Around}
-use Rattle.leaves.proofs.Searched.{Off, free, first_off, first_on, first_from, last_off, last_on, last_to, on_is_free, free_below_holds, between, nearest_low, nearest_high, nearest_none, least_left, least_right, least_both}
+use Rattle.leaves.proofs.Searched.{Off, free, first_off, first_on, first_from, last_off, last_on, last_to, on_is_free, free_below_holds, between, nearest_low, nearest_high, nearest_none}
 use Rattle.leaves.proofs.near.beyond.Goals as goal
 
 module _ (z : Sizes) (map : List ℕ) (r below above : ℕ) (q : Around z map r below above) (floor low : ℕ) (fl : floor ≡ below - 32) (lo : low ≡ last_mark map floor below) where
   -- ── one in the word below ──
-  module _ (on : floor < low) (end high : ℕ) (en : end ≡ if (ltb (r + (r + 1 - low)) z.records) (r + (r + 1 - low)) z.records) (hi : high ≡ first_mark map above end) where
+  module _ (on : floor < low) (end high : ℕ) (en : end ≡ min (r + (r + 1 - low)) z.records) (hi : high ≡ first_mark map above end) where
     to : low ≤ below
     to = last_to map floor below low lo
 
     pub nearer-above : high < end → high ≡ nearest z (told_by map) r
     nearer-above h =
-        let a = least_left (r + (r + 1 - low)) z.records end en in
-        let b = least_right (r + (r + 1 - low)) z.records end en in
-        nearest_high z map r high (omega (arith, q.high, first_from map above end high hi)) (on_is_free z map high (omega (arith, h, b)) (first_on map above end high hi h))
-        (λ i k l. between z map r below above q low high (last_off map floor below low lo) (first_off map above end high hi) i (omega (arith, h, a, k, to, q.low)) l)
+        nearest_high z map r high (omega (arith, q.high, first_from map above end high hi)) (on_is_free z map high (omega (arith, h, en)) (first_on map above end high hi h))
+        (λ i k l. between z map r below above q low high (last_off map floor below low lo) (first_off map above end high hi) i (omega (arith, h, en, k, to, q.low)) l)
 
     pub that-below : ¬ (high < end) → low - 1 ≡ nearest z (told_by map) r
     that-below h = nearest_low z map r (low - 1) (omega (arith, to, q.low)) (on_is_free z map (low - 1) (omega (arith, to, on, q.most)) (last_on map floor below low lo on)) passed
       where
         passed : (i : ℕ) → low - 1 < i → i + (low - 1) < r + r → ¬ T (free z map i)
-        passed i k l t = between z map r below above q low high (last_off map floor below low lo) (first_off map above end high hi) i (omega (arith, k)) (omega (arith, h, least_both (r + (r + 1 - low)) z.records end i en (omega (arith, l, on, to, q.low)) (free_below_holds z map i t))) t
+        passed i k l t = between z map r below above q low high (last_off map floor below low lo) (first_off map above end high hi) i (omega (arith, k)) (omega (arith, h, en, l, on, to, q.low, free_below_holds z map i t)) t
 
   -- ── none in the word below ──
   module _ (off : low ≤ floor) (high : ℕ) (hi : high ≡ first_mark map above z.records) where
@@ -66,92 +63,39 @@ module _ (z : Sizes) (map : List ℕ) (r below above : ℕ) (q : Around z map r 
       pub nowhere : ¬ (0 < low') → (r + r + z.records + 1) % z.records ≡ nearest z (told_by map) r
       nowhere h = nearest_none z map r (λ i f. clear 0 low' lo' 0 (omega (arith, h)) i (omega arith) (omega (arith, none, free_below_holds z map i f)) f)
 
-pub last_mark-low-requires : goal.last_mark-low-requires
-last_mark-low-requires c = (omega (arith, c.requires.0, c.requires.4.most), omega (arith, c.requires.2, c.requires.4.most))
-
-pub overflow_add-record : goal.overflow_add-record
-overflow_add-record c = omega (arith, c.requires.3)
-
-pub overflow_sub-record : goal.overflow_sub-record
-overflow_sub-record c =
-    let in-word : c.last_mark-low.result ≤ suc c.args.record =
-    let a = c.args in
-    omega (arith, c.requires.4.low, last_to a.map.now c.less-floor.result a.below c.last_mark-low.result c.last_mark-low.ensures) in
-    omega (arith, in-word)
-
-pub overflow_add-record-then-low-floor : goal.overflow_add-record-then-low-floor
-overflow_add-record-then-low-floor c = omega (arith, c.requires.3)
-
-pub first_mark-high-requires : goal.first_mark-high-requires
-first_mark-high-requires c =
-    let a = c.args in
-    let low = c.last_mark-low.result in
-    let e = least_right (a.record + (a.record + 1 - low)) a.sizes.records c.least-end.result c.least-end.ensures in
-    (omega (arith, e, c.requires.0), omega (arith, e, c.requires.2))
-
 pub returns-then-high-end : goal.returns-then-high-end
 returns-then-high-end c =
     let a = c.args in
-    nearer-above a.sizes a.map.now a.record a.below a.above c.requires.4 c.less-floor.result c.last_mark-low.result c.less-floor.ensures c.last_mark-low.ensures c.if-low-floor.true c.least-end.result c.first_mark-high.result c.least-end.ensures c.first_mark-high.ensures c.if-high-end.true
-
-pub overflow_sub-result : goal.overflow_sub-result
-overflow_sub-result c = omega (arith, c.if-low-floor.true)
+    nearer-above a.sizes a.map.now a.record a.below a.above c.requires.4 c.saturating_sub-floor.result c.last_mark-low.result c.saturating_sub-floor.ensures c.last_mark-low.ensures c.if-low-floor.true c.min-end.result c.first_mark-high.result c.min-end.ensures c.first_mark-high.ensures c.if-high-end.true
 
 pub returns-then-low-floor : goal.returns-then-low-floor
 returns-then-low-floor c =
     let a = c.args in
-    that-below a.sizes a.map.now a.record a.below a.above c.requires.4 c.less-floor.result c.last_mark-low.result c.less-floor.ensures c.last_mark-low.ensures c.if-low-floor.true c.least-end.result c.first_mark-high.result c.least-end.ensures c.first_mark-high.ensures (λ k. omega (arith, k, c.if-high-end.false))
-
-pub first_mark-high-requires-2 : goal.first_mark-high-requires-2
-first_mark-high-requires-2 c = (c.requires.0, c.requires.2)
+    that-below a.sizes a.map.now a.record a.below a.above c.requires.4 c.saturating_sub-floor.result c.last_mark-low.result c.saturating_sub-floor.ensures c.last_mark-low.ensures c.if-low-floor.true c.min-end.result c.first_mark-high.result c.min-end.ensures c.first_mark-high.ensures (λ k. omega (arith, k, c.if-high-end.false))
 
 pub overflow_sub-high : goal.overflow_sub-high
 overflow_sub-high c =
     let a = c.args in
     omega (arith, c.requires.4.high, first_from a.map.now a.above a.sizes.records c.first_mark-high-2.result c.first_mark-high-2.ensures)
 
-pub last_mark-low-requires-then-high-records : goal.last_mark-low-requires-then-high-records
-last_mark-low-requires-then-high-records c =
-    let floored : c.less-floor.result ≤ c.args.below = omega (arith, c.less-floor.ensures) in
-    (omega (arith, floored, c.requires.0, c.requires.4.most), omega (arith, floored, c.requires.2, c.requires.4.most))
-
-pub overflow_sub-result-then-low-far : goal.overflow_sub-result-then-low-far
-overflow_sub-result-then-low-far c = omega (arith, c.if-low-far.true)
-
 pub returns-then-low-far : goal.returns-then-low-far
 returns-then-low-far c =
     let a = c.args in
-    as-near-below a.sizes a.map.now a.record a.below a.above c.requires.4 c.less-floor.result c.last_mark-low.result c.less-floor.ensures c.last_mark-low.ensures c.if-low-floor.false c.first_mark-high-2.result c.first_mark-high-2.ensures c.if-high-records.true c.less-far.result c.last_mark-low-then-high-records.result c.less-far.ensures c.last_mark-low-then-high-records.ensures c.if-low-far.true
+    as-near-below a.sizes a.map.now a.record a.below a.above c.requires.4 c.saturating_sub-floor.result c.last_mark-low.result c.saturating_sub-floor.ensures c.last_mark-low.ensures c.if-low-floor.false c.first_mark-high-2.result c.first_mark-high-2.ensures c.if-high-records.true
+    c.saturating_sub-far.result c.last_mark-low-then-high-records.result c.saturating_sub-far.ensures c.last_mark-low-then-high-records.ensures c.if-low-far.true
 
 pub returns-then-high-records : goal.returns-then-high-records
 returns-then-high-records c =
     let a = c.args in
-    that-above a.sizes a.map.now a.record a.below a.above c.requires.4 c.less-floor.result c.last_mark-low.result c.less-floor.ensures c.last_mark-low.ensures c.if-low-floor.false c.first_mark-high-2.result c.first_mark-high-2.ensures c.if-high-records.true
-    c.less-far.result c.last_mark-low-then-high-records.result c.less-far.ensures c.last_mark-low-then-high-records.ensures (λ k. omega (arith, k, c.if-low-far.false))
-
-pub last_mark-low-requires-2 : goal.last_mark-low-requires-2
-last_mark-low-requires-2 c =
-    let floored : c.less-floor.result ≤ c.args.below = omega (arith, c.less-floor.ensures) in
-    (omega (arith, floored, c.requires.0, c.requires.4.most), omega (arith, floored, c.requires.2, c.requires.4.most))
-
-pub overflow_sub-result-then-low-gt0 : goal.overflow_sub-result-then-low-gt0
-overflow_sub-result-then-low-gt0 c = omega (arith, c.if-low-gt0.true)
+    that-above a.sizes a.map.now a.record a.below a.above c.requires.4 c.saturating_sub-floor.result c.last_mark-low.result c.saturating_sub-floor.ensures c.last_mark-low.ensures c.if-low-floor.false c.first_mark-high-2.result c.first_mark-high-2.ensures c.if-high-records.true
+    c.saturating_sub-far.result c.last_mark-low-then-high-records.result c.saturating_sub-far.ensures c.last_mark-low-then-high-records.ensures (λ k. omega (arith, k, c.if-low-far.false))
 
 pub returns-then-low-gt0 : goal.returns-then-low-gt0
 returns-then-low-gt0 c =
     let a = c.args in
-    last-below a.sizes a.map.now a.record a.below a.above c.requires.4 c.less-floor.result c.last_mark-low.result c.less-floor.ensures c.last_mark-low.ensures c.if-low-floor.false c.first_mark-high-2.result c.first_mark-high-2.ensures (λ k. omega (arith, k, c.if-high-records.false)) c.last_mark-low-2.result c.last_mark-low-2.ensures c.if-low-gt0.true
-
-pub overflow_add-result : goal.overflow_add-result
-overflow_add-result c = omega (arith, c.requires.3)
-
-pub overflow_add-result-2 : goal.overflow_add-result-2
-overflow_add-result-2 c = omega (arith, c.requires.2, c.requires.3)
-
-pub overflow_add-result-3 : goal.overflow_add-result-3
-overflow_add-result-3 c = omega (arith, c.requires.2, c.requires.3)
+    last-below a.sizes a.map.now a.record a.below a.above c.requires.4 c.saturating_sub-floor.result c.last_mark-low.result c.saturating_sub-floor.ensures c.last_mark-low.ensures c.if-low-floor.false c.first_mark-high-2.result c.first_mark-high-2.ensures (λ k. omega (arith, k, c.if-high-records.false)) c.last_mark-low-2.result c.last_mark-low-2.ensures c.if-low-gt0.true
 
 pub returns : goal.returns
 returns c =
     let a = c.args in
-    nowhere a.sizes a.map.now a.record a.below a.above c.requires.4 c.less-floor.result c.last_mark-low.result c.less-floor.ensures c.last_mark-low.ensures c.if-low-floor.false c.first_mark-high-2.result c.first_mark-high-2.ensures (λ k. omega (arith, k, c.if-high-records.false)) c.last_mark-low-2.result c.last_mark-low-2.ensures (λ k. omega (arith, k, c.if-low-gt0.false))
+    nowhere a.sizes a.map.now a.record a.below a.above c.requires.4 c.saturating_sub-floor.result c.last_mark-low.result c.saturating_sub-floor.ensures c.last_mark-low.ensures c.if-low-floor.false c.first_mark-high-2.result c.first_mark-high-2.ensures (λ k. omega (arith, k, c.if-high-records.false)) c.last_mark-low-2.result c.last_mark-low-2.ensures (λ k. omega (arith, k, c.if-low-gt0.false))

@@ -5,4 +5,4 @@ use Rattle.leaves.proofs.packed.frame_at.Goals as goal
 
 pub returns : goal.returns
 returns c =
-    c.unpack.ensures ∙ ap unpack c.number_at.ensures ∙ sym (unpacked_at c.args.frames.now c.args.f)
+    c.unpack.ensures ∙ ap unpack c.at.ensures ∙ sym (unpacked_at c.args.frames.now c.args.f)

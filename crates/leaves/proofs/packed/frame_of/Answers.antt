@@ -1,5 +1,4 @@
 -- `frame_of` meets its contract: no frame passed has the page.
-use borrow.Author.Rules.{rules}
 use mathlib.Core.Path.{◌≡◌, refl, sym, ap, ◌∙◌}
 use mathlib.Core.List.{List}
 use Prim.Native.Nat.{ℕ, suc, ◌+◌, ◌%◌}
@@ -24,21 +23,21 @@ page-told ws f n e = ap (λ (g : Frame). g.page) (unpacked_at ws f) ∙ unpack_p
 pub loop-f-init : goal.loop-f-init
 loop-f-init c =
     let a = c.args in
-    (c.pass_fours-f.ensures.within, λ k h e. c.pass_fours-f.ensures.before k h (sym (page-told a.frames.now k (at a.frames.now k) refl) ∙ e ∙ sym (add-one a.page)))
+    λ k h e. c.pass_fours-start.ensures.before k h (sym (page-told a.frames.now k (at a.frames.now k) refl) ∙ e ∙ sym (add-one a.page))
 
 pub returns-then-has_page : goal.returns-then-has_page
 returns-then-has_page c =
     let a = c.args in
     sym (find_at a.count (λ f. eqb (frame_at (unpacked a.frames.now) f).page (suc a.page)) 0 c.loop-f.f (omega arith) (omega arith)
-    (eq→T (page-told a.frames.now c.loop-f.f c.number_at.result c.number_at.ensures ∙ said_yes (same (c.number_at.result % 65536) (a.page + 1)) c.has_page.ensures c.if-has_page.true ∙ add-one a.page))
-    (λ k h i t. c.loop-f.invariant.1 k i (eqb→eq _ _ t)))
+    (eq→T (page-told a.frames.now c.loop-f.f c.at.result c.at.ensures ∙ said_yes (same (c.at.result % 65536) (a.page + 1)) c.has_page.ensures c.if-has_page.true ∙ add-one a.page))
+    (λ k h i t. c.loop-f.invariant k i (eqb→eq _ _ t)))
 
 pub loop-f-preserved : goal.loop-f-preserved
 loop-f-preserved c =
     let a = c.args in
-    (search rules, below_more _ _ c.loop-f.invariant.1 (λ e. said_no (same (c.number_at.result % 65536) (a.page + 1)) c.has_page.ensures c.if-has_page.false (sym (page-told a.frames.now c.loop-f.f c.number_at.result c.number_at.ensures) ∙ e ∙ sym (add-one _))))
+    below_more _ _ c.loop-f.invariant (λ e. said_no (same (c.at.result % 65536) (a.page + 1)) c.has_page.ensures c.if-has_page.false (sym (page-told a.frames.now c.loop-f.f c.at.result c.at.ensures) ∙ e ∙ sym (add-one _)))
 
 pub returns : goal.returns
 returns c =
     let a = c.args in
-    sym (find_none a.count (λ f. eqb (frame_at (unpacked a.frames.now) f).page (suc a.page)) 0 (λ k h i t. c.loop-f.invariant.1 k (omega arith) (eqb→eq _ _ t)) ∙ omega arith)
+    sym (find_none a.count (λ f. eqb (frame_at (unpacked a.frames.now) f).page (suc a.page)) 0 (λ k h i t. c.loop-f.invariant k (omega arith) (eqb→eq _ _ t)) ∙ omega arith)

@@ -1,4 +1,3 @@
-use Prim.Native.Nat.{◌-◌}
 use lib.ListN.{length}
 use Rattle.tables.specs.Base.{at}
 use Rattle.model.specs.Payer.{payer}
@@ -7,6 +6,3 @@ use Rattle.leaves.proofs.payer.account_payers.Given as goal
 
 abbrev pub invariant-loop-q : goal.invariant-loop-q
 invariant-loop-q l = Begun (length l.initial.payers) (payer (at l.parents) (at l.limits)) l.q l.payers
-
-abbrev pub decreases-loop-q : goal.decreases-loop-q
-decreases-loop-q l = l.count - l.q

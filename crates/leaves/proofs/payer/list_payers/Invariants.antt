@@ -1,4 +1,3 @@
-use Prim.Native.Nat.{◌-◌}
 use lib.ListN.{length}
 use Rattle.tables.specs.Base.{at}
 use Rattle.model.specs.Payer.{payer}
@@ -7,6 +6,3 @@ use Rattle.leaves.proofs.payer.list_payers.Given as goal
 
 abbrev pub invariant-loop-s : goal.invariant-loop-s
 invariant-loop-s l = Rising (length l.initial.table) (λ i. payer (at l.parents) (at l.limits) (at l.accounts i)) l.s l.table
-
-abbrev pub decreases-loop-s : goal.decreases-loop-s
-decreases-loop-s l = length l.accounts - l.s

@@ -14,7 +14,7 @@ use Rattle.tables.specs.Marks.{bit_of}
 use Rattle.leaves.specs.FreeMap.{told_by, on_free}
 use Rattle.leaves.specs.Search.{first_mark}
 use Rattle.leaves.specs.Picks.{hand_high, hand_low}
-use Rattle.leaves.proofs.Beside.{ahead_most, close_first, close_none, later_first, later_none}
+use Rattle.leaves.proofs.Beside.{close_first, close_none, later_first, later_none}
 use Rattle.leaves.proofs.pool.by_hand.Goals as goal
 
 told : (map : List ℕ) (n i : ℕ) → find n (λ r. eqb (bit_of map r) 1) i ≡ find n (λ r. eqb (told_by map r) FREE) i
@@ -26,14 +26,6 @@ wrapped z m hand r h e f =
     let q = e ∙ told m (z.records - hand) hand in
     let all : hand - 0 ≡ hand = omega arith in
     f ∙ told m (hand - 0) 0 ∙ ap (λ (k : ℕ). find k (λ x. eqb (told_by m x) FREE) 0) all ∙ sym (hand_low z (told_by m) hand h (λ k. omega (arith, q, k)))
-
-pub overflow_add-near : goal.overflow_add-near
-overflow_add-near c =
-    let a = c.args in
-    let m = a.map.now in
-    let n = a.sizes.records in
-    let up = c.ahead.result in
-    omega (arith, c.requires.1, c.requires.2, ahead_most m a.hand up c.ahead.ensures)
 
 pub returns-then-near-records : goal.returns-then-near-records
 returns-then-near-records c =

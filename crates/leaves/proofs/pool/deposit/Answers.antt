@@ -7,8 +7,5 @@ pub returns-then-n-eq0 : goal.returns-then-n-eq0
 unfolding deposited
 returns-then-n-eq0 c = rw c.if-n-eq0.true
 
-pub returns-then-n-room : goal.returns-then-n-room
-returns-then-n-room c = deposited_made c.args.n c.args.pool c.if-n-eq0.false (omega arith)
-
-pub returns-else-n-room : goal.returns-else-n-room
-returns-else-n-room c = deposited_made c.args.n c.args.pool c.if-n-eq0.false (omega arith)
+pub returns : goal.returns
+returns c = deposited_made c.args.n c.args.pool c.if-n-eq0.false (omega arith)

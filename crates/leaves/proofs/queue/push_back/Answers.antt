@@ -6,4 +6,4 @@ use Rattle.leaves.proofs.queue.push_back.Goals as goal
 
 pub returns : goal.returns
 returns c =
-    c.put16.ensures ∙ rw (c.size-n.ensures, add-one c.args.f) (sym (push_back_set c.args.q.now refl c.requires.1.1 c.args.f c.requires.2))
+    c.put.ensures ∙ rw (c.size-n.ensures, add-one c.args.f) (sym (push_back_set c.args.q.now refl c.requires.1.1 c.args.f c.requires.2))

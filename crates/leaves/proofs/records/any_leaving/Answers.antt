@@ -20,23 +20,20 @@ some_next k f b x p q = ap (λ (c : Bool). c || x) p ∙ ap (λ (c : Bool). test
 pub loop-r-init : goal.loop-r-init
 loop-r-init c =
     let a = c.args in
-    (omega arith, omega (arith, c.requires.0), not_so (some a.start (leaver_from a.states.now a.owners.now a.owner a.start)) (λ h. h.2.0 h.1))
+    not_so (some a.start (leaver_from a.states.now a.owners.now a.owner a.start)) (λ h. h.2.0 h.1)
 
 pub loop-r-preserved : goal.loop-r-preserved
 loop-r-preserved c =
     let a = c.args in
     let r = c.loop-r.r in
     let states = a.states.now in
-    let owners = a.owners.now in (
-      omega (arith, c.loop-r.invariant.0),
-      omega arith,
-      some_next r (leaver_from states owners a.owner a.start) _ _ c.loop-r.invariant.2
-          (second_told (non (below r a.start)) (leaver_of states owners a.owner r) _ (λ h. omega (arith, h, c.loop-r.invariant.0))
-          (both (same (at states r) LEAVING) (same (at owners r) a.owner) _ _ (test_same _ _) (test_same _ _))),
-    )
+    let owners = a.owners.now in
+    some_next r (leaver_from states owners a.owner a.start) _ _ c.loop-r.invariant
+    (second_told (non (below r a.start)) (leaver_of states owners a.owner r) _ (λ h. omega (arith, h))
+    (both (same (at states r) LEAVING) (same (at owners r) a.owner) _ _ (test_same _ _) (test_same _ _)))
 
 pub returns : goal.returns
 returns c =
     let a = c.args in
-    let e : c.loop-r.r ≡ a.end = omega (arith, c.loop-r.invariant.1, c.loop-r-test.false) in
-    c.loop-r.invariant.2 ∙ ap (λ (n : ℕ). test (some n (leaver_from a.states.now a.owners.now a.owner a.start))) e
+    let e : c.loop-r.r ≡ a.end = omega arith in
+    c.loop-r.invariant ∙ ap (λ (n : ℕ). test (some n (leaver_from a.states.now a.owners.now a.owner a.start))) e

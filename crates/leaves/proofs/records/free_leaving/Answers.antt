@@ -10,7 +10,6 @@ use Rattle.model.specs.State.{free_count}
 use Rattle.leaves.specs.Counts.{free_most}
 use Rattle.leaves.specs.Freed.{Freeing, leaver_from}
 use Rattle.leaves.proofs.Freeing.{begun, passed_to, ended}
-use Rattle.leaves.proofs.Searched.{least_right, least_both}
 use Rattle.leaves.proofs.records.free_leaving.Goals as goal
 
 -- no record is of a slot past 255
@@ -31,22 +30,22 @@ overflow_add-r c = omega (arith, c.requires.1, c.requires.2.states_long)
 
 pub any_leaving-requires : goal.any_leaving-requires
 any_leaving-requires c =
-    let block : (c.loop-r.r < c.least-end.result) × (c.least-end.result ≤ length c.args.states.now) =
+    let block : (c.loop-r.r < c.min-end.result) × (c.min-end.result ≤ length c.args.states.now) =
     let r = c.loop-r.r in
     let n = length c.args.states.now in
-    (least_both (r + 64) n c.least-end.result r c.least-end.ensures (omega arith) c.loop-r-test.true, least_right (r + 64) n c.least-end.result c.least-end.ensures) in
+    (omega arith, omega arith) in
     let b = block in
     let i = c.loop-r.invariant.2 in
-    let in-states : c.least-end.result ≤ length c.loop-r.states = omega (arith, b.1, i.the_states.long) in
-    let in_owners : c.least-end.result ≤ length c.loop-r.owners = omega (arith, b.1, i.the_owners.long, c.requires.0, c.requires.2.states_long) in
+    let in-states : c.min-end.result ≤ length c.loop-r.states = omega (arith, b.1, i.the_states.long) in
+    let in_owners : c.min-end.result ≤ length c.loop-r.owners = omega (arith, b.1, i.the_owners.long, c.requires.0, c.requires.2.states_long) in
     (omega (arith, b.0), in-states, in_owners)
 
 pub free_range-count-requires : goal.free_range-count-requires
 free_range-count-requires c =
-    let block : (c.loop-r.r < c.least-end.result) × (c.least-end.result ≤ length c.args.states.now) =
+    let block : (c.loop-r.r < c.min-end.result) × (c.min-end.result ≤ length c.args.states.now) =
     let r = c.loop-r.r in
     let n = length c.args.states.now in
-    (least_both (r + 64) n c.least-end.result r c.least-end.ensures (omega arith) c.loop-r-test.true, least_right (r + 64) n c.least-end.result c.least-end.ensures) in
+    (omega arith, omega arith) in
     let b = block in
     let i = c.loop-r.invariant.2 in
     (i.the_owners.long ∙ c.requires.0, c.requires.1, i.fits, omega (arith, b.0), omega (arith, b.1, c.requires.2.states_long))
@@ -58,18 +57,18 @@ overflow_add-count c =
 
 pub loop-r-smaller-then-any_leaving : goal.loop-r-smaller-then-any_leaving
 loop-r-smaller-then-any_leaving c =
-    let block : (c.loop-r.r < c.least-end.result) × (c.least-end.result ≤ length c.args.states.now) =
+    let block : (c.loop-r.r < c.min-end.result) × (c.min-end.result ≤ length c.args.states.now) =
     let r = c.loop-r.r in
     let n = length c.args.states.now in
-    (least_both (r + 64) n c.least-end.result r c.least-end.ensures (omega arith) c.loop-r-test.true, least_right (r + 64) n c.least-end.result c.least-end.ensures) in
+    (omega arith, omega arith) in
     omega (arith, block)
 
 pub loop-r-preserved-then-any_leaving : goal.loop-r-preserved-then-any_leaving
 loop-r-preserved-then-any_leaving c =
-    let block : (c.loop-r.r < c.least-end.result) × (c.least-end.result ≤ length c.args.states.now) =
+    let block : (c.loop-r.r < c.min-end.result) × (c.min-end.result ≤ length c.args.states.now) =
     let r = c.loop-r.r in
     let n = length c.args.states.now in
-    (least_both (r + 64) n c.least-end.result r c.least-end.ensures (omega arith) c.loop-r-test.true, least_right (r + 64) n c.least-end.result c.least-end.ensures) in
+    (omega arith, omega arith) in
     let b = block in
     let n = free_count c.args.sizes (at c.args.states.now) in
     let q : n + c.loop-r.count + c.free_range-count.result ≡ n + (c.loop-r.count + c.free_range-count.result) = omega arith in
@@ -77,21 +76,21 @@ loop-r-preserved-then-any_leaving c =
 
 pub loop-r-smaller : goal.loop-r-smaller
 loop-r-smaller c =
-    let block : (c.loop-r.r < c.least-end.result) × (c.least-end.result ≤ length c.args.states.now) =
+    let block : (c.loop-r.r < c.min-end.result) × (c.min-end.result ≤ length c.args.states.now) =
     let r = c.loop-r.r in
     let n = length c.args.states.now in
-    (least_both (r + 64) n c.least-end.result r c.least-end.ensures (omega arith) c.loop-r-test.true, least_right (r + 64) n c.least-end.result c.least-end.ensures) in
+    (omega arith, omega arith) in
     omega (arith, block)
 
 pub loop-r-preserved : goal.loop-r-preserved
 loop-r-preserved c =
-    let block : (c.loop-r.r < c.least-end.result) × (c.least-end.result ≤ length c.args.states.now) =
+    let block : (c.loop-r.r < c.min-end.result) × (c.min-end.result ≤ length c.args.states.now) =
     let r = c.loop-r.r in
     let n = length c.args.states.now in
-    (least_both (r + 64) n c.least-end.result r c.least-end.ensures (omega arith) c.loop-r-test.true, least_right (r + 64) n c.least-end.result c.least-end.ensures) in
+    (omega arith, omega arith) in
     let b = block in
-    let none = said_no (some c.least-end.result (leaver_from c.loop-r.states c.loop-r.owners c.args.slot c.loop-r.r)) c.any_leaving.ensures c.if-any_leaving.false in
-    (c.loop-r.invariant.0, b.1, passed_to c.loop-r.r c.least-end.result (omega (arith, b.0)) c.loop-r.invariant.2 (λ k h m x o. none (k, m, (λ y. omega (arith, h, y), (x, o)))))
+    let none = said_no (some c.min-end.result (leaver_from c.loop-r.states c.loop-r.owners c.args.slot c.loop-r.r)) c.any_leaving.ensures c.if-any_leaving.false in
+    (c.loop-r.invariant.0, b.1, passed_to c.loop-r.r c.min-end.result (omega (arith, b.0)) c.loop-r.invariant.2 (λ k h m x o. none (k, m, (λ y. omega (arith, h, y), (x, o)))))
 
 pub returns : goal.returns
 returns c = let i = c.loop-r.invariant.2 in

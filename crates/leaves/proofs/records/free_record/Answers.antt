@@ -20,6 +20,6 @@ pub returns : goal.returns
 returns c =
     let a = c.args in (
       c.move_record.ensures,
-      c.put8.ensures,
+      c.put.ensures,
       c.set_mark.ensures ∙ map_freed a.sizes a.states.now a.map.now c.requires.2 a.r c.requires.0 (λ e. omega (arith, c.requires.1, e)) ∙ ap (λ (l : List ℕ). free_map_table a.sizes (at l)) (sym c.move_record.ensures),
     )

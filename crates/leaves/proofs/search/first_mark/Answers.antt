@@ -21,9 +21,6 @@ module _ (map : List ℕ) (a e p w : ℕ) (first : p ≡ find (32 - a % 32) (λ 
 pub returns-then-from-to : goal.returns-then-from-to
 returns-then-from-to c = let a = c.args in first_empty a.map.now a.from a.to c.if-from-to.true
 
-pub overflow_add-first : goal.overflow_add-first
-overflow_add-first c = omega (arith, c.if-from-to.false, c.if-place-lt32.true, c.requires.1)
-
 pub returns-then-place-lt32 : goal.returns-then-place-lt32
 returns-then-place-lt32 c =
     let a = c.args in
@@ -31,29 +28,13 @@ returns-then-place-lt32 c =
     let f = a.from in
     let p = c.lowest-place.result in
     let q = c.lowest-place.ensures in
-    c.least.ensures ∙ first_least m f a.to (f / 32 * 32 + p) (omega (arith, up_least m (f / 32) (f % 32) p (omega arith) q)) (omega (arith, c.if-from-to.false)) (λ i h g. up_off m (f / 32) (f % 32) p (omega arith) q i (omega (arith, h)) g) (up_on m (f / 32) (f % 32) p (omega arith) q c.if-place-lt32.true)
-
-pub overflow_add-first-2 : goal.overflow_add-first-2
-overflow_add-first-2 c = omega (arith, c.if-from-to.false, c.requires.1)
-
-pub next_word-w-requires : goal.next_word-w-requires
-next_word-w-requires c = (omega (arith, c.if-from-to.false), omega (arith, c.requires.0))
+    c.min.ensures ∙ first_least m f a.to (f / 32 * 32 + p) (omega (arith, up_least m (f / 32) (f % 32) p (omega arith) q)) (omega (arith, c.if-from-to.false)) (λ i h g. up_off m (f / 32) (f % 32) p (omega arith) q i (omega (arith, h)) g) (up_on m (f / 32) (f % 32) p (omega arith) q c.if-place-lt32.true)
 
 pub returns-then-w-end : goal.returns-then-w-end
 returns-then-w-end c =
     let a = c.args in
     let w = c.next_word-w.result in
     first_none a.map.now a.from a.to (omega (arith, c.if-from-to.false)) (λ i h b. words-passed a.map.now a.from ((a.to + 31) / 32) c.lowest-place.result w c.lowest-place.ensures (λ k. omega (arith, k, c.if-place-lt32.false)) c.next_word-w.ensures i h (omega (arith, b, c.if-w-end.true)))
-
-pub overflow_mul-w : goal.overflow_mul-w
-overflow_mul-w c =
-    let inside : c.next_word-w.result < (c.args.to + 31) / 32 = omega (arith, c.if-w-end.false) in
-    omega (arith, inside, c.requires.1)
-
-pub bounds-map-w : goal.bounds-map-w
-bounds-map-w c =
-    let inside : c.next_word-w.result < (c.args.to + 31) / 32 = omega (arith, c.if-w-end.false) in
-    omega (arith, inside, c.requires.0)
 
 pub overflow_add-w : goal.overflow_add-w
 overflow_add-w c =
@@ -72,5 +53,5 @@ returns c =
     let q = c.lowest.ensures in
     let off = words-passed m a.from end c.lowest-place.result w c.lowest-place.ensures (λ b. omega (arith, b, c.if-place-lt32.false)) nw in
     let some = up_more m (a.from / 32 + 1) end w nw inside in
-    c.least-2.ensures ∙ first_least m a.from a.to (w * 32 + p) (omega (arith, up_from m (a.from / 32 + 1) end w nw)) (omega (arith, c.if-from-to.false)) (λ i h b. elim (dec_lt i (w * 32)) [ yes d ↦ off i h d | no d ↦ up_off m w 0 p (omega arith) q i (omega arith) b ])
-    (up_on m w 0 p (omega arith) q (up_some m w some (c.shared_slice_known-3-1.given w).fits p q))
+    c.min-2.ensures ∙ first_least m a.from a.to (w * 32 + p) (omega (arith, up_from m (a.from / 32 + 1) end w nw)) (omega (arith, c.if-from-to.false)) (λ i h b. elim (dec_lt i (w * 32)) [ yes d ↦ off i h d | no d ↦ up_off m w 0 p (omega arith) q i (omega arith) b ])
+    (up_on m w 0 p (omega arith) q (up_some m w some (c.type_inv.map w).fits p q))

@@ -2,7 +2,7 @@
 use mathlib.Core.Path.{◌≡◌, sym, ◌∙◌}
 use Prim.Native.Nat.{ℕ, suc, ◌+◌, ◌-◌, ◌*◌, ◌%◌, ◌^◌, ◌<◌}
 use native.Mathlib.Omega.{arith}
-use lib.Count.{count_leading_zeros, leading_le}
+use lib.Count.{count_leading_zeros}
 use lib.Dec.{eqb, eqb→eq}
 use Rattle.tables.specs.Base.{find}
 use Rattle.tables.specs.Bits.{bit}
@@ -31,9 +31,6 @@ module _ (v b : ℕ) (inside : b < 32) where
 
 pub returns-then-rest-eq0 : goal.returns-then-rest-eq0
 returns-then-rest-eq0 c = none-on c.args.word c.args.place c.requires c.if-rest-eq0.true
-
-pub overflow_cast-result : goal.overflow_cast-result
-overflow_cast-result c = omega (arith, leading_le 32 (rest c.args.word c.args.place c.requires))
 
 pub returns : goal.returns
 returns c = first_on c.args.word c.args.place c.requires c.if-rest-eq0.false

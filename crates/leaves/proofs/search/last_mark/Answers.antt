@@ -34,9 +34,6 @@ no-higher w p b h = let e : w * 32 ≤ b = omega arith in omega (arith, e)
 pub returns-then-from-to : goal.returns-then-from-to
 returns-then-from-to c = let a = c.args in last_empty a.map.now a.from a.to c.if-from-to.true
 
-pub overflow_sub-to : goal.overflow_sub-to
-overflow_sub-to c = omega (arith, c.if-from-to.false, c.if-passed-place.true)
-
 pub returns-then-passed-place : goal.returns-then-passed-place
 returns-then-passed-place c =
     let a = c.args in
@@ -46,28 +43,12 @@ returns-then-passed-place c =
     let q = c.highest-passed.ensures in
     let l = c.if-passed-place.true in
     let same : (b - 1) / 32 * 32 + ((b - 1) % 32 - p) ≡ b - p - 1 = omega (arith, c.if-from-to.false, l) in
-    c.most.ensures ∙ last_most m a.from b (b - p) (omega arith) (omega (arith, c.if-from-to.false)) (λ i g k. down_off m ((b - 1) / 32) ((b - 1) % 32) p (omega arith) q i (omega (arith, g, c.if-from-to.false)) (omega (arith, k))) (rw same at (down_on m ((b - 1) / 32) ((b - 1) % 32) p (omega arith) q l))
-
-pub last_word-w-requires : goal.last_word-w-requires
-last_word-w-requires c = (omega (arith, c.if-from-to.false), omega (arith, c.requires.0, c.if-from-to.false))
+    c.max.ensures ∙ last_most m a.from b (b - p) (omega arith) (omega (arith, c.if-from-to.false)) (λ i g k. down_off m ((b - 1) / 32) ((b - 1) % 32) p (omega arith) q i (omega (arith, g, c.if-from-to.false)) (omega (arith, k))) (rw same at (down_on m ((b - 1) / 32) ((b - 1) % 32) p (omega arith) q l))
 
 pub returns-then-w-first : goal.returns-then-w-first
 returns-then-w-first c =
     let a = c.args in
     last_none a.map.now a.from a.to (omega (arith, c.if-from-to.false)) (λ i k b. words-passed a.map.now (a.from / 32) a.to c.highest-passed.result c.last_word-w.result (omega (arith, c.if-from-to.false)) c.highest-passed.ensures c.if-passed-place.false c.last_word-w.ensures i (omega (arith, k, c.if-w-first.true)) b)
-
-pub overflow_mul-w : goal.overflow_mul-w
-overflow_mul-w c =
-    let below : c.last_word-w.result ≤ (c.args.to - 1) / 32 = down_to c.args.map.now (c.args.from / 32) ((c.args.to - 1) / 32) c.last_word-w.result c.last_word-w.ensures in
-    omega (arith, below, c.requires.1)
-
-pub overflow_sub-w : goal.overflow_sub-w
-overflow_sub-w c = omega (arith, c.if-w-first.false)
-
-pub bounds-map-w : goal.bounds-map-w
-bounds-map-w c =
-    let below : c.last_word-w.result ≤ (c.args.to - 1) / 32 = down_to c.args.map.now (c.args.from / 32) ((c.args.to - 1) / 32) c.last_word-w.result c.last_word-w.ensures in
-    omega (arith, below, c.if-w-first.false, c.requires.0)
 
 pub overflow_sub-w-2 : goal.overflow_sub-w-2
 overflow_sub-w-2 c = omega (arith, c.if-w-first.false, down_most c.args.map.now (c.last_word-w.result - 1) 31 c.highest.result (omega arith) c.highest.ensures)
@@ -83,8 +64,8 @@ returns c =
     let p = c.highest.result in
     let q = c.highest.ensures in
     let off = words-passed m (a.from / 32) b c.highest-passed.result w (omega (arith, c.if-from-to.false)) c.highest-passed.ensures c.if-passed-place.false nw in
-    let l = down_some m (w - 1) (down_more m (a.from / 32) ((b - 1) / 32) w nw c.if-w-first.false) (c.shared_slice_known-3-1.given (w - 1)).fits p q in
+    let l = down_some m (w - 1) (down_more m (a.from / 32) ((b - 1) / 32) w nw c.if-w-first.false) (c.type_inv.map (w - 1)).fits p q in
     let pos : 0 < w = omega (arith, c.if-w-first.false) in
     let same = at_last w p pos l in
-    c.most-2.ensures ∙ last_most m a.from b (w * 32 - p) (no-higher w p b below) (omega (arith, c.if-from-to.false)) (λ i d f. elim (dec_lt i (w * 32)) [ yes y ↦ down_off m (w - 1) 31 p (omega arith) q i (lower w p i pos d) (upper w i pos y) | no y ↦ off i (omega (arith, y)) f ])
+    c.max-2.ensures ∙ last_most m a.from b (w * 32 - p) (no-higher w p b below) (omega (arith, c.if-from-to.false)) (λ i d f. elim (dec_lt i (w * 32)) [ yes y ↦ down_off m (w - 1) 31 p (omega arith) q i (lower w p i pos d) (upper w i pos y) | no y ↦ off i (omega (arith, y)) f ])
     (rw same at (down_on m (w - 1) 31 p (omega arith) q l))

@@ -1,10 +1,5 @@
-use mathlib.Core.Path.{◌≡◌}
-use Prim.Native.Nat.{ℕ, ◌<◌, ◌≤◌}
-use Rattle.tables.specs.Base.{at}
+use Rattle.leaves.specs.Search.{Unmarked}
 use Rattle.leaves.proofs.search.last_word.Given as goal
 
-abbrev pub invariant-loop-w : goal.invariant-loop-w
-invariant-loop-w l = (l.from ≤ l.w) × (l.w ≤ l.to) × ((i : ℕ) → l.w ≤ i → i < l.to → at l.map i ≡ 0)
-
-abbrev pub decreases-loop-w : goal.decreases-loop-w
-decreases-loop-w l = l.w
+abbrev pub invariant-loop-last : goal.invariant-loop-last
+invariant-loop-last l = Unmarked l.map l.last l.to

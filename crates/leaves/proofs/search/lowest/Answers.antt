@@ -2,7 +2,7 @@
 use mathlib.Core.Path.{◌≡◌, sym, ◌∙◌}
 use Prim.Native.Nat.{ℕ, ◌+◌, ◌-◌, ◌/◌, ◌^◌, ◌<◌}
 use native.Mathlib.Omega.{arith}
-use lib.Count.{count_trailing_zeros, trailing_le}
+use lib.Count.{count_trailing_zeros}
 use lib.Dec.{eqb, eqb→eq}
 use Rattle.tables.specs.Base.{find}
 use Rattle.tables.specs.Bits.{bit}
@@ -25,12 +25,6 @@ module _ (v b : ℕ) (inside : b < 32) where
 
 pub returns-then-rest-eq0 : goal.returns-then-rest-eq0
 returns-then-rest-eq0 c = none-on c.args.word c.args.place c.requires c.if-rest-eq0.true
-
-pub overflow_cast-result : goal.overflow_cast-result
-overflow_cast-result c = omega (arith, trailing_le 32 (c.args.word / 2 ^ c.args.place))
-
-pub overflow_add-result : goal.overflow_add-result
-overflow_add-result c = omega (arith, c.requires, trailing_le 32 (c.args.word / 2 ^ c.args.place))
 
 pub returns : goal.returns
 returns c = first_on c.args.word c.args.place c.requires c.ranges.word.fits c.if-rest-eq0.false

@@ -1,8 +1,6 @@
--- `clear_slot` meets its contract: the slot's entries are those of a range.
-use mathlib.Core.Path.{refl, ◌∙◌}
-use Rattle.tables.specs.StoreLoops.{store_same, part_inside, inside_part}
+-- `clear_slot` meets its contract: a slot's entries filled with 0 are the store of zeros.
+use Rattle.leaves.proofs.Runs.{part_cleared}
 use Rattle.leaves.proofs.slots.clear_slot.Goals as goal
 
 pub returns : goal.returns
-returns c = let a = c.args in
-    c.clear_range.ensures ∙ store_same a.to.now _ _ _ _ (λ i h p. inside_part a.pages a.slot c.requires.0 i p) (λ i h p. part_inside a.pages a.slot c.requires.0 i p) (λ i h p. refl)
+returns c = let a = c.args in part_cleared a.pages a.slot a.to.now c.fill.new.self c.requires.0 c.requires.1 (c.fill.ensures.after (λ y e. e))

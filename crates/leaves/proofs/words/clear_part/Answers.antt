@@ -1,14 +1,6 @@
--- `clear_part` meets its contract: the turns of its loop are those of the store.
-use mathlib.Core.Path.{refl}
-use native.Mathlib.Omega.{arith}
-use Rattle.tables.specs.StoreLoops.{turned_none, turn_on, turned_all, part_inside, inside_part}
+-- `clear_part` meets its contract: a part filled with 0 is the store of zeros.
+use Rattle.leaves.proofs.Runs.{part_cleared}
 use Rattle.leaves.proofs.words.clear_part.Goals as goal
 
-pub loop-i-init : goal.loop-i-init
-loop-i-init c = let a = c.args in (omega arith, omega arith, turned_none _ _ _ _ (λ i h. omega (arith, part_inside a.size a.part c.requires.0 i h)))
-
-pub loop-i-preserved : goal.loop-i-preserved
-loop-i-preserved c = let l = c.loop-i in (omega arith, omega arith, turn_on l.i l.invariant.2 (omega arith) (inside_part c.args.size c.args.part c.requires.0 l.i (omega arith, omega arith)) 0 refl)
-
 pub returns : goal.returns
-returns c = turned_all _ c.loop-i.invariant.2 (λ i h k. omega (arith, part_inside c.args.size c.args.part c.requires.0 i k))
+returns c = let a = c.args in part_cleared a.size a.part a.words.now c.fill.new.self c.requires.0 c.requires.1 (c.fill.ensures.after (λ y e. e))

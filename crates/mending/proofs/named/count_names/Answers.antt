@@ -1,48 +1,37 @@
--- `count_names` meets its contract: the invariant is `Tally`, of the first i entries.
+-- `count_names` meets its contract: the invariant is `Tally`, of the entries passed.
 use mathlib.Core.Path.{◌≡◌}
-use Prim.Native.Nat.{◌-◌}
+use Prim.Native.Nat.{ℕ, suc, ◌-◌}
 use native.Mathlib.Omega.{arith}
-use lib.ListN.{length}
 use Rattle.tables.specs.Base.{at}
-use Rattle.mending.specs.Names.{tally_none, tally_pass, tally_one, tally_full, tally_by}
+use Rattle.mending.specs.Names.{tally_pass, tally_one, tally_full, tally_by}
 use Rattle.mending.proofs.named.count_names.Goals as goal
-use Rattle.mending.proofs.named.count_names.Goals.{then-entry-ne0+then-named-entry-lt2, then-entry-ne0+else-named-entry-lt2, else-entry-ne0}
+use Rattle.mending.proofs.named.count_names.Goals.{then-e-ne0+then-named-e-lt2, else-e-ne0, else-e-ne0-via-then-e-ne0+else-named-e-lt2, else-e-ne0-via-else-e-ne0}
 
-pub loop-i-init : goal.loop-i-init
-loop-i-init c = (omega arith, tally_none (at c.args.maps.now) c.args.named.now c.requires.1)
+pub bounds-named-e : goal.bounds-named-e
+bounds-named-e c =
+    omega (arith, c.loop-entry.invariant.long, c.from-e.ensures, c.requires.0 c.loop-entry.entry-index c.loop-entry-test.true (c.from-e.result - 1) (omega (arith, c.from-e.ensures, c.if-e-ne0.true)))
 
-pub overflow_cast-entry : goal.overflow_cast-entry
-overflow_cast-entry c = omega arith
+pub bounds-named-e-then-named-e-lt2 : goal.bounds-named-e-then-named-e-lt2
+bounds-named-e-then-named-e-lt2 c =
+    omega (arith, c.loop-entry.invariant.long, c.from-e.ensures, c.requires.0 c.loop-entry.entry-index c.loop-entry-test.true (c.from-e.result - 1) (omega (arith, c.from-e.ensures, c.if-e-ne0.true)))
 
-pub bounds-named-entry : goal.bounds-named-entry
-bounds-named-entry c =
-    omega (arith, c.loop-i.invariant.1.long, c.requires.0 c.loop-i.i (omega arith) (at c.args.maps.now c.loop-i.i - 1) (omega (arith, c.if-entry-ne0.true)))
+pub bounds-named-e-then-named-e-lt2-2 : goal.bounds-named-e-then-named-e-lt2-2
+bounds-named-e-then-named-e-lt2-2 c =
+    omega (arith, c.loop-entry.invariant.long, c.from-e.ensures, c.requires.0 c.loop-entry.entry-index c.loop-entry-test.true (c.from-e.result - 1) (omega (arith, c.from-e.ensures, c.if-e-ne0.true)))
 
-pub bounds-named-entry-then-named-entry-lt2 : goal.bounds-named-entry-then-named-entry-lt2
-bounds-named-entry-then-named-entry-lt2 c =
-    omega (arith, c.loop-i.invariant.1.long, c.requires.0 c.loop-i.i (omega arith) (at c.args.maps.now c.loop-i.i - 1) (omega (arith, c.if-entry-ne0.true)))
-
-pub overflow_add-named : goal.overflow_add-named
-overflow_add-named c =
-    omega (arith, c.if-named-entry-lt2.true)
-
-pub bounds-named-entry-then-named-entry-lt2-2 : goal.bounds-named-entry-then-named-entry-lt2-2
-bounds-named-entry-then-named-entry-lt2-2 c =
-    omega (arith, c.loop-i.invariant.1.long, c.requires.0 c.loop-i.i (omega arith) (at c.args.maps.now c.loop-i.i - 1) (omega (arith, c.if-entry-ne0.true)))
-
-pub loop-i-preserved : goal.loop-i-preserved
-loop-i-preserved c =
-    let i = c.loop-i.i in
-    let r = at c.args.maps.now i - 1 in (
-      omega arith,
-      elim c.if-entry-ne0.branch [
-        | then-entry-ne0+then-named-entry-lt2 w ↦ tally_by (tally_one c.loop-i.invariant.1 r (omega (arith, w.if-entry-ne0.true)) (c.requires.0 i (omega arith) r (omega (arith, w.if-entry-ne0.true))) w.if-named-entry-lt2.true) w.named-is
-        | then-entry-ne0+else-named-entry-lt2 w ↦ tally_by (tally_full c.loop-i.invariant.1 r (omega (arith, w.if-entry-ne0.true)) (c.requires.0 i (omega arith) r (omega (arith, w.if-entry-ne0.true))) (λ h. omega (arith, h, w.if-named-entry-lt2.false))) w.named-is
-        | else-entry-ne0 w ↦ tally_by (tally_pass c.loop-i.invariant.1 (omega (arith, w.if-entry-ne0.false))) w.named-is
-      ],
-    )
-
-pub returns : goal.returns
-returns c =
-    let e : c.loop-i.i ≡ length c.args.maps.now = omega (arith, c.loop-i.invariant.0) in
-    rw e at c.loop-i.invariant.1
+pub loop-entry-preserved : goal.loop-entry-preserved
+loop-entry-preserved c =
+    let k = c.loop-entry.entry-index in
+    let r : ℕ = c.from-e.result - 1 in
+    let t = c.loop-entry.invariant in
+    elim c.if-e-ne0.branch [
+      | then-e-ne0+then-named-e-lt2 w ↦
+          let m : at c.args.maps.now k ≡ suc r = omega (arith, c.from-e.ensures, w.if-e-ne0.true) in
+          tally_by (tally_one t r m (c.requires.0 k c.loop-entry-test.true r m) w.if-named-e-lt2.true) w.named-is
+      | else-e-ne0 w ↦ elim w.else-e-ne0.branch [
+        | else-e-ne0-via-then-e-ne0+else-named-e-lt2 v ↦
+            let m : at c.args.maps.now k ≡ suc r = omega (arith, c.from-e.ensures, v.if-e-ne0.true) in
+            tally_by (tally_full t r m (c.requires.0 k c.loop-entry-test.true r m) (λ h. omega (arith, h, v.if-named-e-lt2.false))) w.named-is
+        | else-e-ne0-via-else-e-ne0 v ↦ tally_by (tally_pass t (omega (arith, c.from-e.ensures, v.if-e-ne0.false))) w.named-is
+      ]
+    ]

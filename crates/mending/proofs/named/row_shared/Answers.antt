@@ -3,28 +3,9 @@ use Prim.Native.Nat.{◌+◌, ◌*◌}
 use native.Mathlib.Omega.{arith}
 use Rattle.tables.specs.Base.{at}
 use Rattle.tables.specs.Turn.{said_yes, said_no}
-use Rattle.mending.specs.Passes.{of_shared, row_none, row_next, row_all, Lost, left, lost_as, lost_by}
+use Rattle.mending.specs.Passes.{of_shared, row_next, Lost, left, lost_as, lost_by}
 use Rattle.mending.proofs.named.row_shared.Goals as goal
 use Rattle.mending.proofs.named.row_shared.Goals.{then-is_shared, else-is_shared}
-
-pub overflow_mul-start : goal.overflow_mul-start
-overflow_mul-start c = omega (arith, c.requires.inside, c.requires.few)
-
-pub loop-p-init : goal.loop-p-init
-loop-p-init c = row_none _ _ _ _ _ _ _
-
-pub overflow_add-start : goal.overflow_add-start
-overflow_add-start c = omega (arith, c.requires.inside, c.requires.few)
-
-pub offset_bounds-maps-start : goal.offset_bounds-maps-start
-offset_bounds-maps-start c = omega (arith, c.requires.inside, c.requires.few)
-
-pub bounds-maps-start : goal.bounds-maps-start
-bounds-maps-start c =
-    omega (arith, c.requires.inside, c.loop-p.invariant.long)
-
-pub overflow_add-start-then-is_shared : goal.overflow_add-start-then-is_shared
-overflow_add-start-then-is_shared c = omega (arith, c.requires.inside, c.requires.few)
 
 pub lose_entry-count-requires : goal.lose_entry-count-requires
 lose_entry-count-requires c =
@@ -38,6 +19,3 @@ loop-p-preserved c =
       | else-is_shared w ↦ left (said_no (of_shared c.args.named.now (at c.loop-p.maps i)) c.is_shared.ensures w.if-is_shared.false) w.maps-is w.changes-is w.count-is
     ] in
     row_next c.requires.inside (omega arith) (λ e h o. omega (arith, h.1, o)) gone c.loop-p.invariant
-
-pub returns : goal.returns
-returns c = row_all (omega arith) c.loop-p.invariant

@@ -4,7 +4,7 @@ use native.Mathlib.Omega.{arith}
 use lib.ListN.{length-replicate}
 use Rattle.mending.specs.Passes.{of_shared}
 use Rattle.mending.specs.Names.{zeros}
-use Rattle.mending.specs.EntrySteps.{maps_none, maps_next, maps_all, row_given, still_5, agrees_5}
+use Rattle.mending.specs.EntrySteps.{maps_none, maps_next, maps_all, still_5, agrees_5}
 use Rattle.mending.proofs.steps.drop_shared.Goals as goal
 
 pub count_names-requires : goal.count_names-requires
@@ -13,10 +13,6 @@ count_names-requires c =
 
 pub loop-s-init : goal.loop-s-init
 loop-s-init c = maps_none _ _ _ _ _
-
-pub row_shared-count-requires : goal.row_shared-count-requires
-row_shared-count-requires c =
-    row_given c.requires.0 c.loop-s.s c.loop-s-test.true c.loop-s.invariant.long c.loop-s.invariant.list_long c.loop-s.invariant.kept
 
 pub loop-s-preserved : goal.loop-s-preserved
 loop-s-preserved c =

@@ -17,10 +17,6 @@ pub loop-s-init : goal.loop-s-init
 loop-s-init c =
     pack_begun c.args.sizes 0 (packed c.args.numbers.now c.args.accounts.now c.args.maps.now) c.args.changes.now c.args.n
 
-pub is_doubled-requires : goal.is_doubled-requires
-is_doubled-requires c =
-    omega (arith, c.loop-s.invariant.numbers_long, c.requires.long.numbers, c.loop-s-test.true)
-
 pub lose_number-count-requires : goal.lose_number-count-requires
 lose_number-count-requires c =
     let h = said_yes (doubled_in c.loop-s.numbers c.loop-s.s) c.is_doubled.ensures c.if-is_doubled.true in

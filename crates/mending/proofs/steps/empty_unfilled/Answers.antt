@@ -10,18 +10,6 @@ pub loop-s-init : goal.loop-s-init
 loop-s-init c =
     pack_begun c.args.sizes 1 (packed c.args.numbers.now c.args.accounts.now c.args.maps.now) c.args.changes.now c.args.n
 
-pub offset_bounds-numbers-s : goal.offset_bounds-numbers-s
-offset_bounds-numbers-s c =
-    omega (arith, c.requires.within.slots_most)
-
-pub bounds-numbers-s : goal.bounds-numbers-s
-bounds-numbers-s c =
-    omega (arith, c.requires.long.numbers)
-
-pub account_above-count-requires : goal.account_above-count-requires
-account_above-count-requires c =
-    (omega (arith, c.loop-s.invariant.accounts_long, c.requires.long.accounts, c.loop-s-test.true), omega (arith, c.requires.within.slots_most, c.loop-s-test.true), omega (arith, c.requires.within.pages_most), omega (arith, pack_room c.requires c.loop-s.invariant))
-
 pub row_above-count-requires : goal.row_above-count-requires
 row_above-count-requires c =
     let after = lost_room c.account_above-count.ensures (omega (arith, c.loop-s.invariant.accounts_long, c.requires.long.accounts, c.loop-s-test.true)) (λ g o. omega (arith, g, o)) (filled c.loop-s.maps) (omega (arith, pack_room c.requires c.loop-s.invariant)) in

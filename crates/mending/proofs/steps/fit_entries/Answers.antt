@@ -1,19 +1,10 @@
 -- `fit_entries` meets its contract: the invariant is `MapsRun`, the pass before slot s.
-use native.Mathlib.Omega.{arith}
 use Rattle.mending.specs.Passes.{above}
-use Rattle.mending.specs.EntrySteps.{maps_none, maps_next, maps_all, row_given, still_4, agrees_4}
+use Rattle.mending.specs.EntrySteps.{maps_none, maps_next, maps_all, still_4, agrees_4}
 use Rattle.mending.proofs.steps.fit_entries.Goals as goal
-
-pub overflow_cast-most : goal.overflow_cast-most
-overflow_cast-most c =
-    omega (arith, c.requires.within.records_most)
 
 pub loop-s-init : goal.loop-s-init
 loop-s-init c = maps_none _ _ _ _ _
-
-pub row_above-count-requires : goal.row_above-count-requires
-row_above-count-requires c =
-    row_given c.requires c.loop-s.s c.loop-s-test.true c.loop-s.invariant.long c.loop-s.invariant.list_long c.loop-s.invariant.kept
 
 pub loop-s-preserved : goal.loop-s-preserved
 loop-s-preserved c =

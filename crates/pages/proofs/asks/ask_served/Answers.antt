@@ -1,9 +1,12 @@
 -- `ask_served` meets its contract: the slot's questions, then the frame's.
-use mathlib.Core.Path.{ap, sym, ◌∙◌}
+use Rattle.std.specs.Prelude.{Result, Ok, Err, IfOk}
+use Rattle.std.proofs.lemmas.Result.{err_from_is_err_and}
+use mathlib.Core.Path.{◌≡◌, refl, ap, sym, ◌∙◌}
 use Prim.Native.Nat.{ℕ}
 use Rattle.tables.specs.Laws.{T→true}
 use Rattle.tables.specs.Questions.{first_no, all_yes}
-use Rattle.tables.specs.Also.{also_yes, also_no}
+use Rattle.model.specs.declared.refusals.Refusal.{Refusal}
+use Rattle.model.specs.Refusals.{said, no_also, yes_also}
 use Rattle.model.specs.State.{page_of}
 use Rattle.model.specs.Laws.Bounds.{page_most}
 use Rattle.leaves.specs.Asks.{slot_asked}
@@ -13,32 +16,41 @@ use Rattle.pages.specs.Asks.{frame_asked}
 use Rattle.pages.proofs.ItsFrame.{its_in}
 use Rattle.pages.proofs.asks.ask_served.Goals as goal
 
-pub returns-then-no-ne0 : goal.returns-then-no-ne0
-returns-then-no-ne0 c = let n = c.ask_slot-no.ensures in record {
-  answer = n ∙ sym (also_no _ _ (λ e. c.if-no-ne0.true (n ∙ e)));
-  given = λ e. absurd (c.if-no-ne0.true e);
-}
+-- what holds where nothing is refused holds beside the frame
+beside : {P Q : Type 0} (r : Result ℕ Refusal) (x : ℕ) → (said r ≡ 0 → P × Q) → IfOk r (λ f. f ≡ x) → IfOk r (λ f. P × (f ≡ x) × Q)
+beside (Ok f) x h e = let y = h refl in (y.0, e, y.1)
+beside (Err _) x h e = tt
+
+pub returns-in_err-ask_slot : goal.returns-in_err-ask_slot
+returns-in_err-ask_slot c =
+    let a = c.args in
+    let p = err_from_is_err_and c.from_residual.result c.from_residual.ensures.1 in
+    record {
+      answer = rw (p.1, p.2) (no_also _ (slot_asked a.in_range a.slot a.numbers.now a.active.now) (frame_asked a.reads a.sizes (frames_given a.sizes a.frames) (page_of a.sizes a.slot a.page)) c.in_err-ask_slot.ensures);
+      given = rw p.1 tt;
+    }
 
 pub page_of-i-requires : goal.page_of-i-requires
 page_of-i-requires c =
-    let t = all_yes 0 (slot_asked c.args.in_range c.args.slot c.args.numbers.now c.args.active.now) tt (sym c.ask_slot-no.ensures ∙ c.if-no-ne0.false) in
+    let t = all_yes 0 (slot_asked c.args.in_range c.args.slot c.args.numbers.now c.args.active.now) tt (sym c.in_ok-ask_slot.ensures) in
     let r = c.requires.1 (T→true _ t.0) in
     (c.requires.0.sizes, r.0, r.1)
 
 pub ask_frame-requires : goal.ask_frame-requires
 ask_frame-requires c =
-    let t = all_yes 0 (slot_asked c.args.in_range c.args.slot c.args.numbers.now c.args.active.now) tt (sym c.ask_slot-no.ensures ∙ c.if-no-ne0.false) in
+    let t = all_yes 0 (slot_asked c.args.in_range c.args.slot c.args.numbers.now c.args.active.now) tt (sym c.in_ok-ask_slot.ensures) in
     let r = c.requires.1 (T→true _ t.0) in
     (c.requires.0, rw c.page_of-i.ensures (page_most c.args.sizes c.requires.0.sizes c.args.slot c.args.page r.0 r.1))
 
 pub returns : goal.returns
 returns c =
-    let e = c.ask_frame.ensures.answer ∙ ap (λ (j : ℕ). first_no (frame_asked c.args.reads c.args.sizes (frames_given c.args.sizes c.args.frames) j)) c.page_of-i.ensures in
-    let t = sym c.ask_slot-no.ensures ∙ c.if-no-ne0.false in record {
-      answer = e ∙ sym (also_yes 0 (slot_asked c.args.in_range c.args.slot c.args.numbers.now c.args.active.now) _ tt t);
-      given = λ h. (
-        T→true _ (all_yes 0 (slot_asked c.args.in_range c.args.slot c.args.numbers.now c.args.active.now) tt t).0,
-        c.ask_frame.ensures.frame ∙ ap (frame_in c.args.sizes.frames (unpacked c.args.frames.now)) c.page_of-i.ensures,
-        its_in c.args.sizes (unpacked c.args.frames.now) (page_of c.args.sizes c.args.slot c.args.page) (all_yes 0 (frame_asked c.args.reads c.args.sizes (frames_given c.args.sizes c.args.frames) (page_of c.args.sizes c.args.slot c.args.page)) tt (sym e ∙ h)).0,
-      );
+    let a = c.args in
+    let slot = slot_asked a.in_range a.slot a.numbers.now a.active.now in
+    let framed = frame_asked a.reads a.sizes (frames_given a.sizes a.frames) (page_of a.sizes a.slot a.page) in
+    let e = c.ask_frame.ensures.answer ∙ ap (λ (j : ℕ). first_no (frame_asked a.reads a.sizes (frames_given a.sizes a.frames) j)) c.page_of-i.ensures in
+    record {
+      answer = e ∙ yes_also slot framed tt c.in_ok-ask_slot.ensures;
+      given = beside c.ask_frame.result (frame_in a.sizes.frames (unpacked a.frames.now) (page_of a.sizes a.slot a.page))
+          (λ h. (T→true _ (all_yes 0 slot tt (sym c.in_ok-ask_slot.ensures)).0, its_in a.sizes (unpacked a.frames.now) (page_of a.sizes a.slot a.page) (all_yes 0 framed tt (sym e ∙ h)).0))
+          (rw (sym c.page_of-i.ensures) c.ask_frame.ensures.frame);
     }

@@ -18,28 +18,24 @@ returns-then-charged c =
       used = pay_none a.charged (charged1 a.used.now who) a.used.now c.if-charged.true;
     }
 
-pub overflow_add-count : goal.overflow_add-count
-overflow_add-count c =
-    omega arith
-
-pub returns-then-count-at16 : goal.returns-then-count-at16
-returns-then-count-at16 c =
+pub returns-then-count-at : goal.returns-then-count-at
+returns-then-count-at c =
     let who : ℕ = who_pays c.args.accounts.now c.args.limits.now c.args.parents.now c.args.slot in
     let a = c.args in
     let eq = c.slot_payer-payer.ensures in
-    let eu = c.at16-count.ensures ∙ ap (at a.used.now) eq in
-    let el = c.at16.ensures ∙ ap (at a.limits.now) eq in record {
-      told = pay_yes a.charged c.if-charged.false (at a.used.now who) (at a.limits.now who) (omega (arith, c.if-count-at16.true, el, eu));
-      used = c.put16.ensures ∙ (λ i. set a.used.now (eq i) (eu i + 1)) ∙ pay_more a.charged (charged1 a.used.now who) a.used.now c.if-charged.false;
+    let eu = c.at-count.ensures ∙ ap (at a.used.now) eq in
+    let el = c.at.ensures ∙ ap (at a.limits.now) eq in record {
+      told = pay_yes a.charged c.if-charged.false (at a.used.now who) (at a.limits.now who) (omega (arith, c.if-count-at.true, el, eu));
+      used = c.put.ensures ∙ (λ i. set a.used.now (eq i) (eu i + 1)) ∙ pay_more a.charged (charged1 a.used.now who) a.used.now c.if-charged.false;
     }
 
 pub returns : goal.returns
 returns c =
     let who : ℕ = who_pays c.args.accounts.now c.args.limits.now c.args.parents.now c.args.slot in
     let a = c.args in
-    let eu = c.at16-count.ensures ∙ ap (at a.used.now) c.slot_payer-payer.ensures in
-    let el = c.at16.ensures ∙ ap (at a.limits.now) c.slot_payer-payer.ensures in
+    let eu = c.at-count.ensures ∙ ap (at a.used.now) c.slot_payer-payer.ensures in
+    let el = c.at.ensures ∙ ap (at a.limits.now) c.slot_payer-payer.ensures in
     record {
-      told = pay_no a.charged c.if-charged.false (at a.used.now who) (at a.limits.now who) (λ h. omega (arith, c.if-count-at16.false, el, eu, h));
+      told = pay_no a.charged c.if-charged.false (at a.used.now who) (at a.limits.now who) (λ h. omega (arith, c.if-count-at.false, el, eu, h));
       used = refl;
     }

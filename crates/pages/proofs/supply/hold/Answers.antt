@@ -1,26 +1,26 @@
 -- `hold` meets its contract: the record that the free map tells is the one of the definition, and it is free.
-use mathlib.Core.Path.{◌≡◌, ap, sym, ◌∙◌}
+use mathlib.Core.Path.{◌≡◌, ap, ◌∙◌}
 use native.Mathlib.Omega.{arith}
 use native.Mathlib.Numerals.{add-one}
 use Prim.Native.Nat.{ℕ, suc, ◌<◌}
 use lib.ListN.{set}
 use Rattle.tables.specs.Base.{at}
-use Rattle.tables.specs.Laws.{if_yes, if_no}
 use Rattle.model.specs.Lines.{NULLED}
 use Rattle.model.specs.Parts.{pick}
-use Rattle.pages.specs.Faults.{cleared}
+use Rattle.pages.specs.Faults.{is_new, cleared}
 use Rattle.pages.proofs.Holding.{chosen_told, chosen_below, chosen_inside, chosen_on, chosen_may}
+use Rattle.pages.proofs.Ways.{old_way}
 use Rattle.pages.proofs.supply.hold.Goals as goal
 
-pub returns-then-way-ne0 : goal.returns-then-way-ne0
-returns-then-way-ne0 c =
+pub returns-in_default : goal.returns-in_default
+returns-in_default c =
     let a = c.args in
-    let w = c.if-way-ne0.true in record {
-      taken = sym (if_no a.way 0 _ 0 w);
-      addresses = sym (if_no a.way 0 _ a.addresses.now w);
-      states = sym (if_no a.way 0 _ a.states.now w);
-      owners = sym (if_no a.way 0 _ a.owners.now w);
-      map = sym (if_no a.way 0 _ a.free_map.now w);
+    let w = old_way a.way c.in_default.not-New in record {
+      taken = rw w;
+      addresses = rw w;
+      states = rw w;
+      owners = rw w;
+      map = rw w;
     }
 
 pub overflow_add-taken : goal.overflow_add-taken
@@ -39,13 +39,13 @@ pub move_record-requires : goal.move_record-requires
 move_record-requires c =
     let chosen : (let a = c.args in c.pick-record.result ≡ pick a.sizes (at a.addresses.now) (at a.states.now) a.pool.hand a.page) = let a = c.args in c.pick-record.ensures ∙ chosen_told a.sizes a.pool a.addresses.now a.states.now a.free_map.now a.page c.requires.0 c.requires.3 in
     let a = c.args in
-    rw chosen (chosen_may a.sizes a.pool a.addresses.now a.states.now a.free_map.now a.page c.requires.0 c.requires.3 (c.requires.4 c.if-way-ne0.false))
+    rw chosen (chosen_may a.sizes a.pool a.addresses.now a.states.now a.free_map.now a.page c.requires.0 c.requires.3 (c.requires.4 (ap is_new c.in-New.is)))
 
 pub clear_mark-requires : goal.clear_mark-requires
 clear_mark-requires c =
     let chosen : (let a = c.args in c.pick-record.result ≡ pick a.sizes (at a.addresses.now) (at a.states.now) a.pool.hand a.page) = let a = c.args in c.pick-record.ensures ∙ chosen_told a.sizes a.pool a.addresses.now a.states.now a.free_map.now a.page c.requires.0 c.requires.3 in
     let a = c.args in
-    (rw chosen (chosen_inside a.sizes a.pool a.addresses.now a.states.now a.free_map.now a.page c.requires.0 c.requires.3), rw chosen (chosen_on a.sizes a.pool a.addresses.now a.states.now a.free_map.now a.page c.requires.0 c.requires.3 (c.requires.4 c.if-way-ne0.false)))
+    (rw chosen (chosen_inside a.sizes a.pool a.addresses.now a.states.now a.free_map.now a.page c.requires.0 c.requires.3), rw chosen (chosen_on a.sizes a.pool a.addresses.now a.states.now a.free_map.now a.page c.requires.0 c.requires.3 (c.requires.4 (ap is_new c.in-New.is))))
 
 pub overflow_cast-result : goal.overflow_cast-result
 overflow_cast-result c =
@@ -57,11 +57,11 @@ pub returns : goal.returns
 returns c =
     let chosen : (let a = c.args in c.pick-record.result ≡ pick a.sizes (at a.addresses.now) (at a.states.now) a.pool.hand a.page) = let a = c.args in c.pick-record.ensures ∙ chosen_told a.sizes a.pool a.addresses.now a.states.now a.free_map.now a.page c.requires.0 c.requires.3 in
     let a = c.args in
-    let w = c.if-way-ne0.false in
+    let w = ap is_new c.in-New.is in
     let q = chosen in record {
-      taken = add-one c.pick-record.result ∙ ap suc q ∙ sym (if_yes a.way 0 _ 0 w);
-      addresses = c.put16.ensures ∙ ap (set a.addresses.now a.page) (add-one c.pick-record.result ∙ ap suc q) ∙ sym (if_yes a.way 0 _ a.addresses.now w);
-      states = c.move_record.ensures ∙ ap (λ (n : ℕ). set a.states.now n NULLED) q ∙ sym (if_yes a.way 0 _ a.states.now w);
-      owners = c.put8.ensures ∙ ap (λ (n : ℕ). set a.owners.now n a.slot) q ∙ sym (if_yes a.way 0 _ a.owners.now w);
-      map = c.clear_mark.ensures ∙ ap (cleared a.free_map.now) q ∙ sym (if_yes a.way 0 _ a.free_map.now w);
+      taken = rw w (add-one c.pick-record.result ∙ ap suc q);
+      addresses = rw w (c.put.ensures ∙ ap (set a.addresses.now a.page) (add-one c.pick-record.result ∙ ap suc q));
+      states = rw w (c.move_record.ensures ∙ ap (λ (n : ℕ). set a.states.now n NULLED) q);
+      owners = rw w (c.put-2.ensures ∙ ap (λ (n : ℕ). set a.owners.now n a.slot) q);
+      map = rw w (c.clear_mark.ensures ∙ ap (cleared a.free_map.now) q);
     }

@@ -5,14 +5,14 @@ use Rattle.pages.proofs.supply.way_of.Goals as goal
 
 pub returns-then-address-eq0 : goal.returns-then-address-eq0
 returns-then-address-eq0 c = let a = c.args in
-    sym (way_none a.addresses.now a.states.now a.page (sym c.at16-address.ensures ∙ c.if-address-eq0.true))
+    sym (way_none a.addresses.now a.states.now a.page (sym c.at-address.ensures ∙ c.if-address-eq0.true))
 
-pub returns-then-at8-eq-LIVE : goal.returns-then-at8-eq-LIVE
-returns-then-at8-eq-LIVE c =
+pub returns-then-at-eq-LIVE : goal.returns-then-at-eq-LIVE
+returns-then-at-eq-LIVE c =
     let a = c.args in
-    sym (way_live a.addresses.now a.states.now a.page (named_live a.addresses.now a.states.now a.page c.at16-address.result c.at8.result c.at16-address.ensures c.if-address-eq0.false c.at8.ensures c.if-at8-eq-LIVE.true))
+    sym (way_live a.addresses.now a.states.now a.page (named_live a.addresses.now a.states.now a.page c.at-address.result c.at.result c.at-address.ensures c.if-address-eq0.false c.at.ensures c.if-at-eq-LIVE.true))
 
 pub returns : goal.returns
 returns c =
     let a = c.args in
-    sym (way_held a.addresses.now a.states.now a.page (λ e. c.if-address-eq0.false (c.at16-address.ensures ∙ e)) (named_dead a.addresses.now a.states.now a.page c.at16-address.result c.at8.result c.at16-address.ensures c.if-address-eq0.false c.at8.ensures c.if-at8-eq-LIVE.false))
+    sym (way_held a.addresses.now a.states.now a.page (λ e. c.if-address-eq0.false (c.at-address.ensures ∙ e)) (named_dead a.addresses.now a.states.now a.page c.at-address.result c.at.result c.at-address.ensures c.if-address-eq0.false c.at.ensures c.if-at-eq-LIVE.false))

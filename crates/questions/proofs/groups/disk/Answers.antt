@@ -1,16 +1,6 @@
 -- The five passes together.
-use native.Mathlib.Omega.{arith}
 use Rattle.questions.proofs.GroupLaws.{five, five_true}
 use Rattle.questions.proofs.groups.disk.Goals as goal
-
-pub mark_all-requires : goal.mark_all-requires
-mark_all-requires c =
-    let pre = c.requires in
-    (pre.1, pre.2)
-
-pub parents_ok-requires : goal.parents_ok-requires
-parents_ok-requires c =
-    omega (arith, c.requires.0.parents_long)
 
 pub returns : goal.returns
 returns c =

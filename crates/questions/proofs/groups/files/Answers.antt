@@ -17,9 +17,9 @@ pages_ok-requires c =
       omega (arith, pre.0.active_long),
       omega (arith, pre.0.updating_long),
       pre.0.maps_long,
-      held_fit args.z args.numbers.now args.accounts.now args.maps.now args.addresses.now args.states.now args.owners.now args.active.now args.updating.now args.images.now
+      held_fit args.z args.disk.numbers.now args.payers.now args.disk.maps.now args.memory.addresses.now args.memory.states.now args.memory.owners.now args.memory.active.now args.memory.updating.now args.memory.images.now
           pre.0 pre.1,
-      imaged_fit args.z args.numbers.now args.accounts.now args.maps.now args.addresses.now args.states.now args.owners.now args.active.now args.updating.now args.images.now
+      imaged_fit args.z args.disk.numbers.now args.payers.now args.disk.maps.now args.memory.addresses.now args.memory.states.now args.memory.owners.now args.memory.active.now args.memory.updating.now args.memory.images.now
           pre.0,
       λ s h. omega (arith, pre.4 s h, pre.0.within.accounts_most),
       pre.5,
@@ -30,26 +30,19 @@ pages_ok-requires c =
       λ k h. at_zeros 128 k,
     )
 
-pub returns-else-pages_ok : goal.returns-else-pages_ok
-returns-else-pages_ok c =
+pub returns-then-not-pages_ok : goal.returns-then-not-pages_ok
+returns-then-not-pages_ok c =
     let pages-ok = c.pages_ok in
-    let if1 = c.if-pages_ok in
-    (first_no_holds _ _ (sym if1.false ∙ pages-ok.ensures.0), not_true)
-
-pub records_ok-requires : goal.records_ok-requires
-records_ok-requires c =
-    let pre = c.requires in
-    (omega (arith, pre.0.within.records_most), pre.2, omega (arith, pre.0.states_long), omega (arith, pre.0.owners_long), omega (arith, pre.0.updating_long))
+    (first_no_holds _ _ (sym c.if-not-pages_ok.true ∙ pages-ok.ensures.0), not_true)
 
 pub returns : goal.returns
 returns c =
     let args = c.args in let pre = c.requires in
-    let if1 = c.if-pages_ok in
     let pages-ok = c.pages_ok in
     let memory-slots-ok = c.memory_slots_ok in
     let records-ok = c.records_ok in
-    let rows = rows_held args.z.records args.z.slots pages-ok.new.marks args.listed.now args.maps.now args.addresses.now args.states.now args.owners.now args.updating.now
-    (rw (← pre.0.maps_long) at (pages-ok.ensures.1 if1.true).0) pre.3 in (
-      second_told _ _ _ (learn _ (sym if1.true ∙ pages-ok.ensures.0)) (both _ _ _ _ memory-slots-ok.ensures (records-ok.ensures ∙ rows)),
-      λ e. (pages-ok.ensures.1 if1.true).2,
+    let rows = rows_held args.z.records args.z.slots pages-ok.new.marks args.listed.now args.disk.maps.now args.memory.addresses.now args.memory.states.now args.memory.owners.now args.memory.updating.now
+    (rw (← pre.0.maps_long) at (pages-ok.ensures.1 c.if-not-pages_ok.false).0) pre.3 in (
+      second_told _ _ _ (learn _ (sym c.if-not-pages_ok.false ∙ pages-ok.ensures.0)) (both _ _ _ _ memory-slots-ok.ensures (records-ok.ensures ∙ rows)),
+      λ e. (pages-ok.ensures.1 c.if-not-pages_ok.false).2,
     )

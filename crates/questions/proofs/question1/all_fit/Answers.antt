@@ -5,25 +5,25 @@ use Rattle.model.specs.Laws.Apart.{tables_fit}
 use Rattle.tables.specs.Turn.{learn, both, first_no_holds, second_told}
 use Rattle.questions.proofs.question1.all_fit.Goals as goal
 
-pub returns-else-sizes_fit : goal.returns-else-sizes_fit
+pub returns-then-not-sizes_fit : goal.returns-then-not-sizes_fit
 unfolding tables_fit
-returns-else-sizes_fit c =
+returns-then-not-sizes_fit c =
     let args = c.args in
-    λ frames pool e. first_no_holds (sizes_fit args.z) _ (sym c.if-sizes_fit.false ∙ c.sizes_fit.ensures)
+    λ frames pool e. first_no_holds (sizes_fit args.z) _ (sym c.if-not-sizes_fit.true ∙ c.sizes_fit.ensures)
 
 pub disk_lengths_fit-requires : goal.disk_lengths_fit-requires
 disk_lengths_fit-requires c =
     let args = c.args in
-    learn (sizes_fit args.z) (sym c.if-sizes_fit.true ∙ c.sizes_fit.ensures)
+    learn (sizes_fit args.z) (sym c.if-not-sizes_fit.false ∙ c.sizes_fit.ensures)
 
 pub memory_lengths_fit-requires : goal.memory_lengths_fit-requires
 memory_lengths_fit-requires c =
     let args = c.args in
-    learn (sizes_fit args.z) (sym c.if-sizes_fit.true ∙ c.sizes_fit.ensures)
+    learn (sizes_fit args.z) (sym c.if-not-sizes_fit.false ∙ c.sizes_fit.ensures)
 
 pub returns : goal.returns
 unfolding tables_fit
 returns c =
     let args = c.args in
     let sizes-fit = c.sizes_fit in
-    λ frames pool e. second_told (sizes_fit args.z) _ _ (learn (sizes_fit args.z) (sym c.if-sizes_fit.true ∙ sizes-fit.ensures)) (both _ _ _ _ c.disk_lengths_fit.ensures (c.memory_lengths_fit.ensures frames pool e))
+    λ frames pool e. second_told (sizes_fit args.z) _ _ (learn (sizes_fit args.z) (sym c.if-not-sizes_fit.false ∙ sizes-fit.ensures)) (both _ _ _ _ c.disk_lengths_fit.ensures (c.memory_lengths_fit.ensures frames pool e))

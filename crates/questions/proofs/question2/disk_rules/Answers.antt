@@ -13,7 +13,7 @@ use Rattle.questions.proofs.question2.disk_rules.Goals as goal
 
 pub disk-requires : goal.disk-requires
 disk-requires c =
-    let lent : Disk = let a = c.args in disk_of a.records.now a.numbers.now a.accounts.now a.maps.now a.limits.now a.parents.now a.highest.now in
+    let lent : Disk = let a = c.args in disk_of a.disk.records.now a.disk.numbers.now a.disk.accounts.now a.disk.maps.now a.disk.limits.now a.disk.parents.now a.disk.highest.now in
     let long : (let d = lent in DiskLong c.args.z d.numbers d.accounts d.maps d.parents) =
     let f = disk_fit c.args.z lent c.requires.1 in
     record { within = within c.args.z c.requires.0; numbers_long = f.numbers; accounts_long = f.accounts; maps_long = f.maps; parents_long = f.parents } in
@@ -22,7 +22,7 @@ disk-requires c =
 
 pub returns : goal.returns
 returns c =
-    let lent : Disk = let a = c.args in disk_of a.records.now a.numbers.now a.accounts.now a.maps.now a.limits.now a.parents.now a.highest.now in
+    let lent : Disk = let a = c.args in disk_of a.disk.records.now a.disk.numbers.now a.disk.accounts.now a.disk.maps.now a.disk.limits.now a.disk.parents.now a.disk.highest.now in
     let long : (let d = lent in DiskLong c.args.z d.numbers d.accounts d.maps d.parents) =
     let f = disk_fit c.args.z lent c.requires.1 in
     record { within = within c.args.z c.requires.0; numbers_long = f.numbers; accounts_long = f.accounts; maps_long = f.maps; parents_long = f.parents } in

@@ -1,7 +1,7 @@
--- `shift`: a turn moves one byte more.
-use Rattle.std.proofs.Common.{arith}
-use Rattle.replay.proofs.Front.{front_turn}
+-- `shift` meets its contract: by that of `copy_within`.
+use Rattle.std.proofs.Common.{◌-◌, sym, ◌∙◌}
+use Rattle.replay.proofs.Front.{as_paste}
 use Rattle.replay.proofs.input.shift.Goals as goal
 
-pub loop-k-preserved : goal.loop-k-preserved
-loop-k-preserved c = (omega arith, omega arith, front_turn c.args.buffer.now c.loop-k.buffer c.args.from c.loop-k.k (omega arith) (omega arith) c.loop-k.invariant.2)
+pub returns : goal.returns
+returns c = c.copy_within.ensures.after ∙ sym (as_paste c.args.buffer.now c.args.from (c.args.end - c.args.from))

@@ -1,5 +1,4 @@
 use mathlib.Core.Path.{◌≡◌}
-use Prim.Native.Nat.{◌-◌, ◌≤◌}
 use lib.Dec.{eqb}
 use Rattle.tables.specs.Base.{at, count}
 use Rattle.model.specs.Lines.{FREE}
@@ -8,7 +7,4 @@ use Rattle.restarts.specs.Counts.{passed}
 use Rattle.restarts.proofs.counts.build_free_map.Given as goal
 
 abbrev pub invariant-loop-r : goal.invariant-loop-r
-invariant-loop-r l = (l.r ≤ l.sizes.records) × (l.free ≡ count l.r (λ x. eqb (at l.states x) FREE)) × (l.map ≡ free_map_table l.sizes (passed l.r (at l.states)))
-
-abbrev pub decreases-loop-r : goal.decreases-loop-r
-decreases-loop-r l = l.sizes.records - l.r
+invariant-loop-r l = (l.free ≡ count l.r (λ x. eqb (at l.states x) FREE)) × (l.map ≡ free_map_table l.fn.sizes (passed l.r (at l.states)))

@@ -1,4 +1,3 @@
-use Prim.Native.Nat.{◌-◌}
 use lib.Dec.{eqb}
 use lib.ListN.{length}
 use Rattle.tables.specs.Base.{at, if}
@@ -7,6 +6,3 @@ use Rattle.restarts.proofs.format.store_parents.Given as goal
 
 abbrev pub invariant-loop-a : goal.invariant-loop-a
 invariant-loop-a l = Begun (length l.initial.parents) (λ k. if (eqb k 0) 0 (at l.wanted k)) l.a l.parents
-
-abbrev pub decreases-loop-a : goal.decreases-loop-a
-decreases-loop-a l = length l.initial.parents - l.a

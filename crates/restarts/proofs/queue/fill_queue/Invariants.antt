@@ -1,10 +1,7 @@
-use Prim.Native.Nat.{suc, ◌-◌}
+use Prim.Native.Nat.{suc}
 use lib.ListN.{length}
 use Rattle.leaves.specs.ByEntry.{Begun}
 use Rattle.restarts.proofs.queue.fill_queue.Given as goal
 
 abbrev pub invariant-loop-k : goal.invariant-loop-k
 invariant-loop-k l = Begun (length l.initial.q) (λ i. suc i) l.k l.q
-
-abbrev pub decreases-loop-k : goal.decreases-loop-k
-decreases-loop-k l = length l.initial.q - l.k

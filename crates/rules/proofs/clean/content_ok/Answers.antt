@@ -3,11 +3,6 @@ use mathlib.Core.Path.{◌∙◌}
 use Rattle.rules.proofs.Words.{live_words, zero_words}
 use Rattle.rules.proofs.clean.content_ok.Goals as goal
 
-pub returns-then-state-eq-LIVE : goal.returns-then-state-eq-LIVE
-returns-then-state-eq-LIVE c =
-    let args = c.args in
-    c.equal.ensures ∙ live_words args.w args.f args.r args.state args.words.now args.records.now c.if-state-eq-LIVE.true
-
 pub returns : goal.returns
 returns c =
     let args = c.args in

@@ -1,7 +1,7 @@
 use mathlib.Core.Path.{◌≡◌}
 use mathlib.Core.Bool.{Bool}
 use mathlib.Core.List.{List}
-use Prim.Native.Nat.{ℕ, ◌+◌, ◌-◌, ◌≤◌}
+use Prim.Native.Nat.{ℕ, ◌+◌, ◌-◌}
 use lib.Dec.{eqb}
 use Rattle.tables.specs.Base.{at}
 use Rattle.tables.specs.Bits.{bits}
@@ -12,7 +12,4 @@ abbrev pub free : List ℕ → ℕ → Bool
 free states r = eqb (at states r) FREE
 
 abbrev pub invariant-loop-n : goal.invariant-loop-n
-invariant-loop-n l = (l.word ≡ bits l.n (free l.states) (l.from + (l.count - l.n))) × (l.n ≤ l.count)
-
-abbrev pub decreases-loop-n : goal.decreases-loop-n
-decreases-loop-n l = l.count - l.n
+invariant-loop-n l = l.word ≡ bits l.n (free l.states) (l.from + (l.count - l.n))

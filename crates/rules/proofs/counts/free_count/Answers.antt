@@ -6,18 +6,18 @@ use lib.Dec.{eqb}
 use Rattle.rules.proofs.counts.free_count.Goals as goal
 
 pub loop-r-init : goal.loop-r-init
-loop-r-init c = (count_start _, omega arith)
+loop-r-init c = count_start _
 
 pub overflow_add-n : goal.overflow_add-n
 overflow_add-n c =
     let args = c.args in let pre = c.requires in
     let loop = c.loop-r in
-    let l = one_le (eqb (at args.states.now loop.r) 0) in omega (arith, count_few _ _ _ loop.invariant.0, l, c.free_one-n.ensures, c.loop-r-test.true, pre)
+    let l = one_le (eqb (at args.states.now loop.r) 0) in omega (arith, count_few _ _ _ loop.invariant, l, c.free_one-n.ensures, c.loop-r-test.true, pre)
 
 pub loop-r-preserved : goal.loop-r-preserved
 loop-r-preserved c =
     let loop = c.loop-r in
-    (count_next _ _ _ _ loop.invariant.0 c.free_one-n.ensures, omega (arith, c.loop-r-test.true))
+    count_next _ _ _ _ loop.invariant c.free_one-n.ensures
 
 pub returns : goal.returns
-returns c = count_end _ _ _ _ c.loop-r.invariant.0 c.loop-r.invariant.1 c.loop-r-test.false
+returns c = count_end _ _ _ _ c.loop-r.invariant c.loop-r.auto.r-end c.loop-r-test.false

@@ -1,22 +1,17 @@
--- The invariant: each word before k is right.
-use mathlib.Core.Path.{sym, ◌∙◌}
-use Rattle.tables.specs.Turn.{yes_so, not_so, none, again, fails, done}
-use Rattle.tables.specs.Rule.{same}
+-- Each passes, or one does not.
+use mathlib.Core.Path.{refl}
+use borrow.Author.Rules.{rules}
+use borrow.Author.Tests.{tests}
+use Rattle.tables.specs.Base.{at}
+use Prim.Native.Nat.{◌*◌}
+use Rattle.tables.specs.Bits.{bits}
+use Rattle.tables.specs.Rule.{same, test}
+use Rattle.rules.specs.Passes.{free_record}
+use Rattle.rules.proofs.Alls.{all_told}
 use Rattle.rules.proofs.counts.free_map_ok.Goals as goal
 
-pub loop-k-init : goal.loop-k-init
-loop-k-init c = none _
-
-pub returns-then-map-k : goal.returns-then-map-k
-returns-then-map-k c =
-    let loop-test = c.loop-k-test in
-    let loop = c.loop-k in
-    fails loop.k _ _ loop-test.true (not_so (same _ _) (λ e. c.if-map-k.true (e ∙ sym c.free_word.ensures)))
-
-pub loop-k-preserved : goal.loop-k-preserved
-loop-k-preserved c =
-    let loop = c.loop-k in
-    again _ _ loop.invariant (yes_so (same _ _) (c.if-map-k.false ∙ c.free_word.ensures))
-
 pub returns : goal.returns
-returns c = done _ _ _ c.loop-k.invariant c.loop-k-test.false
+unfolding test
+returns c =
+    let a = c.args in
+    all_told _ _ _ a.n (λ k. same (at a.map.now k) (bits 32 (free_record a.records a.states.now) (32 * k))) refl c.all.ensures.ran (λ x q k. search (rules, tests)) (λ x q k. search (rules, tests))

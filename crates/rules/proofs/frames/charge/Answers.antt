@@ -27,27 +27,13 @@ pub live_one-requires : goal.live_one-requires
 live_one-requires c =
     fit_le _ _ (at c.args.addresses.now) c.requires.3 (c.args.page - 1) (omega (arith, c.if-page-eq0.false, c.requires.2))
 
-pub offset_bounds-accounts-i : goal.offset_bounds-accounts-i
-offset_bounds-accounts-i c =
-    let a = c.args in
-    omega (arith, div-le_self (a.page - 1) a.pages)
-
 pub bounds-accounts-i : goal.bounds-accounts-i
 bounds-accounts-i c = slot_below c.args.page (length c.args.accounts.now) c.args.pages c.requires.0 c.if-page-eq0.false c.requires.1
-
-pub offset_bounds-totals-q : goal.offset_bounds-totals-q
-offset_bounds-totals-q c = omega (arith, counted c.args.page c.args.pages c.args.accounts.now c.requires.0 c.if-page-eq0.false c.requires.1 c.requires.4)
-
-pub bounds-totals-q : goal.bounds-totals-q
-bounds-totals-q c = omega (arith, counted c.args.page c.args.pages c.args.accounts.now c.requires.0 c.if-page-eq0.false c.requires.1 c.requires.4, c.requires.5)
 
 pub overflow_add-totals : goal.overflow_add-totals
 overflow_add-totals c =
     let a = c.args in
     omega (arith, c.requires.6 (at a.accounts.now ((a.page - 1) / a.pages)) (counted a.page a.pages a.accounts.now c.requires.0 c.if-page-eq0.false c.requires.1 c.requires.4))
-
-pub bounds-totals-q-then-live_one-eq0 : goal.bounds-totals-q-then-live_one-eq0
-bounds-totals-q-then-live_one-eq0 c = omega (arith, counted c.args.page c.args.pages c.args.accounts.now c.requires.0 c.if-page-eq0.false c.requires.1 c.requires.4, c.requires.5)
 
 pub returns-then-live_one-eq0 : goal.returns-then-live_one-eq0
 returns-then-live_one-eq0 c =

@@ -18,71 +18,53 @@ loop-f-init c =
     let pre = c.requires in
     (none _, start _ _ _ _ _ refl pre.1 pre.2, tallied_none _ _ _ _ _ _ pre.3, none _)
 
-pub returns-else-page_fit : goal.returns-else-page_fit
-returns-else-page_fit c =
+pub returns-then-not-page_fit : goal.returns-then-not-page_fit
+returns-then-not-page_fit c =
     let is = c.frame_at-x.ensures in
     let loop = c.loop-f in
-    (not_so _ (λ h. unlearn _ (sym c.if-page_fit.false ∙ rw (is) at c.page_fit.ensures) (h.0 loop.f c.loop-f-test.true)), not_true)
+    (not_so _ (λ h. unlearn _ (sym c.if-not-page_fit.true ∙ rw (is) at c.page_fit.ensures) (h.0 loop.f c.loop-f-test.true)), not_true)
 
 pub address_of-requires : goal.address_of-requires
-address_of-requires c = named_le (length c.args.addresses.now) c.frame_at-x.result.page c.if-page_fit.true c.page_fit.ensures
+address_of-requires c = named_le (length c.args.addresses.now) c.frame_at-x.result.page c.if-not-page_fit.false c.page_fit.ensures
 
-pub mark_entry-requires : goal.mark_entry-requires
-mark_entry-requires c =
+pub returns-then-not-mark_entry : goal.returns-then-not-mark_entry
+returns-then-not-mark_entry c =
     let loop = c.loop-f in
-    omega (arith, loop.invariant.1.enough, loop.invariant.1.sized)
-
-pub returns-else-mark_entry : goal.returns-else-mark_entry
-returns-else-mark_entry c =
-    let loop = c.loop-f in
-    (not_so _ (λ h. stuck _ _ _ _ _ _ loop.invariant.1 c.loop-f-test.true (unlearn _ (sym c.if-mark_entry.false ∙ rw (c.address_of.ensures ∙ ap (λ (x : Frame). address_of (at c.args.addresses.now) x.page) c.frame_at-x.ensures) at c.mark_entry.ensures.0)) h.1.0), not_true)
-
-pub bounds-queued-f : goal.bounds-queued-f
-bounds-queued-f c = omega (arith, c.loop-f-test.true, c.requires.0.few)
-
-pub bounds-removing-f : goal.bounds-removing-f
-bounds-removing-f c = omega (arith, c.loop-f-test.true, c.requires.0.few)
+    (not_so _ (λ h. stuck _ _ _ _ _ _ loop.invariant.1 c.loop-f-test.true (unlearn _ (sym c.if-not-mark_entry.true ∙ rw (c.address_of.ensures ∙ ap (λ (x : Frame). address_of (at c.args.addresses.now) x.page) c.frame_at-x.ensures) at c.mark_entry.ensures.0)) h.1.0), not_true)
 
 pub frame_ok-requires : goal.frame_ok-requires
 frame_ok-requires c =
     let pre = c.requires in
-    let fits = named_le (length c.args.addresses.now) c.frame_at-x.result.page c.if-page_fit.true c.page_fit.ensures in
+    let fits = named_le (length c.args.addresses.now) c.frame_at-x.result.page c.if-not-page_fit.false c.page_fit.ensures in
     (pre.0.pages, omega (arith, fits, pre.0.addresses_long), fits, pre.0.addresses_fit)
 
 pub clean-requires : goal.clean-requires
 clean-requires c =
     let args = c.args in let pre = c.requires in
-    (part c.loop-f.f args.z.frames args.z.words (length args.words.now) c.loop-f-test.true pre.0.words_long, pre.0.records_long, named_le (length c.args.addresses.now) c.frame_at-x.result.page c.if-page_fit.true c.page_fit.ensures, pre.0.addresses_fit)
+    (part c.loop-f.f args.z.frames args.z.words (length args.words.now) c.loop-f-test.true pre.0.words_long, pre.0.records_long, named_le (length c.args.addresses.now) c.frame_at-x.result.page c.if-not-page_fit.false c.page_fit.ensures, pre.0.addresses_fit)
 
-pub returns-else-frame_ok-clean : goal.returns-else-frame_ok-clean
-returns-else-frame_ok-clean c =
+pub returns-then-not-frame_ok-clean : goal.returns-then-not-frame_ok-clean
+returns-then-not-frame_ok-clean c =
     let is = c.frame_at-x.ensures in
     let loop = c.loop-f in
-    (not_so _ (λ h. unlearn _ (sym c.if-frame_ok-clean.false ∙ both _ _ _ _ (rw (is) at c.frame_ok.ensures) (rw (is) at c.clean.ensures)) (h.1.1 loop.f c.loop-f-test.true)), not_true)
+    (not_so _ (λ h. unlearn _ (sym c.if-not-frame_ok-clean.true ∙ both _ _ _ _ (rw (is) at c.frame_ok.ensures) (rw (is) at c.clean.ensures)) (h.1.1 loop.f c.loop-f-test.true)), not_true)
 
 pub charge-requires : goal.charge-requires
 charge-requires c =
     let loop = c.loop-f in
     let pre = c.requires in
-    let less = woven_least c.frame_at-x.result (named_le (length c.args.addresses.now) c.frame_at-x.result.page c.if-page_fit.true c.page_fit.ensures) in
+    let less = woven_least c.frame_at-x.result (named_le (length c.args.addresses.now) c.frame_at-x.result.page c.if-not-page_fit.false c.page_fit.ensures) in
     (pre.0.pages, le_trans (omega (arith, c.woven_page.ensures, less, pre.0.addresses_long)) (mul-le-mul_right c.args.z.pages pre.0.accounts_long), omega (arith, c.woven_page.ensures, less), pre.0.addresses_fit, pre.0.accounts_fit, loop.invariant.2.sized, tallied_few _ _ _ _ _ _ _ _ loop.invariant.2 (omega (arith, c.loop-f-test.true, c.requires.0.few)) pre.4)
-
-pub overflow_add-f : goal.overflow_add-f
-overflow_add-f c = omega (arith, c.loop-f-test.true, c.requires.0.few)
-
-pub loop-f-smaller : goal.loop-f-smaller
-loop-f-smaller c =
-    omega (arith, c.loop-f-test.true)
 
 pub loop-f-preserved : goal.loop-f-preserved
 loop-f-preserved c =
     let is = c.frame_at-x.ensures in
     let found = c.address_of.ensures ∙ ap (λ (x : Frame). address_of (at c.args.addresses.now) x.page) is in
     let loop = c.loop-f in (
-      again _ _ loop.invariant.0 (sym c.if-frame_ok-clean.true ∙ both _ _ _ _ (rw (is) at c.frame_ok.ensures) (rw (is) at c.clean.ensures)),
-      rw (rw found at c.mark_entry.ensures.1 c.if-mark_entry.true) (step _ _ _ _ _ _ loop.invariant.1 c.loop-f-test.true (learn _ (sym c.if-mark_entry.true ∙ rw found at c.mark_entry.ensures.0))),
+      again _ _ loop.invariant.0 (sym c.if-not-frame_ok-clean.false ∙ both _ _ _ _ (rw (is) at c.frame_ok.ensures) (rw (is) at c.clean.ensures)),
+      rw (rw found at c.mark_entry.ensures.1 c.if-not-mark_entry.false) (step _ _ _ _ _ _ loop.invariant.1 c.loop-f-test.true (learn _ (sym c.if-not-mark_entry.false ∙ rw found at c.mark_entry.ensures.0))),
       tallied_next _ _ _ _ _ _ _ _ loop.invariant.2 _ c.charge.auto.totals (rw (is) at (rw c.woven_page.ensures at c.charge.ensures)),
-      again _ _ loop.invariant.3 (sym c.if-page_fit.true ∙ rw (is) at c.page_fit.ensures),
+      again _ _ loop.invariant.3 (sym c.if-not-page_fit.false ∙ rw (is) at c.page_fit.ensures),
     )
 
 pub returns : goal.returns

@@ -1,4 +1,3 @@
-use Prim.Native.Nat.{◌-◌}
 use lib.ListN.{length}
 use Rattle.tables.specs.Base.{at}
 use Rattle.tables.specs.Rule.{◌and◌, below, named}
@@ -16,6 +15,3 @@ invariant-loop-f l =
     × Prefix (length l.states) l.z.frames (λ k. address_of (at l.addresses) (frame_at (unpacked l.frames) k).page) (length l.initial.marks) l.marks l.f
     × Tallied l.z.pages (λ k. woven_page (frame_at (unpacked l.frames) k)) l.accounts l.addresses l.states l.initial.totals l.f l.totals
     × Passed l.f (λ k. named (frame_at (unpacked l.frames) k).page λ i. below i (length l.addresses))
-
-abbrev pub decreases-loop-f : goal.decreases-loop-f
-decreases-loop-f l = l.z.frames - l.f

@@ -4,10 +4,6 @@ use Rattle.tables.specs.Rule.{test}
 use Rattle.rules.proofs.FrameTests.{moving_le}
 use Rattle.rules.proofs.frames.in_one_place.Goals as goal
 
-pub overflow_add-result-3 : goal.overflow_add-result-3
-overflow_add-result-3 c =
-    omega (arith, moving_le c.args.x.transfer, c.moving.ensures)
-
 pub returns : goal.returns
 unfolding test
 returns c = rw c.moving.ensures

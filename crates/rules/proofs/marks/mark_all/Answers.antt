@@ -10,49 +10,25 @@ loop-i-init c =
     let pre = c.requires in
     start _ _ _ _ _ refl pre.0 pre.1
 
-pub zeros_from-i-requires : goal.zeros_from-i-requires
-zeros_from-i-requires c =
-    let loop-test = c.loop-i-test in
-    let if1 = c.if-e-eq0 in
-    (refl, loop-test.true, if1.true)
-
-pub overflow_add-i : goal.overflow_add-i
-overflow_add-i c =
-    let zeros-from = c.zeros_from-i in
-    omega (arith, zeros-from.ensures.1)
-
-pub loop-i-smaller-then-e-eq0 : goal.loop-i-smaller-then-e-eq0
-loop-i-smaller-then-e-eq0 c =
-    let loop-test = c.loop-i-test in
-    let zeros-from = c.zeros_from-i in
-    omega (arith, zeros-from.ensures.0, loop-test.true)
-
 pub loop-i-preserved-then-e-eq0 : goal.loop-i-preserved-then-e-eq0
 loop-i-preserved-then-e-eq0 c =
     let loop = c.loop-i in
     let zeros-from = c.zeros_from-i in
     skip_run _ _ _ _ _ _ loop.invariant _ zeros-from.ensures.1 zeros-from.ensures.2
 
-pub mark_entry-requires : goal.mark_entry-requires
-mark_entry-requires c =
-    let loop = c.loop-i in
-    omega (arith, loop.invariant.enough, loop.invariant.sized)
-
-pub returns-else-mark_entry : goal.returns-else-mark_entry
-returns-else-mark_entry c =
+pub returns-then-not-mark_entry : goal.returns-then-not-mark_entry
+returns-then-not-mark_entry c =
     let mark-entry = c.mark_entry in
     let loop-test = c.loop-i-test in
     let loop = c.loop-i in
-    let if2 = c.if-mark_entry in
-    (not_so _ (stuck _ _ _ _ _ _ loop.invariant loop-test.true (unlearn _ (sym if2.false ∙ mark-entry.ensures.0))), not_true)
+    (not_so _ (stuck _ _ _ _ _ _ loop.invariant loop-test.true (unlearn _ (sym c.if-not-mark_entry.true ∙ mark-entry.ensures.0))), not_true)
 
 pub loop-i-preserved : goal.loop-i-preserved
 loop-i-preserved c =
     let mark-entry = c.mark_entry in
     let loop-test = c.loop-i-test in
     let loop = c.loop-i in
-    let if2 = c.if-mark_entry in
-    rw (mark-entry.ensures.1 if2.true) (step _ _ _ _ _ _ loop.invariant loop-test.true (learn _ (sym if2.true ∙ mark-entry.ensures.0)))
+    rw (mark-entry.ensures.1 c.if-not-mark_entry.false) (step _ _ _ _ _ _ loop.invariant loop-test.true (learn _ (sym c.if-not-mark_entry.false ∙ mark-entry.ensures.0)))
 
 pub returns : goal.returns
 returns c =

@@ -18,13 +18,6 @@ returns-then-most-e c =
     let if2 = c.if-most-e in
     (not_so (unmarked args.most args.marks.now args.entry) (too_wide args.most args.marks.now args.entry if2.true), not_true)
 
-pub is_marked-requires : goal.is_marked-requires
-is_marked-requires c =
-    let pre = c.requires in
-    let if1 = c.if-entry-eq0 in
-    let if2 = c.if-most-e in
-    omega (arith, pre, if1.false, if2.false)
-
 pub returns-then-is_marked : goal.returns-then-is_marked
 returns-then-is_marked c =
     let args = c.args in

@@ -12,19 +12,18 @@ pub returns-then-count-eq0 : goal.returns-then-count-eq0
 returns-then-count-eq0 c = each_end 0 _ _ _ (each_none _) (omega arith) (omega (arith, c.if-count-eq0.true))
 
 pub loop-k-init : goal.loop-k-init
-loop-k-init c = (each_none _, omega arith)
+loop-k-init c = each_none _
 
 pub loop-k-preserved : goal.loop-k-preserved
 loop-k-preserved c =
     let args = c.args in
-    let loop-test = c.loop-k-test in
     let loop = c.loop-k in
-    (each_next _ _ _ _ loop.invariant.0 (next_entry _ _ _ _ _ (ap (at args.entries.now) (add-one loop.k)) c.entry_ok-ok.ensures), omega (arith, loop-test.true))
+    each_next _ _ _ _ loop.invariant (next_entry _ _ _ _ _ (ap (at args.entries.now) (add-one loop.k)) c.entry_ok-ok.ensures)
 
 pub returns : goal.returns
 returns c =
     let args = c.args in
     let loop-test = c.loop-k-test in
     let loop = c.loop-k in
-    last_entry args.bound args.count args.entries.now loop.ok c.entry_ok.result c.at16.result c.if-count-eq0.false
-    (each_end loop.k (args.count - 1) _ loop.ok loop.invariant.0 loop.invariant.1 loop-test.false) c.entry_ok.ensures c.at16.ensures
+    last_entry args.bound args.count args.entries.now loop.ok c.entry_ok.result c.at.result c.if-count-eq0.false
+    (each_end loop.k (args.count - 1) _ loop.ok loop.invariant loop.auto.k-end loop-test.false) c.entry_ok.ensures c.at.ensures

@@ -1,27 +1,14 @@
--- The invariant: each record before r keeps the rules.
-use mathlib.Core.Path.{sym, ◌∙◌}
-use native.Mathlib.Omega.{arith}
-use Rattle.tables.specs.Turn.{none, again, fails, done}
+-- Each passes, or one does not.
+use mathlib.Core.Path.{refl}
+use borrow.Author.Rules.{rules}
+use borrow.Author.Tests.{tests}
+use Rattle.tables.specs.Base.{at}
+use Rattle.tables.specs.Marks.{bit_of}
+use Rattle.rules.specs.Passes.{record_row}
+use Rattle.rules.proofs.Alls.{all_told}
 use Rattle.rules.proofs.records.records_ok.Goals as goal
 
-pub loop-r-init : goal.loop-r-init
-loop-r-init c = none _
-
-pub record_ok-requires : goal.record_ok-requires
-record_ok-requires c =
-    let pre = c.requires in
-    (pre.4, omega (arith, pre.0, c.loop-r-test.true), omega (arith, pre.1, c.loop-r-test.true))
-
-pub returns-else-record_ok : goal.returns-else-record_ok
-returns-else-record_ok c =
-    let loop-test = c.loop-r-test in
-    let loop = c.loop-r in
-    fails loop.r _ _ loop-test.true (sym c.if-record_ok.false ∙ c.record_ok.ensures)
-
-pub loop-r-preserved : goal.loop-r-preserved
-loop-r-preserved c =
-    let loop = c.loop-r in
-    again _ _ loop.invariant (sym c.if-record_ok.true ∙ c.record_ok.ensures)
-
 pub returns : goal.returns
-returns c = done _ _ _ c.loop-r.invariant c.loop-r-test.false
+returns c =
+    let a = c.args in
+    all_told _ _ _ a.records (λ r. record_row a.slots (bit_of a.held.now r) (bit_of a.listed.now r) (at a.states.now r) (at a.owners.now r) (at a.updating.now)) refl c.all.ensures.ran (λ x q k. search (rules, tests)) (λ x q k. search (rules, tests))

@@ -1,5 +1,5 @@
 use mathlib.Core.Path.{◌≡◌}
-use Prim.Native.Nat.{◌+◌, ◌-◌, ◌*◌, ◌≤◌}
+use Prim.Native.Nat.{◌+◌, ◌*◌}
 use lib.ListN.{length}
 use Rattle.tables.specs.Base.{at, count}
 use Rattle.tables.specs.Rule.{test}
@@ -12,7 +12,3 @@ invariant-loop-p l =
     Passed l.p (λ k. held_entries l.s l.active (at l.maps (l.s * l.pages + k)) (at l.addresses (l.s * l.pages + k)) (at l.states) (at l.owners))
     × Prefix l.records (l.s * l.pages + l.pages) (at l.addresses) (length l.initial.marks) l.marks (l.s * l.pages + l.p)
     × (l.used ≡ count l.p (λ k. test (live_page (at l.addresses (l.s * l.pages + k)) (at l.states))))
-    × (l.p ≤ l.pages)
-
-abbrev pub decreases-loop-p : goal.decreases-loop-p
-decreases-loop-p l = l.pages - l.p

@@ -10,22 +10,6 @@ use Rattle.rules.proofs.Marked.{skip_run}
 use Rattle.rules.proofs.ByRow.{image_only}
 use Rattle.rules.proofs.rows.image_ok.Goals as goal
 
-pub image_row-requires : goal.image_row-requires
-image_row-requires c =
-    let pre = c.requires in
-    let if1 = c.if-updating-eq1 in
-    (if1.true, pre.0, pre.1, pre.2)
-
-pub returns-then-updating-eq1 : goal.returns-then-updating-eq1
-returns-then-updating-eq1 c =
-    let image-row = c.image_row in
-    image-row.ensures
-
-pub image_zero-requires : goal.image_zero-requires
-image_zero-requires c =
-    let pre = c.requires in
-    omega (arith, pre.0, pre.1.images_long)
-
 pub returns : goal.returns
 returns c =
     let args = c.args in let pre = c.requires in

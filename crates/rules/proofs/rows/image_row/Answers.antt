@@ -12,48 +12,39 @@ use Rattle.rules.proofs.rows.image_row.Goals as goal
 pub loop-p-init : goal.loop-p-init
 loop-p-init c =
     let pre = c.requires in
-    (none _, at_start _ _ _ _ _ _ _ pre.3, omega arith)
+    (none _, at_start _ _ _ _ _ _ _ pre.3)
 
-pub mark_entry-requires : goal.mark_entry-requires
-mark_entry-requires c =
-    let loop = c.loop-p in
-    omega (arith, loop.invariant.1.enough, loop.invariant.1.sized)
-
-pub returns-else-mark_entry : goal.returns-else-mark_entry
-returns-else-mark_entry c =
+pub returns-then-not-mark_entry : goal.returns-then-not-mark_entry
+returns-then-not-mark_entry c =
     let mark-entry = c.mark_entry in
     let loop-test = c.loop-p-test in
     let loop = c.loop-p in
-    let if1 = c.if-mark_entry in
-    (not_so _ (λ h. stuck _ _ _ _ _ _ loop.invariant.1 (omega (arith, loop-test.true)) (unlearn _ (sym if1.false ∙ mark-entry.ensures.0)) h.1), not_true)
+    (not_so _ (λ h. stuck _ _ _ _ _ _ loop.invariant.1 (omega (arith, loop-test.true)) (unlearn _ (sym c.if-not-mark_entry.true ∙ mark-entry.ensures.0)) h.1), not_true)
 
 pub imaged-requires : goal.imaged-requires
 imaged-requires c =
     let args = c.args in let pre = c.requires in
     let mark-entry = c.mark_entry in
     let loop = c.loop-p in
-    let e = passed_le args.records loop.marks (at args.images.now (args.s * args.pages + loop.p)) c.if-mark_entry.true mark-entry.ensures.0 in
+    let e = passed_le args.records loop.marks (at args.images.now (args.s * args.pages + loop.p)) c.if-not-mark_entry.false mark-entry.ensures.0 in
     (omega (arith, e, pre.2.states_long), omega (arith, e, pre.2.owners_long))
 
-pub returns-else-imaged : goal.returns-else-imaged
-returns-else-imaged c =
+pub returns-then-not-imaged : goal.returns-then-not-imaged
+returns-then-not-imaged c =
     let pre = c.requires in
     let loop-test = c.loop-p-test in
     let loop = c.loop-p in
-    let if2 = c.if-imaged in
     let imaged = c.imaged in
-    (first_no_holds _ _ (fails loop.p _ _ loop-test.true (sym if2.false ∙ updating_told _ _ _ _ _ _ pre.0 _ imaged.ensures)), not_true)
+    (first_no_holds _ _ (fails loop.p _ _ loop-test.true (sym c.if-not-imaged.true ∙ updating_told _ _ _ _ _ _ pre.0 _ imaged.ensures)), not_true)
 
 pub loop-p-preserved : goal.loop-p-preserved
 loop-p-preserved c =
     let pre = c.requires in let args = c.args in
-    let if1 = c.if-mark_entry in
     let mark-entry = c.mark_entry in
     let loop-test = c.loop-p-test in
     let loop = c.loop-p in (
-      again _ _ loop.invariant.0 (sym c.if-imaged.true ∙ updating_told _ _ _ _ _ _ pre.0 _ c.imaged.ensures),
-      rw (mark-entry.ensures.1 if1.true) (next_page_holds _ _ _ _ (args.s * args.pages) loop.p _ loop.invariant.1 loop-test.true (learn _ (sym if1.true ∙ mark-entry.ensures.0))),
-      omega (arith, loop-test.true),
+      again _ _ loop.invariant.0 (sym c.if-not-imaged.false ∙ updating_told _ _ _ _ _ _ pre.0 _ c.imaged.ensures),
+      rw (mark-entry.ensures.1 c.if-not-mark_entry.false) (next_page_holds _ _ _ _ (args.s * args.pages) loop.p _ loop.invariant.1 loop-test.true (learn _ (sym c.if-not-mark_entry.false ∙ mark-entry.ensures.0))),
     )
 
 pub returns : goal.returns
@@ -61,5 +52,5 @@ returns c =
     let args = c.args in let pre = c.requires in
     let loop = c.loop-p in
     let loop-test = c.loop-p-test in
-    let w = last_page_holds _ _ _ _ (args.s * args.pages) loop.p args.pages loop.invariant.1 loop-test.false loop.invariant.2 in
+    let w = last_page_holds _ _ _ _ (args.s * args.pages) loop.p args.pages loop.invariant.1 loop-test.false loop.auto.p-end in
     (row_so _ (done _ _ _ loop.invariant.0 loop-test.false) w, λ e. among _ _ _ _ _ _ w _ pre.1)

@@ -1,4 +1,4 @@
-use Prim.Native.Nat.{◌+◌, ◌-◌, ◌*◌, ◌≤◌}
+use Prim.Native.Nat.{◌+◌, ◌*◌}
 use lib.ListN.{length}
 use Rattle.tables.specs.Base.{at}
 use Rattle.tables.specs.Turn.{Passed}
@@ -9,7 +9,3 @@ abbrev pub invariant-loop-p : goal.invariant-loop-p
 invariant-loop-p l =
     Passed l.p (λ k. imaged_entries l.s l.updating (at l.addresses (l.s * l.pages + k)) (at l.images (l.s * l.pages + k)) (at l.states) (at l.owners))
     × Prefix l.records (l.s * l.pages + l.pages) (at l.images) (length l.initial.marks) l.marks (l.s * l.pages + l.p)
-    × (l.p ≤ l.pages)
-
-abbrev pub decreases-loop-p : goal.decreases-loop-p
-decreases-loop-p l = l.pages - l.p

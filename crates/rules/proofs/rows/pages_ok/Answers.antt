@@ -30,17 +30,16 @@ loop-s-init c =
       totals_start args.pages args.accounts.now args.active.now args.maps.now args.addresses.now args.states.now _ _ pre.8 pre.9,
     )
 
-pub row_ok-row-requires : goal.row_ok-row-requires
-row_ok-row-requires c =
+pub row_ok-requires : goal.row_ok-requires
+row_ok-requires c =
     let loop = c.loop-s in
     (in_row c.loop-s.s c.args.slots c.args.pages (length c.args.maps.now) c.loop-s-test.true c.requires.4, c.requires.5, rw loop.invariant.1.sized loop.invariant.1)
 
-pub returns-else-row : goal.returns-else-row
-returns-else-row c =
-    let row_ok = c.row_ok-row in
+pub returns-in_default : goal.returns-in_default
+returns-in_default c =
     let args = c.args in (
       no_row args.slots args.pages args.records args.active.now args.updating.now args.maps.now args.addresses.now args.images.now args.states.now args.owners.now
-          c.loop-s.s c.loop-s-test.true (sym c.if-row.false ∙ row_ok.ensures.0),
+          c.loop-s.s c.loop-s-test.true c.in_default.ensures.told,
       not_true,
     )
 
@@ -49,23 +48,17 @@ image_ok-requires c =
     let loop = c.loop-s in let pre = c.requires in
     (omega (arith, in_row c.loop-s.s c.args.slots c.args.pages (length c.args.maps.now) c.loop-s-test.true c.requires.4, pre.5.addresses_long), pre.6, rw loop.invariant.2.sized loop.invariant.2)
 
-pub returns-else-image_ok : goal.returns-else-image_ok
-returns-else-image_ok c =
+pub returns-then-not-image_ok : goal.returns-then-not-image_ok
+returns-then-not-image_ok c =
     let image-ok = c.image_ok in
     let args = c.args in (
       no_image args.slots args.pages args.records args.active.now args.updating.now args.maps.now args.addresses.now args.images.now args.states.now args.owners.now
-          c.loop-s.s c.loop-s-test.true (sym c.if-image_ok.false ∙ image-ok.ensures.0),
+          c.loop-s.s c.loop-s-test.true (sym c.if-not-image_ok.true ∙ image-ok.ensures.0),
       not_true,
     )
 
 pub offset_bounds-accounts-s : goal.offset_bounds-accounts-s
 offset_bounds-accounts-s c = omega (arith, few c.loop-s.s c.args.slots c.args.pages (length c.args.maps.now) c.requires.0 c.loop-s-test.true c.requires.4 c.requires.5.few)
-
-pub offset_bounds-totals-q : goal.offset_bounds-totals-q
-offset_bounds-totals-q c = omega (arith, c.requires.7 c.loop-s.s c.loop-s-test.true)
-
-pub bounds-totals-q : goal.bounds-totals-q
-bounds-totals-q c = omega (arith, c.loop-s.invariant.3.sized, c.requires.7 c.loop-s.s c.loop-s-test.true)
 
 pub overflow_add-totals : goal.overflow_add-totals
 overflow_add-totals c =
@@ -74,32 +67,19 @@ overflow_add-totals c =
     let few-totals = totals_few args.pages args.accounts.now args.active.now args.maps.now args.addresses.now args.states.now _ _ _ loop.invariant.3 (at args.accounts.now loop.s) (c.requires.7 c.loop-s.s c.loop-s-test.true) in
     let few-used = count_bound args.pages
     (λ p. used_page (at args.active.now loop.s) (at args.maps.now (loop.s * args.pages + p)) (at args.addresses.now (loop.s * args.pages + p)) (at args.states.now)) in
-    omega (arith, few-totals, (c.row_ok-row.ensures.1 c.if-row.true).1, few-used, in_row c.loop-s.s c.args.slots c.args.pages (length c.args.maps.now) c.loop-s-test.true c.requires.4, c.requires.5.few)
-
-pub bounds-totals-q-in-loop-s : goal.bounds-totals-q-in-loop-s
-bounds-totals-q-in-loop-s c = omega (arith, c.loop-s.invariant.3.sized, c.requires.7 c.loop-s.s c.loop-s-test.true)
-
-pub overflow_add-s : goal.overflow_add-s
-overflow_add-s c = omega (arith, few c.loop-s.s c.args.slots c.args.pages (length c.args.maps.now) c.requires.0 c.loop-s-test.true c.requires.4 c.requires.5.few)
-
-pub loop-s-smaller : goal.loop-s-smaller
-loop-s-smaller c =
-    omega (arith, c.loop-s-test.true)
+    omega (arith, few-totals, c.in-Some.ensures.counted, few-used, in_row c.loop-s.s c.args.slots c.args.pages (length c.args.maps.now) c.loop-s-test.true c.requires.4, c.requires.5.few)
 
 pub loop-s-preserved : goal.loop-s-preserved
 loop-s-preserved c =
-    let if2 = c.if-image_ok in
     let image-ok = c.image_ok in
-    let if1 = c.if-row in
-    let row_ok = c.row_ok-row in
     let loop = c.loop-s in
     let args = c.args in (
       row_more args.slots args.pages args.records args.active.now args.updating.now args.maps.now args.addresses.now args.images.now args.states.now args.owners.now
-          loop.s loop.invariant.0 (sym if1.true ∙ row_ok.ensures.0) (sym if2.true ∙ image-ok.ensures.0),
-      to_next _ _ _ _ _ loop.s args.pages (rw loop.invariant.1.sized at (row_ok.ensures.1 if1.true).0),
-      to_next _ _ _ _ _ loop.s args.pages (rw loop.invariant.2.sized at (image-ok.ensures.1 if2.true)),
+          loop.s loop.invariant.0 c.in-Some.ensures.told (sym c.if-not-image_ok.false ∙ image-ok.ensures.0),
+      to_next _ _ _ _ _ loop.s args.pages (rw loop.invariant.1.sized at c.in-Some.ensures.marked),
+      to_next _ _ _ _ _ loop.s args.pages (rw loop.invariant.2.sized at (image-ok.ensures.1 c.if-not-image_ok.false)),
       totals_next args.pages args.accounts.now args.active.now args.maps.now args.addresses.now args.states.now c.requires.0 _ _ _
-          loop.invariant.3 c.loop-s-test.true _ (c.requires.7 c.loop-s.s c.loop-s-test.true) (row_ok.ensures.1 if1.true).1,
+          loop.invariant.3 c.loop-s-test.true _ (c.requires.7 c.loop-s.s c.loop-s-test.true) c.in-Some.ensures.counted,
     )
 
 pub returns : goal.returns

@@ -1,4 +1,4 @@
-use Prim.Native.Nat.{◌-◌, ◌*◌}
+use Prim.Native.Nat.{◌*◌}
 use lib.ListN.{length}
 use Rattle.tables.specs.Base.{at}
 use Rattle.tables.specs.Turn.{Passed}
@@ -13,6 +13,3 @@ invariant-loop-s l =
     × Prefix l.records (length l.maps) (at l.addresses) (length l.initial.marks) l.marks (l.s * l.pages)
     × Prefix l.records (length l.addresses) (at l.images) (length l.initial.image_marks) l.image_marks (l.s * l.pages)
     × Totals l.pages l.accounts l.active l.maps l.addresses l.states l.slots l.totals l.s
-
-abbrev pub decreases-loop-s : goal.decreases-loop-s
-decreases-loop-s l = l.slots - l.s

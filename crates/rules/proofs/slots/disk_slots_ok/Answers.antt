@@ -1,24 +1,13 @@
--- The invariant: each slot before s keeps the rules.
-use mathlib.Core.Path.{sym, ◌∙◌}
-use Rattle.tables.specs.Turn.{none, again, fails, done}
-use Rattle.tables.specs.Turn.{both}
+-- Each passes, or one does not.
+use mathlib.Core.Path.{refl}
+use borrow.Author.Rules.{rules}
+use borrow.Author.Tests.{tests}
+use Rattle.tables.specs.Base.{at}
+use Rattle.rules.specs.Passes.{disk_slot}
+use Rattle.rules.proofs.Alls.{all_told}
 use Rattle.rules.proofs.slots.disk_slots_ok.Goals as goal
 
-pub loop-s-init : goal.loop-s-init
-loop-s-init c = none _
-
-pub returns-else-empty_account-account_fit : goal.returns-else-empty_account-account_fit
-returns-else-empty_account-account_fit c =
-    let empty-account = c.empty_account in
-    let loop-test = c.loop-s-test in
-    let loop = c.loop-s in
-    fails loop.s _ _ loop-test.true (sym c.if-empty_account-account_fit.false ∙ both _ _ _ _ empty-account.ensures c.account_fit.ensures)
-
-pub loop-s-preserved : goal.loop-s-preserved
-loop-s-preserved c =
-    let empty-account = c.empty_account in
-    let loop = c.loop-s in
-    again _ _ loop.invariant (sym c.if-empty_account-account_fit.true ∙ both _ _ _ _ empty-account.ensures c.account_fit.ensures)
-
 pub returns : goal.returns
-returns c = done _ _ _ c.loop-s.invariant c.loop-s-test.false
+returns c =
+    let a = c.args in
+    all_told _ _ _ a.slots (λ s. disk_slot a.accounts (at a.numbers.now s) (at a.account.now s)) refl c.all.ensures.ran (λ x q k. search (rules, tests)) (λ x q k. search (rules, tests))

@@ -1,21 +1,11 @@
--- The invariant: each slot before s keeps the rules.
-use mathlib.Core.Path.{sym, ◌∙◌}
-use Rattle.tables.specs.Turn.{none, again, fails, done}
+-- Each passes, or one does not.
+use mathlib.Core.Path.{refl}
+use borrow.Author.Rules.{rules}
+use borrow.Author.Tests.{tests}
+use Rattle.tables.specs.Base.{at}
+use Rattle.rules.specs.Passes.{memory_slot}
+use Rattle.rules.proofs.Alls.{all_told}
 use Rattle.rules.proofs.slots.memory_slots_ok.Goals as goal
 
-pub loop-s-init : goal.loop-s-init
-loop-s-init c = none _
-
-pub returns-else-memory_slot_ok : goal.returns-else-memory_slot_ok
-returns-else-memory_slot_ok c =
-    let loop-test = c.loop-s-test in
-    let loop = c.loop-s in
-    fails loop.s _ _ loop-test.true (sym c.if-memory_slot_ok.false ∙ c.memory_slot_ok.ensures)
-
-pub loop-s-preserved : goal.loop-s-preserved
-loop-s-preserved c =
-    let loop = c.loop-s in
-    again _ _ loop.invariant (sym c.if-memory_slot_ok.true ∙ c.memory_slot_ok.ensures)
-
 pub returns : goal.returns
-returns c = done _ _ _ c.loop-s.invariant c.loop-s-test.false
+returns c = let a = c.args in all_told _ _ _ a.slots (λ s. memory_slot (at a.numbers.now s) (at a.active.now s) (at a.updating.now s)) refl c.all.ensures.ran (λ x q k. search (rules, tests)) (λ x q k. search (rules, tests))

@@ -1,26 +1,20 @@
--- The invariant: no slot before t has the number.
+-- An empty slot passes; a filled one where no slot before it has its number.
+use mathlib.Core.Path.{refl}
+use borrow.Author.Rules.{rules}
+use borrow.Author.Tests.{tests}
 use Rattle.tables.specs.Base.{at}
-use Rattle.tables.specs.Turn.{yes_so, not_so, unless, when, none, again, fails, done}
-use Rattle.tables.specs.Rule.{each, same, non}
+use Rattle.tables.specs.Rule.{each, same, non, test}
+use Rattle.tables.specs.Turn.{unless, when}
+use Rattle.rules.proofs.Alls.{all_told}
 use Rattle.rules.proofs.slots.number_once.Goals as goal
 
 pub returns-then-number-eq0 : goal.returns-then-number-eq0
 returns-then-number-eq0 c = unless (non (same _ _)) (each _ _) (λ h. h c.if-number-eq0.true)
 
-pub loop-t-init : goal.loop-t-init
-loop-t-init c = none _
-
-pub returns-then-numbers-t : goal.returns-then-numbers-t
-returns-then-numbers-t c =
-    let args = c.args in
-    let loop = c.loop-t in
-    let if1 = c.if-number-eq0 in
-    when (non (same _ _)) (each _ _) _ if1.false (fails loop.t _ (λ k. non (same (at args.numbers.now k) (at args.numbers.now args.s))) c.loop-t-test.true (not_so (non (same _ _)) (λ h. h c.if-numbers-t.true)))
-
-pub loop-t-preserved : goal.loop-t-preserved
-loop-t-preserved c =
-    let loop = c.loop-t in
-    again _ _ loop.invariant (yes_so (non (same _ _)) c.if-numbers-t.false)
-
 pub returns : goal.returns
-returns c = when (non (same _ _)) (each _ _) _ c.if-number-eq0.false (done _ _ _ c.loop-t.invariant c.loop-t-test.false)
+unfolding test
+returns c =
+    let a = c.args in
+    let here = at a.numbers.now a.s in
+    when (non (same here 0)) (each a.s λ t. non (same (at a.numbers.now t) here)) _ c.if-number-eq0.false
+    (all_told _ _ _ a.s (λ t. non (same (at a.numbers.now t) here)) refl c.all.ensures.ran (λ x q k. search (rules, tests)) (λ x q k. search (rules, tests)))

@@ -1,17 +1,9 @@
 -- `put_four` meets its contract.
-use native.Mathlib.Omega.{arith}
-use lib.ListN.{length-set}
-use Rattle.sheets.specs.Laws.Laying.{laid_4_by}
+use Rattle.std.proofs.Common.{◌∙◌, ◌+◌, ◌-◌, arith}
+use Rattle.sheets.specs.Sheet.{bytes}
+use Rattle.sheets.specs.Laws.Laying.{laid_copied, high_first_4}
 use Rattle.sheets.proofs.print.put_four.Goals as goal
 
-pub bounds-b-from-2 : goal.bounds-b-from-2
-bounds-b-from-2 c = simp length-set (omega arith)
-
-pub bounds-b-from-3 : goal.bounds-b-from-3
-bounds-b-from-3 c = simp length-set (omega arith)
-
-pub bounds-b-from-4 : goal.bounds-b-from-4
-bounds-b-from-4 c = simp length-set (omega arith)
-
 pub returns : goal.returns
-returns c = laid_4_by _ _ _ c.requires
+unfolding bytes
+returns c = laid_copied c.args.b.now c.args.from (c.args.from + 4 - c.args.from) _ (bytes 4 c.args.v) (c.copy_from_slice.ensures.after ∙ high_first_4 _ _ c.to_be_bytes.ensures) (omega arith) (omega arith)

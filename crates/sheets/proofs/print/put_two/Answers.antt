@@ -1,11 +1,9 @@
 -- `put_two` meets its contract.
-use native.Mathlib.Omega.{arith}
-use lib.ListN.{length-set}
-use Rattle.sheets.specs.Laws.Laying.{laid_2_by}
+use Rattle.std.proofs.Common.{ap, ◌∙◌, List, ℕ, ◌+◌, ◌-◌, take, drop, arith}
+use Rattle.sheets.specs.Sheet.{bytes}
+use Rattle.sheets.specs.Laws.Laying.{laid_copied}
 use Rattle.sheets.proofs.print.put_two.Goals as goal
 
-pub bounds-b-from-2 : goal.bounds-b-from-2
-bounds-b-from-2 c = simp length-set (omega arith)
-
 pub returns : goal.returns
-returns c = laid_2_by _ _ _ c.requires
+unfolding bytes
+returns c = laid_copied c.args.b.now c.args.from (c.args.from + 2 - c.args.from) _ (bytes 2 c.args.v) (c.copy_from_slice.ensures.after ∙ ap (λ (l : List ℕ). take 2 (drop 2 l)) c.to_be_bytes.ensures) (omega arith) (omega arith)

@@ -1,11 +1,8 @@
 use mathlib.Core.Path.{◌≡◌}
-use Prim.Native.Nat.{◌+◌, ◌-◌, ◌*◌, ◌≤◌}
+use Prim.Native.Nat.{◌+◌}
 use Rattle.tables.specs.Base.{at}
 use Rattle.sheets.specs.Sheet.{bytes, runs, laid}
 use Rattle.sheets.proofs.print.put_words.Given as goal
 
 abbrev pub invariant-loop-j : goal.invariant-loop-j
-invariant-loop-j l = (l.b ≡ laid l.initial.b l.from (runs l.j (λ k. bytes 4 (at l.words (l.base + k))))) × (l.place ≡ l.from + l.j * 4) × (l.j ≤ l.w)
-
-abbrev pub decreases-loop-j : goal.decreases-loop-j
-decreases-loop-j l = l.w - l.j
+invariant-loop-j l = (l.b ≡ laid l.initial.b l.from (runs l.j (λ k. bytes 4 (at l.words (l.base + k)))))

@@ -15,20 +15,15 @@ nth s from k i = ap (λ (m : ℕ). same (at s m) 0) (omega arith)
 pub loop-k-init : goal.loop-k-init
 loop-k-init c = (omega arith, none _)
 
-pub zeros-requires : goal.zeros-requires
-zeros-requires c =
+pub returns-then-not-zeros : goal.returns-then-not-zeros
+returns-then-not-zeros c =
     let left : (c.loop-k.k + 32 ≤ c.args.n) = omega (arith, c.loop-k.invariant.0, c.loop-k-test.true) in
-    omega (arith, left, c.requires)
-
-pub returns-else-zeros : goal.returns-else-zeros
-returns-else-zeros c =
-    let left : (c.loop-k.k + 32 ≤ c.args.n) = omega (arith, c.loop-k.invariant.0, c.loop-k-test.true) in
-    fails_run c.loop-k.k 32 _ _ (nth c.args.s.now c.args.from c.loop-k.k) c.args.n left c.zeros.ensures c.if-zeros.false
+    fails_run c.loop-k.k 32 _ _ (nth c.args.s.now c.args.from c.loop-k.k) c.args.n left c.zeros.ensures c.if-not-zeros.true
 
 pub loop-k-preserved : goal.loop-k-preserved
 loop-k-preserved c =
     let left : (c.loop-k.k + 32 ≤ c.args.n) = omega (arith, c.loop-k.invariant.0, c.loop-k-test.true) in
-    (left, again_run c.loop-k.k 32 _ _ (nth c.args.s.now c.args.from c.loop-k.k) c.loop-k.invariant.1 c.zeros.ensures c.if-zeros.true)
+    (left, again_run c.loop-k.k 32 _ _ (nth c.args.s.now c.args.from c.loop-k.k) c.loop-k.invariant.1 c.zeros.ensures c.if-not-zeros.false)
 
 pub returns : goal.returns
 returns c =

@@ -1,36 +1,26 @@
 -- `number_at` meets its contract: after k bytes the value is the number of those k bytes.
-use mathlib.Core.Path.{◌≡◌, refl}
-use Prim.Native.Nat.{ℕ, ◌+◌}
-use native.Mathlib.Omega.{arith}
+use Rattle.std.proofs.Common.{◌≡◌, ℕ, ◌+◌, refl, ◌∙◌, arith}
+use Rattle.tables.specs.Base.{at}
 use Rattle.sheets.specs.Sheet.{number}
-use Rattle.sheets.proofs.Numbers.{number_next, four, next}
+use Rattle.sheets.proofs.Numbers.{slice_at, slice_end, number_next, next, next_fits}
 use Rattle.sheets.proofs.read.number_at.Goals as goal
 
-pub loop-k-init : goal.loop-k-init
+pub loop-byte-init : goal.loop-byte-init
 unfolding number
-loop-k-init c = (omega arith, refl, omega arith)
+loop-byte-init c = (refl, omega arith)
 
 pub overflow_mul-value : goal.overflow_mul-value
-overflow_mul-value c = let h = four c.loop-k.k (omega arith) in omega (arith, h, c.loop-k.invariant.2)
+overflow_mul-value c =
+    omega (arith, next_fits c.loop-byte.byte-index c.loop-byte.value 0 (omega (arith, slice_end c.args.s.now c.args.from c.args.n)) c.loop-byte.invariant.1 (omega arith))
 
-pub overflow_cast-value : goal.overflow_cast-value
-overflow_cast-value c = omega (arith, c.shared_slice_known-1.given (c.args.from + c.loop-k.k))
+pub overflow_add-value : goal.overflow_add-value
+overflow_add-value c =
+    let byte : c.from.result ≡ at c.args.s.now (c.args.from + c.loop-byte.byte-index) = c.from.ensures ∙ slice_at _ _ _ _ c.loop-byte-test.true in
+    omega (arith, next_fits c.loop-byte.byte-index c.loop-byte.value c.from.result (omega (arith, slice_end c.args.s.now c.args.from c.args.n)) c.loop-byte.invariant.1 (omega (arith, c.type_inv.s (c.args.from + c.loop-byte.byte-index))))
 
-pub overflow_add-value-in-loop-k : goal.overflow_add-value-in-loop-k
-overflow_add-value-in-loop-k c =
-    let l = c.loop-k in
-    let h = four l.k (omega arith) in
-    omega (arith, h, l.invariant.2, c.shared_slice_known-1.given (c.args.from + l.k))
-
-pub loop-k-preserved : goal.loop-k-preserved
-loop-k-preserved c =
-    let l = c.loop-k in
-    let i = l.invariant in
-    let j : ℕ = c.args.from + l.k in
-    (omega arith, number_next _ _ _ _ i.1, next _ _ _ i.2 (omega (arith, c.shared_slice_known-1.given j)))
-
-pub overflow_cast-result : goal.overflow_cast-result
-overflow_cast-result c = let h = four c.loop-k.k (omega arith) in omega (arith, h, c.loop-k.invariant.2)
-
-pub returns : goal.returns
-returns c = let e : c.loop-k.k ≡ c.args.n = omega arith in rw (← e) c.loop-k.invariant.1
+pub loop-byte-preserved : goal.loop-byte-preserved
+loop-byte-preserved c =
+    let k : ℕ = c.loop-byte.byte-index in
+    let byte : c.from.result ≡ at c.args.s.now (c.args.from + k) = c.from.ensures ∙ slice_at _ _ _ _ c.loop-byte-test.true in
+    let i = c.loop-byte.invariant in
+    rw byte (number_next _ _ _ _ i.0, next k _ _ i.1 (omega (arith, c.type_inv.s (c.args.from + k))))

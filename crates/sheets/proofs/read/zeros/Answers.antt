@@ -1,13 +1,12 @@
 -- `zeros` meets its contract: ok tells whether the bytes passed are 0.
-use native.Mathlib.Omega.{arith}
-use Rattle.tables.specs.Turn.{each_none, each_next, each_end, test_same}
+use Rattle.std.proofs.Common.{ap, ◌∙◌}
+use Rattle.std.proofs.Math.Dec.{eqb}
+use Rattle.tables.specs.Turn.{each_none, each_next, test_same}
+use Rattle.sheets.proofs.Numbers.{slice_at}
 use Rattle.sheets.proofs.read.zeros.Goals as goal
 
-pub loop-k-init : goal.loop-k-init
-loop-k-init c = (each_none _, omega arith)
+pub loop-byte-init : goal.loop-byte-init
+loop-byte-init c = each_none _
 
-pub loop-k-preserved : goal.loop-k-preserved
-loop-k-preserved c = (each_next _ _ _ _ c.loop-k.invariant.0 (test_same _ _), omega (arith, c.loop-k-test.true))
-
-pub returns : goal.returns
-returns c = each_end _ _ _ _ c.loop-k.invariant.0 c.loop-k.invariant.1 c.loop-k-test.false
+pub loop-byte-preserved : goal.loop-byte-preserved
+loop-byte-preserved c = each_next _ _ _ _ c.loop-byte.invariant (ap (λ x. eqb x 0) (slice_at _ _ _ _ c.loop-byte-test.true) ∙ test_same _ _)

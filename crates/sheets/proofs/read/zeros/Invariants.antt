@@ -1,11 +1,8 @@
 use mathlib.Core.Path.{◌≡◌}
-use Prim.Native.Nat.{◌+◌, ◌-◌, ◌≤◌}
+use Prim.Native.Nat.{◌+◌}
 use Rattle.tables.specs.Base.{at}
 use Rattle.tables.specs.Rule.{same, each, test}
 use Rattle.sheets.proofs.read.zeros.Given as goal
 
-abbrev pub invariant-loop-k : goal.invariant-loop-k
-invariant-loop-k l = (l.ok ≡ test (each l.k (λ i. same (at l.s (l.from + i)) 0))) × (l.k ≤ l.n)
-
-abbrev pub decreases-loop-k : goal.decreases-loop-k
-decreases-loop-k l = l.n - l.k
+abbrev pub invariant-loop-byte : goal.invariant-loop-byte
+invariant-loop-byte l = l.ok ≡ test (each l.byte-index (λ i. same (at l.s (l.from + i)) 0))

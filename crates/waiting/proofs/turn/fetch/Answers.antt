@@ -1,4 +1,5 @@
 -- `fetch` meets its contract: the fault's outcome tells the turn's, and where it found no frame free, all is as it was and the claim's outcome does.
+use mathlib.Core.Path.{sym, ◌∙◌}
 use native.Mathlib.Omega.{arith}
 use Rattle.model.specs.State.{State}
 use Rattle.model.specs.Lent.{lined_of}
@@ -31,11 +32,11 @@ claim-requires c =
     a.addresses.now a.states.now a.owners.now a.free_map.now a.active.now a.updating.now a.images.now a.line.now a.used.now in
     let absent : ¬ InFrame c.args.sizes lent = λ h. let a = c.args in c.requires.3 (its_in a.sizes (unpacked a.frames.now) a.i (rw c.requires.2 h)) in
     let d = c.fault-done.ensures in
-    claim_asked c.args.sizes lent c.requires.0 c.requires.1 absent c.args.i c.requires.2 _ (fault_left (d.frames, (d.words, (d.free_queue, (d.removal_list, (d.addresses, (d.states, (d.owners, (d.free_map, (d.hand, d.free)))))))))) d.answer c.if-answer-eq-NO_FRAME.true
+    claim_asked c.args.sizes lent c.requires.0 c.requires.1 absent c.args.i c.requires.2 _ (fault_left (d.frames, (d.words, (d.free_queue, (d.removal_list, (d.addresses, (d.states, (d.owners, (d.free_map, (d.hand, d.free)))))))))) d.answer (c.if-answer-no_frame.true ∙ c.number-no_frame.ensures)
 
-pub returns-then-answer-eq-NO_FRAME : goal.returns-then-answer-eq-NO_FRAME
+pub returns-then-answer-no_frame : goal.returns-then-answer-no_frame
 unfolding taken deposited
-returns-then-answer-eq-NO_FRAME c =
+returns-then-answer-no_frame c =
     let lent : State =
     let a = c.args in
     lined_of (frames_in a.sizes a.frames.now) a.pool a.records.now a.numbers.now a.accounts.now a.maps.now a.limits.now a.parents.now a.highest.now a.frame_words.now a.free_queue.now a.removal_list.now
@@ -43,9 +44,9 @@ returns-then-answer-eq-NO_FRAME c =
     let absent : ¬ InFrame c.args.sizes lent = λ h. let a = c.args in c.requires.3 (its_in a.sizes (unpacked a.frames.now) a.i (rw c.requires.2 h)) in
     let d = c.fault-done.ensures in
     rw c.claimed.ensures (record {
-      left = brought_by_claim c.args.sizes lent c.requires.0 c.requires.1 absent c.args.i c.requires.2 _ (fault_left (d.frames, (d.words, (d.free_queue, (d.removal_list, (d.addresses, (d.states, (d.owners, (d.free_map, (d.hand, d.free)))))))))) d.answer c.if-answer-eq-NO_FRAME.true
+      left = brought_by_claim c.args.sizes lent c.requires.0 c.requires.1 absent c.args.i c.requires.2 _ (fault_left (d.frames, (d.words, (d.free_queue, (d.removal_list, (d.addresses, (d.states, (d.owners, (d.free_map, (d.hand, d.free)))))))))) d.answer (c.if-answer-no_frame.true ∙ c.number-no_frame.ensures)
           (let e = c.claim.ensures in record { answer = e.answer; frames = e.frames; free_queue = e.free_queue; removal_list = e.removal_list; states = e.states; used = e.used });
-      nulled = brought_nulls_by_claim c.args.sizes lent c.requires.0 c.requires.1 absent c.args.i c.requires.2 _ (fault_left (d.frames, (d.words, (d.free_queue, (d.removal_list, (d.addresses, (d.states, (d.owners, (d.free_map, (d.hand, d.free)))))))))) d.answer c.if-answer-eq-NO_FRAME.true c.claim.ensures.nulled;
+      nulled = brought_nulls_by_claim c.args.sizes lent c.requires.0 c.requires.1 absent c.args.i c.requires.2 _ (fault_left (d.frames, (d.words, (d.free_queue, (d.removal_list, (d.addresses, (d.states, (d.owners, (d.free_map, (d.hand, d.free)))))))))) d.answer (c.if-answer-no_frame.true ∙ c.number-no_frame.ensures) c.claim.ensures.nulled;
     })
 
 pub settle-requires : goal.settle-requires
@@ -66,6 +67,6 @@ returns c =
     let absent : ¬ InFrame c.args.sizes lent = λ h. let a = c.args in c.requires.3 (its_in a.sizes (unpacked a.frames.now) a.i (rw c.requires.2 h)) in
     let d = c.fault-done.ensures in
     rw (c.settle.ensures.done, d.deposited, d.nulled) (record {
-      left = brought c.args.sizes lent c.requires.0 c.requires.1 absent c.args.i c.requires.2 _ (fault_left (d.frames, (d.words, (d.free_queue, (d.removal_list, (d.addresses, (d.states, (d.owners, (d.free_map, (d.hand, d.free)))))))))) d.answer c.if-answer-eq-NO_FRAME.false c.settle.ensures.waiting;
-      nulled = brought_nulls c.args.sizes lent c.requires.0 c.requires.1 absent c.args.i c.requires.2 _ (fault_left (d.frames, (d.words, (d.free_queue, (d.removal_list, (d.addresses, (d.states, (d.owners, (d.free_map, (d.hand, d.free)))))))))) d.answer c.if-answer-eq-NO_FRAME.false;
+      left = brought c.args.sizes lent c.requires.0 c.requires.1 absent c.args.i c.requires.2 _ (fault_left (d.frames, (d.words, (d.free_queue, (d.removal_list, (d.addresses, (d.states, (d.owners, (d.free_map, (d.hand, d.free)))))))))) d.answer (λ h. c.if-answer-no_frame.false (h ∙ sym c.number-no_frame.ensures)) c.settle.ensures.waiting;
+      nulled = brought_nulls c.args.sizes lent c.requires.0 c.requires.1 absent c.args.i c.requires.2 _ (fault_left (d.frames, (d.words, (d.free_queue, (d.removal_list, (d.addresses, (d.states, (d.owners, (d.free_map, (d.hand, d.free)))))))))) d.answer (λ h. c.if-answer-no_frame.false (h ∙ sym c.number-no_frame.ensures));
     })

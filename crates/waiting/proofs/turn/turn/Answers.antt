@@ -1,5 +1,4 @@
 -- `turn` meets its contract: nobody waits, or the first request's page is in a frame, or it is in none.
-use borrow.Author.Rules.{rules}
 use mathlib.Core.List.{List}
 use Rattle.model.specs.declared.sizes.Sizes.{Sizes}
 use mathlib.Core.Path.{◌≡◌, ap, sym, ◌∙◌}
@@ -29,14 +28,14 @@ use Rattle.waiting.proofs.turn.turn.Goals as goal
 abbrev In : Sizes → List ℕ → ℕ → Type 0
 In z frames i = frame_in z.frames (unpacked frames) i < z.frames
 
-pub returns-then-at16-eq0 : goal.returns-then-at16-eq0
+pub returns-then-at-eq0 : goal.returns-then-at-eq0
 unfolding taken deposited
-returns-then-at16-eq0 c =
+returns-then-at-eq0 c =
     let lent : State =
     let a = c.args in
     lined_of (frames_in a.sizes a.frames.now) a.pool a.records.now a.numbers.now a.accounts.now a.maps.now a.limits.now a.parents.now a.highest.now a.frame_words.now a.free_queue.now a.removal_list.now
     a.addresses.now a.states.now a.owners.now a.free_map.now a.active.now a.updating.now a.images.now a.line.now a.used.now in
-    let none = size_zero c.args.line.now (sym c.at16.ensures ∙ c.if-at16-eq0.true) in
+    let none = size_zero c.args.line.now (sym c.at.ensures ∙ c.if-at-eq0.true) in
     rw c.told.ensures (record { left = nobody_own c.args.sizes lent none; nulled = nobody_nulls c.args.sizes lent none })
 
 pub frame_of-f-requires : goal.frame_of-f-requires
@@ -45,7 +44,7 @@ frame_of-f-requires c =
     let a = c.args in
     lined_of (frames_in a.sizes a.frames.now) a.pool a.records.now a.numbers.now a.accounts.now a.maps.now a.limits.now a.parents.now a.highest.now a.frame_words.now a.free_queue.now a.removal_list.now
     a.addresses.now a.states.now a.owners.now a.free_map.now a.active.now a.updating.now a.images.now a.line.now a.used.now in
-    let waits : Waiting c.args.sizes lent = size_more c.args.line.now 0 (omega arith) (λ h. c.if-at16-eq0.false (c.at16.ensures ∙ h)) in
+    let waits : Waiting c.args.sizes lent = size_more c.args.line.now 0 (omega arith) (λ h. c.if-at-eq0.false (c.at.ensures ∙ h)) in
     let k = c.requires in let z = c.args.sizes in
     let b = first_below c.args.line.now k.fits.memory.line k.rules.line waits in
     omega (arith, c.first-i.ensures, b, pages_most z k.fits.sizes)
@@ -56,7 +55,7 @@ meet-result-requires c =
     let a = c.args in
     lined_of (frames_in a.sizes a.frames.now) a.pool a.records.now a.numbers.now a.accounts.now a.maps.now a.limits.now a.parents.now a.highest.now a.frame_words.now a.free_queue.now a.removal_list.now
     a.addresses.now a.states.now a.owners.now a.free_map.now a.active.now a.updating.now a.images.now a.line.now a.used.now in
-    let waits : Waiting c.args.sizes lent = size_more c.args.line.now 0 (omega arith) (λ h. c.if-at16-eq0.false (c.at16.ensures ∙ h)) in
+    let waits : Waiting c.args.sizes lent = size_more c.args.line.now 0 (omega arith) (λ h. c.if-at-eq0.false (c.at.ensures ∙ h)) in
     (packed_line c.args.sizes lent c.requires, waits)
 
 pub returns-then-f-sizes : goal.returns-then-f-sizes
@@ -66,7 +65,7 @@ returns-then-f-sizes c =
     let a = c.args in
     lined_of (frames_in a.sizes a.frames.now) a.pool a.records.now a.numbers.now a.accounts.now a.maps.now a.limits.now a.parents.now a.highest.now a.frame_words.now a.free_queue.now a.removal_list.now
     a.addresses.now a.states.now a.owners.now a.free_map.now a.active.now a.updating.now a.images.now a.line.now a.used.now in
-    let waits : Waiting c.args.sizes lent = size_more c.args.line.now 0 (omega arith) (λ h. c.if-at16-eq0.false (c.at16.ensures ∙ h)) in
+    let waits : Waiting c.args.sizes lent = size_more c.args.line.now 0 (omega arith) (λ h. c.if-at-eq0.false (c.at.ensures ∙ h)) in
     let below : c.frame_of-f.result < c.args.sizes.frames = c.if-f-sizes.true in
     let inside : In c.args.sizes c.args.frames.now c.first-i.result = rw (← c.frame_of-f.ensures) below in
     let in_frame : InFrame c.args.sizes lent = rw (← c.first-i.ensures) (its_some c.args.sizes (unpacked c.args.frames.now) c.first-i.result inside) in
@@ -87,5 +86,5 @@ fetch-requires c =
     let a = c.args in
     lined_of (frames_in a.sizes a.frames.now) a.pool a.records.now a.numbers.now a.accounts.now a.maps.now a.limits.now a.parents.now a.highest.now a.frame_words.now a.free_queue.now a.removal_list.now
     a.addresses.now a.states.now a.owners.now a.free_map.now a.active.now a.updating.now a.images.now a.line.now a.used.now in
-    let waits : Waiting c.args.sizes lent = size_more c.args.line.now 0 (omega arith) (λ h. c.if-at16-eq0.false (c.at16.ensures ∙ h)) in
+    let waits : Waiting c.args.sizes lent = size_more c.args.line.now 0 (omega arith) (λ h. c.if-at-eq0.false (c.at.ensures ∙ h)) in
     (c.requires, waits, c.first-i.ensures, λ h. omega (arith, c.if-f-sizes.false, c.frame_of-f.ensures, h))

@@ -1,5 +1,5 @@
 -- `begins` meets its contract.
-use borrow.Author.Tests.{eq-eqb, ne_eqb}
+use borrow.Author.Tests.{eq-eqb}
 use mathlib.Core.Path.{ap}
 use mathlib.Core.Bool.{not}
 use Rattle.tables.specs.Base.{all}
@@ -9,6 +9,3 @@ use Rattle.writeback.proofs.claim.begins.Goals as goal
 pub returns-then-modified-eq1 : goal.returns-then-modified-eq1
 unfolding all test
 returns-then-modified-eq1 c = rw (eq-eqb _ _ c.if-modified-eq1.true) (ap not c.all_zero.ensures)
-
-pub returns : goal.returns
-returns c = rw (ne_eqb _ _ c.if-modified-eq1.false)

@@ -1,5 +1,6 @@
 -- `ask_done` meets its contract: the first question that fails.
 use mathlib.Core.Path.{ap, sym, ◌∙◌}
+use mathlib.Core.Logic.{⊎_elim}
 use native.Mathlib.Omega.{arith}
 use Rattle.tables.specs.Questions.{yes_all}
 use Rattle.model.specs.declared.frame.Frame.{Frame}
@@ -9,10 +10,7 @@ use Rattle.leaves.specs.Packed.{unpacked}
 use Rattle.writeback.proofs.page_done.ask_done.Goals as goal
 
 pub returns-then-frame-sizes : goal.returns-then-frame-sizes
-returns-then-frame-sizes c = sym (first_no_holds 3 _ _ (λ h. omega (arith, h.0)))
-
-pub returns-then-good-gt1 : goal.returns-then-good-gt1
-returns-then-good-gt1 c = sym (first_no_holds 3 _ _ (λ h. omega (arith, h.1)))
+returns-then-frame-sizes c = sym (first_no_holds 3 _ _ (λ h. ⊎_elim (λ x. omega (arith, x, h.0)) (λ y. omega (arith, y, h.1)) c.then-frame-sizes.either))
 
 pub returns-then-asked-eq-NONE : goal.returns-then-asked-eq-NONE
 returns-then-asked-eq-NONE c =

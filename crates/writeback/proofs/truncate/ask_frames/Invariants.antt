@@ -1,8 +1,8 @@
 use mathlib.Core.Path.{◌≡◌}
-use mathlib.Core.Bool.{Bool, false}
+use mathlib.Core.Bool.{Bool, true, false}
 use mathlib.Core.Logic.{◌⊎◌}
 use mathlib.Core.List.{List}
-use Prim.Native.Nat.{ℕ, ◌+◌, ◌-◌, ◌*◌, ◌<◌, ◌≤◌}
+use Prim.Native.Nat.{ℕ, ◌+◌, ◌*◌, ◌<◌, ◌≤◌}
 use Rattle.tables.specs.Rule.{Holds}
 use Rattle.model.specs.declared.frame.Frame.{Frame}
 use Rattle.model.specs.State.{frame_at}
@@ -19,16 +19,13 @@ abbrev pub QuietBelow : ℕ → ℕ → ℕ → ℕ → List Frame → ℕ → T
 QuietBelow w pages slot k fs f = (i : ℕ) → i < f → Cut pages slot k (frame_at fs i) → Holds (quiet w (frame_at fs i))
 
 -- the frames below f are asked
-pub record AskedBelow (pages slot k : ℕ) (fs : List Frame) (f r : ℕ) : Type 0 where
+pub record AskedBelow (pages slot k : ℕ) (fs : List Frame) (f : ℕ) (w : Bool) : Type 0 where
   pub still : QuietBelow 0 pages slot k fs f
-  pub wired : ((r ≡ 0) × QuietBelow 1 pages slot k fs f) ⊎ ((r ≡ 16) × ((i : ℕ) × (i < f) × Cut pages slot k (frame_at fs i) × ((frame_at fs i).wired ≡ 1)))
+  pub wired : ((w ≡ false) × QuietBelow 1 pages slot k fs f) ⊎ ((w ≡ true) × ((i : ℕ) × (i < f) × Cut pages slot k (frame_at fs i) × ((frame_at fs i).wired ≡ 1)))
 
 -- where none is found, no frame below f has one of the pages
 abbrev pub FoundBelow : ℕ → ℕ → ℕ → List Frame → ℕ → Bool → Type 0
 FoundBelow pages slot k fs f any = any ≡ false → (i : ℕ) → i < f → ¬ (Cut pages slot k (frame_at fs i))
 
 abbrev pub invariant-loop-f : goal.invariant-loop-f
-invariant-loop-f l = (l.f ≤ l.count) × AskedBelow l.pages l.slot l.k (unpacked l.frames) l.f l.no × FoundBelow l.pages l.slot l.k (unpacked l.frames) l.f l.any
-
-abbrev pub decreases-loop-f : goal.decreases-loop-f
-decreases-loop-f l = l.count - l.f
+invariant-loop-f l = record { asked : AskedBelow l.pages l.slot l.k (unpacked l.frames) l.f l.wired; found : FoundBelow l.pages l.slot l.k (unpacked l.frames) l.f l.any }

@@ -1,6 +1,6 @@
 use mathlib.Core.Path.{◌≡◌}
 use mathlib.Core.List.{List}
-use Prim.Native.Nat.{ℕ, ◌-◌, ◌<◌, ◌≤◌}
+use Prim.Native.Nat.{ℕ, ◌<◌, ◌≤◌}
 use lib.ListN.{length}
 use Rattle.tables.specs.Rule.{Holds}
 use Rattle.tables.specs.Store.{Split}
@@ -17,7 +17,4 @@ pub record Cleared (pages slot k : ℕ) (fs : List Frame) (f : ℕ) (kept : List
   pub long : length kept ≡ length fs
 
 abbrev pub invariant-loop-f : goal.invariant-loop-f
-invariant-loop-f l = (l.f ≤ l.count) × Cleared l.pages l.slot l.k (unpacked l.initial.frames) l.f (unpacked l.frames)
-
-abbrev pub decreases-loop-f : goal.decreases-loop-f
-decreases-loop-f l = l.count - l.f
+invariant-loop-f l = Cleared l.pages l.slot l.k (unpacked l.initial.frames) l.f (unpacked l.frames)

@@ -35,12 +35,12 @@ returns-then-is_modified c =
     let a = c.args in
     changed a.entry (unpacked a.frames.now) a.addresses.now a.states.now a.i c.is_modified.ensures c.if-is_modified.true
 
-pub returns-then-address-eq0 : goal.returns-then-address-eq0
-returns-then-address-eq0 c =
+pub returns-then-address-ne0 : goal.returns-then-address-ne0
+returns-then-address-ne0 c =
     let a = c.args in
-    nothing a.entry (unpacked a.frames.now) a.addresses.now a.states.now a.i c.is_modified.ensures c.if-is_modified.false c.at16-address.ensures c.if-address-eq0.true
+    by_state a.entry (unpacked a.frames.now) a.addresses.now a.states.now a.i c.is_modified.ensures c.if-is_modified.false c.at-address.ensures c.if-address-ne0.true c.at.ensures
 
-pub returns : goal.returns
-returns c =
+pub returns-else-address-ne0 : goal.returns-else-address-ne0
+returns-else-address-ne0 c =
     let a = c.args in
-    by_state a.entry (unpacked a.frames.now) a.addresses.now a.states.now a.i c.is_modified.ensures c.if-is_modified.false c.at16-address.ensures c.if-address-eq0.false c.at8.ensures
+    rw (eq-eqb _ _ c.if-address-ne0.false) (nothing a.entry (unpacked a.frames.now) a.addresses.now a.states.now a.i c.is_modified.ensures c.if-is_modified.false c.at-address.ensures c.if-address-ne0.false)

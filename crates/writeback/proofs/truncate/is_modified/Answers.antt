@@ -23,10 +23,10 @@ module _ (entry : ℕ) (fs : List Frame) where
     | no l ↦ ne_eqb g.modified 1 l ∙ sym (untold (modified_entry entry fs) (λ h. l (ap (λ (v : Frame). v.modified) e ∙ h.1)))
   ]
 
-pub returns-then-entry-eq0 : goal.returns-then-entry-eq0
-returns-then-entry-eq0 c =
-    nothing c.args.entry (unpacked c.args.frames.now) c.if-entry-eq0.true
+pub returns-then-entry-ne0 : goal.returns-then-entry-ne0
+returns-then-entry-ne0 c =
+    by-switch c.args.entry (unpacked c.args.frames.now) c.if-entry-ne0.true c.frame_at.ensures
 
-pub returns : goal.returns
-returns c =
-    by-switch c.args.entry (unpacked c.args.frames.now) c.if-entry-eq0.false c.frame_at-frame.ensures
+pub returns-else-entry-ne0 : goal.returns-else-entry-ne0
+returns-else-entry-ne0 c =
+    rw (eq-eqb _ _ c.if-entry-ne0.false) (nothing c.args.entry (unpacked c.args.frames.now) c.if-entry-ne0.false)

@@ -6,18 +6,15 @@ use Rattle.writeback.proofs.update.fill_image.Goals as goal
 pub loop-i-init : goal.loop-i-init
 loop-i-init c =
     let a = c.args in
-    (omega arith, omega arith, turned_none _ _ _ _ (λ i h. omega (arith, part_inside a.pages a.slot c.requires.0 i h)))
+    turned_none _ _ _ _ (λ i h. omega (arith, part_inside a.pages a.slot c.requires.0 i h))
 
 pub loop-i-preserved : goal.loop-i-preserved
 loop-i-preserved c =
-    let a = c.args in (
-      omega arith,
-      omega arith,
-      turn_on c.loop-i.i c.loop-i.invariant.2 (omega arith)
-          (inside_part a.pages a.slot c.requires.0 c.loop-i.i (λ h. omega arith, omega arith)) _ c.live_address.ensures,
-    )
+    let a = c.args in
+    turn_on c.loop-i.i c.loop-i.invariant (omega arith)
+    (inside_part a.pages a.slot c.requires.0 c.loop-i.i (λ h. omega arith, omega arith)) _ c.live_address.ensures
 
 pub returns : goal.returns
 returns c =
     let a = c.args in
-    turned_all _ c.loop-i.invariant.2 (λ i h k. omega (arith, part_inside a.pages a.slot c.requires.0 i k))
+    turned_all _ c.loop-i.invariant (λ i h k. omega (arith, part_inside a.pages a.slot c.requires.0 i k))

@@ -1,7 +1,0 @@
--- `at32` meets its contract: past the end a list has its default.
-use lib.ListN.{get_or-eq_default}
-use mathlib.Core.Path.{sym}
-use Rattle.leaves.proofs.cells.at32.Goals as goal
-
-pub returns : goal.returns
-returns c = sym (get_or-eq_default c.args.s.now 0 c.if-i-s.false)

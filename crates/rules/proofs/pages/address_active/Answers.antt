@@ -1,0 +1,6 @@
+-- `address_active` meets its contract: the row's entries are zeros.
+use Rattle.leaves.proofs.Runs.{zeros_said}
+use Rattle.rules.proofs.pages.address_active.Goals as goal
+
+pub returns : goal.returns
+returns c = zeros_said _ _ c.args.addresses.now c.all_zeros.ensures

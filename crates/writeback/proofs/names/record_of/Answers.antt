@@ -1,9 +1,0 @@
--- `record_of` meets its contract.
-use mathlib.Core.Path.{ap, ◌∙◌}
-use Prim.Native.Nat.{pred}
-use Rattle.tables.specs.Base.{at}
-use Rattle.writeback.proofs.names.record_of.Goals as goal
-
-pub returns : goal.returns
-returns c =
-    c.named-2.ensures ∙ ap pred (c.at16.ensures ∙ ap (at c.args.addresses.now) c.named.ensures)
