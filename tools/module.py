@@ -12,7 +12,7 @@ import re
 from shim import Refused, between, signatures
 
 INSTRUCTIONS = set("alloca load store getelementptr icmp select phi br switch ret call unreachable extractvalue insertvalue".split()) | set(
-    "add sub mul udiv urem sdiv srem and or xor shl lshr ashr zext sext trunc ptrtoaddr".split()
+    "add sub mul udiv urem sdiv srem and or xor shl lshr ashr zext sext trunc".split()
 )
 TYPES = {"i1", "i8", "i16", "i32", "i64", "ptr", "void", "label"}
 INTRINSICS = re.compile(r"llvm\.(memcpy|memmove|memset|ctpop|ctlz|cttz|trap)\b")
@@ -21,15 +21,13 @@ ATTRIBUTES = {'"probe-stack"="inline-asm"', '"stack-probe-size"="3072"', '"targe
 PLACES = re.compile(r"getelementptr (inbounds |nuw |nusw )*i8, |alloca (\[\d+ x i8\]|i\d+|ptr), ")
 # where an enum's tag is stored
 TAG = re.compile(r"^  store i64 (%[\w.]+|\d+), ptr (%[\w.]+), align 1$", re.M)
-# where a tag and a pointer, 8 bytes on, are loaded at once
-TAGGED = re.compile(r"^  (%[\w.]+) = load \{ i8, ptr \}, ptr (%[\w.]+), align ([1248])(, ![^\n]*)?$", re.M)
 LINKAGES = re.compile(r"(internal|private) (unnamed_addr )?constant ")
 # what has a name of its own; anything else that is not known is refused as such
 BOUND = (
     (re.compile(r"<(vscale x )?\d+ x "), "a vector"),
     (re.compile(r"\basm\b"), "assembler"),
     (re.compile(r"@llvm\.(x86|aarch64|arm|riscv|s390|sse|avx)\b"), "an intrinsic of one processor"),
-    (re.compile(r"\b(inttoptr|ptrtoint|ptrtoaddr \()"), "a pointer cast from or to a number"),
+    (re.compile(r"\b(inttoptr|ptrtoint|ptrtoaddr)\b"), "a pointer cast from or to a number"),
     (re.compile(r"\baddrspace\("), "an address space"),
     (re.compile(r"\b(volatile|atomic\w*|fence|cmpxchg)\b"), "an access in order with a device or another processor"),
     (re.compile(r"\b(float|double|half|bfloat|fp128|x86_fp80|ppc_fp128)\b"), "a number with a fraction"),
@@ -55,18 +53,10 @@ def refuse_type(line):
     kinds = set(re.findall(r"(?<![\w.%@-])(i\d+)\b", line)) | set(re.findall(r"\b(token|x86_amx|metadata|target\()", line))
     if kinds - TYPES:
         raise Refused(f"a type that is not looked at: {line.strip()[:120]}")
-    held = tagged(line)
-    for fields in (found.split(", ") for found in re.findall(r"<?\{ ([^{}]*) \}", held)):
+    for fields in (found.split(", ") for found in re.findall(r"<?\{ ([^{}]*) \}", line)):
         # a pointer's field has 4 bytes where pointers have 32 bits: what follows it stands at a multiple of 8 then, or is refused
-        if "tagged" in fields or "ptr" in fields and (set(fields) - {"ptr", "i64"} or ("ptr", "ptr") in zip(fields, fields[1:])):
+        if "ptr" in fields and (set(fields) - {"ptr", "i64"} or ("ptr", "ptr") in zip(fields, fields[1:])):
             raise Refused(f"a struct with another layout where pointers have 4 bytes: {line.strip()[:120]}")
-
-
-def tagged(line):
-    """A line of a function with each { i8, ptr } named: std's Option of a reference, a value but where it is loaded, which for_target does in parts."""
-    if re.match(r"  store |@", line) or " load " in line and not TAGGED.match(line):
-        return line
-    return re.sub(r"(?<!<)\{ i8, ptr \}", "tagged", line)
 
 
 def refuse_instruction(line):
@@ -109,30 +99,21 @@ def pointer_places(body):
     return [line for line in used if not known.match(line)]
 
 
-def addresses(body):
-    """The lines of a function that use an address as anything but how far it is from another, to be compared: so std's copy finds which way to go."""
-    found = re.findall(r"^  (%[\w.]+) = ptrtoaddr ptr %[\w.]+ to i64$", body, re.M)
-    one = "|".join(found)
-    apart = re.findall(rf"^  (%[\w.]+) = sub i64 (?:{one}), (?:{one})$", body, re.M) if found else []
-    known = re.compile(rf"  ({one}) = ptrtoaddr |  ({'|'.join(apart)}) = sub i64 ({one}), ({one})$|  %[\w.]+ = icmp ult i64 ({'|'.join(apart)}), %[\w.]+$")
-    used = re.compile(rf"ptrtoaddr|(?<![\w.%])({'|'.join(found + apart)})(?![\w.])" if found else "ptrtoaddr")
-    return [line for line in body.splitlines() if used.search(line) and not (apart and known.match(line))]
-
-
 def wide_bytes(body):
-    """The lines of a function with more than a byte at any address, but a tag's store: where the high byte is first they would mean another number."""
+    """The lines of a function with more than a byte at any address, but a tag's store that no number is read from: where the high byte is first they
+    would mean another number."""
     tags = set(re.findall(r"^  (%[\w.]+) = zext i8 %[\w.]+ to i64$", body, re.M)) | {str(tag) for tag in range(256)}
+    numbers = set(re.findall(r"^  %[\w.]+ = load i(?:16|32|64), ptr (%[\w.]+),", body, re.M))
     wide = re.findall(r"^  (?:%[\w.]+ = )?(?:load|store) (?!i8\b|\{ i8, i8 \})[^\n]*, align 1\b[^\n]*$", body, re.M)
-    return [line for line in wide if not (TAG.match(line) and TAG.match(line)[1] in tags)]
+    return [line for line in wide if not (TAG.match(line) and TAG.match(line)[1] in tags and TAG.match(line)[2] not in numbers)]
 
 
 def looked_at(text):
     """Refuses a module with anything that is bound to a processor, or that is not known not to be."""
     bodies = re.findall(r"^define [^\n]*\{\n.*?^\}$", text, re.S | re.M)
-    for wrong, what in ((pointer_places, "a pointer's place that is used as bytes"), (addresses, "an address that is used as a number")):
-        other = [line for body in bodies for line in wrong(body)]
-        if other:
-            raise Refused(f"{what}: {other[0].strip()[:120]}")
+    other = [line for body in bodies for line in pointer_places(body)]
+    if other:
+        raise Refused(f"a pointer's place that is used as bytes: {other[0].strip()[:120]}")
     wide = [line for body in bodies if body.startswith("define internal ") for line in wide_bytes(body)]
     if wide:
         raise Refused(f"more than a byte at any address, and no tag: {wide[0].strip()[:120]}")
@@ -194,19 +175,6 @@ def once(pattern, new, text):
     return out
 
 
-def in_parts(load):
-    """The load of a tag and of the pointer 8 bytes on, which stands 4 bytes on in a struct where pointers have 32 bits."""
-    value, place, align = load.group(1, 2, 3)
-    lines = [
-        f"{value}.tag = load i8, ptr {place}, align {align}",
-        f"{value}.at = getelementptr i8, ptr {place}, i64 8",
-        f"{value}.pointer = load ptr, ptr {value}.at, align {align}",
-        f"{value}.half = insertvalue {{ i8, ptr }} poison, i8 {value}.tag, 0",
-        f"{value} = insertvalue {{ i8, ptr }} {value}.half, ptr {value}.pointer, 1",
-    ]
-    return "\n".join("  " + line for line in lines)
-
-
 def tags_first(text):
     """The module for a processor that has the high byte first: a tag, which is read as the first byte, is put there."""
     numbers = itertools.count()
@@ -230,8 +198,4 @@ def for_target(text, calls, known, triple, layout, probes):
     text = once(r"^target datalayout = .*$", f'target datalayout = "{layout}"', text)
     text = once(r"^target triple = .*$", f'target triple = "{triple}"', text)
     text = text.replace(' "target-cpu"="x86-64"', "")
-    if re.search(r"(^|-)p:32:", layout):
-        # an address has 32 bits there: it is widened, so that as many bytes lie between two of them
-        text = TAGGED.sub(in_parts, text)
-        text = re.sub(r"^  (%[\w.]+) = ptrtoaddr (ptr %[\w.]+) to i64$", r"  \1.narrow = ptrtoaddr \2 to i32\n  \1 = zext i32 \1.narrow to i64", text, flags=re.M)
     return text if probes else text.replace(' "probe-stack"="inline-asm"', "").replace(' "stack-probe-size"="3072"', "")

@@ -48,7 +48,10 @@ fn store_map(maps: &mut [u16], pages: usize, slot: usize, entries: &[u16])
     ensures { maps.new ≡ store maps.old (λ i. same (i / pages) slot) (λ i. at entries.now (i % pages)) }
 {
     let start = slot * pages;
-    maps[start..start + pages].copy_from_slice(&entries[..pages]);
+    // No std copy: it asks how far addresses are apart, which is another number on another processor.
+    for p in 0..pages {
+        maps[start + p] = entries[p];
+    }
 }
 
 // One store, the last: number, account and whole map.

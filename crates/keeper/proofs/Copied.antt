@@ -1,15 +1,15 @@
--- How many frames are copied: as many as the slice and the array have.
+-- A loop that copies a list over another from the front, one store a turn: after i turns the list is `copied i src dst`.
+--     copied_next              a store of src[i] at i makes it the same at i + 1
+--     copied_length            its length is dst's
 --     capped_le, capped_64     the number of frames that are copied
---     in_slice, in_array       what the bounds of the two copies ask
 -- Assumes nothing.
-use mathlib.Core.Path.{◌≡◌, ap, ◌∙◌}
-use mathlib.Core.List.{List}
-use Prim.Native.Nat.{ℕ, ◌≤◌}
+use mathlib.Core.Path.{◌≡◌, refl, ap}
+use mathlib.Core.List.{List, [], ◌∷◌}
+use Prim.Native.Nat.{ℕ, zero, suc, ◌≤◌, ◌<◌}
+use native.Mathlib.Nat.{not-suc-le-zero, le_of_suc-le-suc}
 use native.Mathlib.Omega.{arith}
-use lib.ListN.{length, replicate, length-replicate}
-use Rattle.model.specs.declared.frame.Frame.{Frame}
-use Rattle.model.specs.State.{no_frame}
-use Rattle.keeper.specs.Copies.{capped}
+use lib.ListN.{length, get_or, set}
+use Rattle.keeper.specs.Copies.{capped, copied}
 
 pub capped_le : (n : ℕ) → capped n ≤ n
 unfolding capped
@@ -19,12 +19,15 @@ pub capped_64 : (n : ℕ) → capped n ≤ 64
 unfolding capped
 capped_64 n = omega arith
 
--- so many are there in the slice, and in an array of 64
-pub in_slice : {X : Type 0} (ys : List X) {m : ℕ} → m ≡ capped (length ys) → m ≤ length ys
-in_slice ys e = omega (arith, e, capped_le (length ys))
+module _ {X : Type 0} where
+  pub copied_next : (src dst : List X) (i : ℕ) (d : X) → i < length src → i < length dst → set (copied i src dst) i (get_or src i d) ≡ copied (suc i) src dst
+  copied_next [] dst i d h k = absurd (not-suc-le-zero h)
+  copied_next (x ∷ xs) [] i d h k = absurd (not-suc-le-zero k)
+  copied_next (x ∷ xs) (y ∷ ys) zero d h k = refl
+  copied_next (x ∷ xs) (y ∷ ys) (suc i) d h k = ap (λ (l : List X). x ∷ l) (copied_next xs ys i d (le_of_suc-le-suc h) (le_of_suc-le-suc k))
 
-pub in_array : {X Y : Type 0} (ys : List X) (a : List Y) {m : ℕ} → m ≡ capped (length ys) → length a ≡ 64 → m ≤ length a
-in_array ys a e l = omega (arith, e, l, capped_64 (length ys))
-
-pub empty_long : {a : List Frame} → a ≡ replicate 64 no_frame → length a ≡ 64
-empty_long e = ap length e ∙ length-replicate 64 no_frame
+  pub copied_length : (src dst : List X) (i : ℕ) → i ≤ length src → i ≤ length dst → length (copied i src dst) ≡ length dst
+  copied_length src dst zero h k = refl
+  copied_length [] dst (suc i) h k = absurd (not-suc-le-zero h)
+  copied_length (x ∷ xs) [] (suc i) h k = absurd (not-suc-le-zero k)
+  copied_length (x ∷ xs) (y ∷ ys) (suc i) h k = ap suc (copied_length xs ys i (le_of_suc-le-suc h) (le_of_suc-le-suc k))

@@ -18,7 +18,10 @@ pub fn load(frames: &[Frame]) -> [Frame; 64]
 {
     let mut a = no_frames();
     let n = capped(frames.len());
-    a[..n].copy_from_slice(&frames[..n]);
+    // No std copy: it asks how far addresses are apart, which is another number on another processor.
+    for i in 0..n {
+        a[i] = frames[i];
+    }
     a
 }
 
@@ -28,5 +31,7 @@ pub fn save(frames: &mut [Frame], values: [Frame; 64])
     ensures { frames.new ≡ saved frames.old values }
 {
     let n = capped(frames.len());
-    frames[..n].copy_from_slice(&values[..n]);
+    for i in 0..n {
+        frames[i] = values[i];
+    }
 }

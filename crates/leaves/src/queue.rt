@@ -12,7 +12,8 @@ fn place(q: &[u16], entry: u16) -> Option<usize>
     ensures found { IfSome result (λ k. (k < length q.now) × (at q.now k ≡ entry) × ((i : ℕ) → i < k → at q.now i ≡ entry → ⊥)) }
     ensures none { IfNone result ((i : ℕ) → i < length q.now → at q.now i ≡ entry → ⊥) }
 {
-    q.iter().position(|other| *other == entry)
+    // Not by the slice's iterator: its Option of a reference is laid out otherwise where pointers have 4 bytes.
+    (0..q.len()).find(|k| q[*k] == entry)
 }
 
 // How many are queued.
@@ -56,7 +57,10 @@ fn close_gap(q: &mut [u16], j: usize)
     if j >= n {
         return;
     }
-    q.copy_within(j + 1.., j);
+    // No std copy: it asks how far addresses are apart, which means another number on another processor.
+    for k in j..n - 1 {
+        q[k] = q[k + 1];
+    }
     q[n - 1] = 0;
 }
 

@@ -12,8 +12,10 @@ pub fn copy_slot(from: &[u16], to: &mut [u16], pages: usize, slot: usize)
     ensures { to.new ≡ store to.old (λ i. same (i / pages) slot) (at from.now) }
 {
     let start = slot * pages;
-    let end = start + pages;
-    to[start..end].copy_from_slice(&from[start..end]);
+    // No std copy: it asks how far addresses are apart, which means another number on another processor.
+    for i in start..start + pages {
+        to[i] = from[i];
+    }
 }
 
 // The slot's entries become 0.

@@ -22,7 +22,10 @@ pub fn copy_part(from: &[u32], from_part: usize, to: &mut [u32], to_part: usize,
 {
     let source = from_part * size;
     let start = to_part * size;
-    to[start..start + size].copy_from_slice(&from[source..source + size]);
+    // No std copy: it asks how far addresses are apart, which means another number on another processor.
+    for w in 0..size {
+        to[start + w] = from[source + w];
+    }
 }
 
 // Whether all words of the part are 0: sixteen are compared at once, and the first sixteen that are not all 0 decide.

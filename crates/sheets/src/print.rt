@@ -8,7 +8,10 @@ fn put_two(b: &mut [u8], from: usize, v: u32)
     requires { from + 2 ≤ length b.old }
     ensures { b.new ≡ laid b.old from (bytes 2 v) }
 {
-    b[from..from + 2].copy_from_slice(&v.to_be_bytes()[2..]);
+    // No std copy: it asks how far addresses are apart, which is another number on another processor.
+    let bytes = v.to_be_bytes();
+    b[from] = bytes[2];
+    b[from + 1] = bytes[3];
 }
 
 // Four bytes of a number, high byte first.
@@ -16,7 +19,11 @@ fn put_four(b: &mut [u8], from: usize, v: u32)
     requires { from + 4 ≤ length b.old }
     ensures { b.new ≡ laid b.old from (bytes 4 v) }
 {
-    b[from..from + 4].copy_from_slice(&v.to_be_bytes());
+    let bytes = v.to_be_bytes();
+    b[from] = bytes[0];
+    b[from + 1] = bytes[1];
+    b[from + 2] = bytes[2];
+    b[from + 3] = bytes[3];
 }
 
 // A field's tag and length.

@@ -62,6 +62,10 @@ laid_more b i a c = laid_by (laid (laid b i a) (i + length a) c) b i (a ++ c) (l
 pub laid_then : (b : List ℕ) {x y : List ℕ} (i : ℕ) (a c : List ℕ) (j : ℕ) → x ≡ laid b i a → j ≡ i + length a → y ≡ laid x j c → y ≡ laid b i (a ++ c)
 laid_then b i a c j e f g = g ∙ (λ t. laid (e t) (f t) c) ∙ laid_more b i a c
 
+-- byte after byte
+pub laid_set : (b : List ℕ) (i : ℕ) (run : List ℕ) (v j : ℕ) → j ≡ i + length run → j < length b → set (laid b i run) j v ≡ laid b i (run ++ v ∷ [])
+laid_set b i run v j e h = laid_one (laid b i run) j v (omega (arith, h, length_laid b i run)) ∙ ap (λ (k : ℕ). laid (laid b i run) k (v ∷ [])) e ∙ laid_more b i run (v ∷ [])
+
 -- a run that is copied over a part of its length
 pub laid_copied : (b : List ℕ) (i k : ℕ) (l run : List ℕ) → l ≡ run → k ≡ length run → i + k ≤ length b → take i b ++ (l ++ drop k (drop i b)) ≡ laid b i run
 laid_copied b i k l run d e f = ap (λ (r : List ℕ). take i b ++ (r ++ drop k (drop i b))) d ∙ (
@@ -85,6 +89,23 @@ unfolding bytes
 high_first_4 l v e = let a : v / 16777216 ≡ v / 256 / 256 / 256 = omega arith in let b : v / 65536 ≡ v / 256 / 256 = omega arith in rw (a, b) at e
 
 module _ (b : List ℕ) (i : ℕ) where
+  pub laid_2 : (x y : ℕ) → i + 2 ≤ length b → set (set b i x) (i + 1) y ≡ laid b i (x ∷ y ∷ [])
+  laid_2 x y h = ap (λ (l : List ℕ). set l (i + 1) y) (laid_one b i x (omega (arith, h))) ∙ laid_set b i (x ∷ []) y (i + 1) (omega arith) (omega (arith, h))
+
+  pub laid_4 : (x y u v : ℕ) → i + 4 ≤ length b → set (set (set (set b i x) (i + 1) y) (i + 2) u) (i + 3) v ≡ laid b i (x ∷ y ∷ u ∷ v ∷ [])
+  laid_4 x y u v h =
+      ap (λ (l : List ℕ). set (set l (i + 2) u) (i + 3) v) (laid_2 x y (omega (arith, h)))
+      ∙ ap (λ (l : List ℕ). set l (i + 3) v) (laid_set b i (x ∷ y ∷ []) u (i + 2) (omega arith) (omega (arith, h)))
+      ∙ laid_set b i (x ∷ y ∷ u ∷ []) v (i + 3) (omega arith) (omega (arith, h))
+
+  pub laid_2_by : (v : ℕ) → i + 2 ≤ length b → set (set b i (v / 256 % 256)) (i + 1) (v % 256) ≡ laid b i (bytes 2 v)
+  unfolding bytes
+  laid_2_by v h = laid_2 (v / 256 % 256) (v % 256) h
+
+  pub laid_4_by : (v : ℕ) → i + 4 ≤ length b → set (set (set (set b i (v / 256 / 256 / 256 % 256)) (i + 1) (v / 256 / 256 % 256)) (i + 2) (v / 256 % 256)) (i + 3) (v % 256) ≡ laid b i (bytes 4 v)
+  unfolding bytes
+  laid_4_by v h = laid_4 (v / 256 / 256 / 256 % 256) (v / 256 / 256 % 256) (v / 256 % 256) (v % 256) h
+
   -- a tag and a length
   pub laid_head : (tag size : ℕ) {x : List ℕ} → i < length b → x ≡ laid (set b i tag) (i + 1) (bytes 2 size) → x ≡ laid b i (tag ∷ bytes 2 size)
   laid_head tag size h e = laid_then b i (tag ∷ []) (bytes 2 size) (i + 1) (laid_one b i tag h) (omega arith) e
