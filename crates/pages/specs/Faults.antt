@@ -1,6 +1,8 @@
 -- The three ways of a fault, by the page's address, its questions in parts, and what it counts down.
-use Rattle.std.specs.Prelude.{◌≡◌, Bool, true, false, ◌&&◌, List, ℕ, ◌-◌, ◌/◌, ◌%◌, ◌^◌, eqb, set}
+use Rattle.std.specs.Prelude.{◌≡◌, refl, Bool, true, false, ◌&&◌, List, ℕ, ◌-◌, ◌/◌, ◌%◌, ◌^◌, eqb, set}
+use Rattle.std.proofs.Math.Decide.{ℕ_discrete}
 use Rattle.tables.specs.Base.{if, at}
+use Rattle.tables.specs.Laws.{if_no}
 use Rattle.tables.specs.Queue.{size}
 use Rattle.tables.specs.Questions.{Questions, none, ask, first_no}
 use Rattle.tables.specs.Rule.{Rule, same, below, non, ◌or◌, names, test}
@@ -38,6 +40,29 @@ abbrev pub is_live_way : Way → Bool
 is_live_way New = false
 is_live_way Held = false
 is_live_way Live = true
+
+-- the way that a number says
+abbrev pub numbered : ℕ → Way
+numbered n = if (eqb n 0) New (if (eqb n 2) Live Held)
+
+-- .. it is new for 0 alone, and live for 2 alone
+pub new_numbered : (n : ℕ) → is_new (numbered n) ≡ eqb n 0
+new_numbered n = go (eqb n 0) (eqb n 2)
+  where
+    go : (a b : Bool) → is_new (if a New (if b Live Held)) ≡ a
+    go true b = refl
+    go false true = refl
+    go false false = refl
+
+pub live_numbered : (n : ℕ) → is_live_way (numbered n) ≡ eqb n 2
+live_numbered n = elim (ℕ_discrete n 0) [
+  | yes e ↦ rw e refl
+  | no e ↦ rw (if_no n 0 New (if (eqb n 2) Live Held) e) (go (eqb n 2))
+]
+  where
+    go : (b : Bool) → is_live_way (if b Live Held) ≡ b
+    go true = refl
+    go false = refl
 
 -- 14 and 15: the page in no transfer; in no frame
 abbrev pub away_asked : Sizes → List Frame → ℕ → Questions

@@ -45,20 +45,36 @@ fn is_quiet(reads: bool, frame: Frame) -> bool
     }
 }
 
-// Questions 13 and 14: the page's frame; reads: of a read or a look.
-pub fn ask_frame(reads: bool, sizes: Sizes, frames: &[u64], page: usize) -> Result<usize, Refusal>
+// What questions 13 and 14 find; and the page's frame, or the count of frames where it is in none.
+#[derive(Drop)]
+pub struct Seat {
+    pub asked: Result<(), Refusal>,
+    pub frame: usize,
+}
+
+// Questions 13 and 14, and where the page is, refused or not; reads: of a read or a look.
+pub fn ask_frame(reads: bool, sizes: Sizes, frames: &[u64], page: usize) -> Seat
     requires { Seats sizes (frames_given sizes frames) × (page < 65535) }
-    ensures answer { said result ≡ first_no (frame_asked reads sizes (frames_entered sizes frames) page) }
-    ensures frame { IfOk result (λ f. f ≡ frame_in sizes.frames (unpacked frames.now) page) }
+    ensures answer { said result.asked ≡ first_no (frame_asked reads sizes (frames_entered sizes frames) page) }
+    ensures frame { result.frame ≡ frame_in sizes.frames (unpacked frames.now) page }
 {
-    let f = frame_of(frames, sizes.frames, page);
-    if f >= sizes.frames {
-        return Err(Refusal::PageOut);
+    let frame = frame_of(frames, sizes.frames, page);
+    if frame >= sizes.frames {
+        return Seat {
+            asked: Err(Refusal::PageOut),
+            frame,
+        };
     }
-    if !is_quiet(reads, frame_at(frames, f)) {
-        return Err(Refusal::InTransfer);
+    if !is_quiet(reads, frame_at(frames, frame)) {
+        return Seat {
+            asked: Err(Refusal::InTransfer),
+            frame,
+        };
     }
-    Ok(f)
+    Seat {
+        asked: Ok(()),
+        frame,
+    }
 }
 
 // Questions 3, 4, 8, 13 and 14: those of a read, a write and a page look; reads: not of a write. All yes: the page's frame.
@@ -79,5 +95,7 @@ pub fn ask_served(
 {
     ask_slot(in_range, slot, numbers, active)?;
     let i = page_of(sizes, slot, page);
-    ask_frame(reads, sizes, frames, i)
+    let seat = ask_frame(reads, sizes, frames, i);
+    seat.asked?;
+    Ok(seat.frame)
 }

@@ -11,7 +11,8 @@ ghost use Rattle.model.specs.Laws.Fit.{Within};
 ghost use Rattle.model.specs.Refusals.{said};
 ghost use Rattle.leaves.specs.Packed.{unpacked, frames_given, frames_entered};
 ghost use Rattle.pages.specs.Needs.{Seats, Pooled};
-ghost use Rattle.pages.specs.Faults.{way_of, is_new, is_live_way, away_asked, supply_asked, cleared, chosen};
+ghost use Rattle.pages.specs.declared.supply.Way.{Way};
+ghost use Rattle.pages.specs.Faults.{way_of, numbered, is_new, is_live_way, away_asked, supply_asked, cleared, chosen};
 
 use leaves::cells::{at, put};
 use leaves::marks::clear_mark;
@@ -34,6 +35,34 @@ pub enum Way {
     Held,
     // its address is live
     Live,
+}
+
+// What says which way: the way itself, or its number, of which 0 is new, 2 live and any other held.
+pub trait SaysWay: Copy {
+    ghost says: { Self → Way };
+
+    fn way(self) -> Way
+        ensures { result ≡ says self };
+}
+
+impl SaysWay for Way {
+    ghost says = { λ way. way };
+
+    fn way(self) -> Way {
+        self
+    }
+}
+
+impl SaysWay for u8 {
+    ghost says = { numbered };
+
+    fn way(self) -> Way {
+        match self {
+            0 => Way::New,
+            2 => Way::Live,
+            _ => Way::Held,
+        }
+    }
 }
 
 pub fn way_of(page: usize, addresses: &[u16], states: &[u8]) -> Way
@@ -92,8 +121,8 @@ pub fn ask_supply(
 }
 
 // A page with no address takes a free record, near its neighbour's or by the hand. The result is that record + 1, or 0 where none is taken.
-pub fn hold(
-    way: Way,
+pub fn hold<W: SaysWay>(
+    way: W,
     sizes: Sizes,
     slot: usize,
     page: usize,
@@ -103,14 +132,14 @@ pub fn hold(
     owners: &mut [u8],
     free_map: &mut [u32],
 ) -> u32
-    requires { Within sizes × (slot < 256) × (page < 65535) × Pooled sizes pool states.old free_map.old × ((is_new way ≡ true) → 0 < pool.free) }
-    ensures taken { result ≡ if (is_new way) (suc (chosen sizes pool addresses.old states.old page)) 0 }
-    ensures addresses { addresses.new ≡ if (is_new way) (set addresses.old page (suc (chosen sizes pool addresses.old states.old page))) addresses.old }
-    ensures states { states.new ≡ if (is_new way) (set states.old (chosen sizes pool addresses.old states.old page) NULLED) states.old }
-    ensures owners { owners.new ≡ if (is_new way) (set owners.old (chosen sizes pool addresses.old states.old page) slot) owners.old }
-    ensures map { free_map.new ≡ if (is_new way) (cleared free_map.old (chosen sizes pool addresses.old states.old page)) free_map.old }
+    requires { Within sizes × (slot < 256) × (page < 65535) × Pooled sizes pool states.old free_map.old × ((is_new (W.says way) ≡ true) → 0 < pool.free) }
+    ensures taken { result ≡ if (is_new (W.says way)) (suc (chosen sizes pool addresses.old states.old page)) 0 }
+    ensures addresses { addresses.new ≡ if (is_new (W.says way)) (set addresses.old page (suc (chosen sizes pool addresses.old states.old page))) addresses.old }
+    ensures states { states.new ≡ if (is_new (W.says way)) (set states.old (chosen sizes pool addresses.old states.old page) NULLED) states.old }
+    ensures owners { owners.new ≡ if (is_new (W.says way)) (set owners.old (chosen sizes pool addresses.old states.old page) slot) owners.old }
+    ensures map { free_map.new ≡ if (is_new (W.says way)) (cleared free_map.old (chosen sizes pool addresses.old states.old page)) free_map.old }
 {
-    let Way::New = way else {
+    let Way::New = way.way() else {
         return 0;
     };
     let record = pick(sizes, addresses, free_map, pool.hand as usize, page);
@@ -123,8 +152,8 @@ pub fn hold(
 }
 
 // A read begins for a live address; otherwise the frame is zeroed and stands at the removal list's front.
-pub fn serve(
-    way: Way,
+pub fn serve<W: SaysWay>(
+    way: W,
     sizes: Sizes,
     page: usize,
     frame: usize,
@@ -133,9 +162,9 @@ pub fn serve(
     removal_list: &mut [u16],
 )
     requires { Within sizes × (page < 65535) × (frame < sizes.frames) × (length words.old ≡ sizes.frames * sizes.words) × Holds (queue (length removal_list.old) removal_list.old) × (size removal_list.old < length removal_list.old) }
-    ensures frames { unpacked frames.new ≡ set (unpacked frames.old) frame (if (is_live_way way) (awaiting page) (fresh page)) }
-    ensures words { words.new ≡ if (is_live_way way) words.old (set_part sizes frame (λ w. 0) words.old) }
-    ensures list { removal_list.new ≡ if (is_live_way way) removal_list.old (push_front removal_list.old frame) }
+    ensures frames { unpacked frames.new ≡ set (unpacked frames.old) frame (if (is_live_way (W.says way)) (awaiting page) (fresh page)) }
+    ensures words { words.new ≡ if (is_live_way (W.says way)) words.old (set_part sizes frame (λ w. 0) words.old) }
+    ensures list { removal_list.new ≡ if (is_live_way (W.says way)) removal_list.old (push_front removal_list.old frame) }
 {
     let mut taken = Frame {
         page: (page + 1) as u16,
@@ -145,7 +174,7 @@ pub fn serve(
         initial: 0,
         transfer: READING,
     };
-    if let Way::Live = way {
+    if let Way::Live = way.way() {
         put_frame(frames, frame, taken);
         return;
     }

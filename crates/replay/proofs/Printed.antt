@@ -1,5 +1,5 @@
 -- What is printed: a whole field's line and then the rest; and lines gathered in a buffer.
-use Rattle.std.proofs.Common.{◌≡◌, ℕ, zero, suc, ◌+◌, ◌-◌, ◌<◌, ◌≤◌, Bool, true, false, ◌&&◌, ltb, leb, List, [], ◌++◌, Some, None, length, sym, refl, ap, ◌∙◌, append_assoc, suc-add, add-one, arith, ltb-true, leb-true}
+use Rattle.std.proofs.Common.{◌≡◌, ℕ, zero, suc, ◌+◌, ◌-◌, ◌<◌, ◌≤◌, Bool, true, false, ◌&&◌, ltb, leb, List, [], ◌++◌, Result, Ok, Err, length, sym, refl, ap, ◌∙◌, append_assoc, suc-add, add-one, arith, ltb-true, leb-true}
 use Rattle.tables.specs.Base.{if}
 use Rattle.model.specs.declared.event.Answer.{Answer}
 use Rattle.model.specs.State.{State}
@@ -72,10 +72,10 @@ pub record Taken (step : Step) (f : Field) (r : Bool) : Type 0 where
   pub asks : step.asked ≡ request_of f
   pub ends_at : step.next ≡ next_of f
 
-pub step_taken : (step : Step) (f : Field) (r : Bool) → Some step ≡ step_of f r → Taken step f r
+pub step_taken : (step : Step) (f : Field) (r : Bool) → Ok step ≡ step_of f r → Taken step f r
 step_taken step f r e = go (is_whole f && r) refl e
   where
-    go : (b : Bool) → is_whole f && r ≡ b → Some step ≡ if b (Some (record { asked = request_of f; next = next_of f })) None → Taken step f r
+    go : (b : Bool) → is_whole f && r ≡ b → ◌≡◌ {A = Result Step Step} (Ok step) (if b (Ok (record { asked = request_of f; next = next_of f })) (Err (record { asked = request_of f; next = next_of f }))) → Taken step f r
     go true t s = let w = and_both (is_whole f) r t in record { whole = w.0; room = w.1; asks = cc; ends_at = cc }
     go false t s = absurd cc
 
@@ -94,7 +94,7 @@ pub ran_none : (s out : List ℕ) (i n : ℕ) (st : State) → Ran s out out i n
 ran_none s out i n st = record { forth = omega arith; within = λ h. h; bytes = []; wrote = record { buffer = refl; end = omega arith; fits = omega arith; size = refl }; is = λ offset t. refl }
 
 pub ran_more : {s before mid after : List ℕ} {from count place size n end : ℕ} {st now left : State} {a : Answer} {step : Step}
-    → Ran s before mid from count st place size n now → Some step ≡ step_of (field_at s place) (room size n)
+    → Ran s before mid from count st place size n now → Ok step ≡ step_of (field_at s place) (room size n)
     → record { answer = a; left = left } ≡ carried now step.asked
     → Wrote mid after size (line_of (n + 1) step.asked.kind a.refusal a.result) end
     → Ran s before after from count st step.next end (n + 1) left
@@ -127,6 +127,6 @@ ran_more {s} {before} {mid} {after} {from} {count} {place} {size} {n} {end} {st}
 
 -- a line has room behind those that stand in the buffer
 pub ran_room : {s before out : List ℕ} {from count place size n : ℕ} {st now : State} {step : Step} → Ran s before out from count st place size n now
-    → Some step ≡ step_of (field_at s place) (room size n) → 4096 ≤ length before → (size + 46 ≤ length out) × (n < 18446744073709551615)
+    → Ok step ≡ step_of (field_at s place) (room size n) → 4096 ≤ length before → (size + 46 ≤ length out) × (n < 18446744073709551615)
 ran_room {s} {before} {out} {from} {count} {place} {size} {n} {st} {now} {step} ran e p =
     let r = roomy size n (step_taken step (field_at s place) (room size n) e).room in (omega (arith, r.0, p, ran.wrote.size), r.1)

@@ -1,5 +1,5 @@
 -- The input in pieces: what a refill leaves, what a field asks for, and what follows the whole fields that have come.
-use Rattle.std.specs.Prelude.{◌≡◌, ℕ, ◌+◌, ◌-◌, ◌%◌, ◌^◌, ◌≤◌, Bool, true, false, ◌&&◌, List, length, take, drop, ◌==◌, nat_le, nat_lt, Option, Some, None}
+use Rattle.std.specs.Prelude.{◌≡◌, ℕ, ◌+◌, ◌-◌, ◌%◌, ◌^◌, ◌≤◌, Bool, true, false, ◌&&◌, List, length, take, drop, ◌==◌, nat_le, nat_lt, Result, Ok, Err}
 use Rattle.tables.specs.Base.{if}
 use Rattle.model.specs.declared.request.Request.{Request}
 use Rattle.fields.specs.Fields.{CUT}
@@ -57,9 +57,9 @@ next_of Wrong = 0
 abbrev pub room : ℕ → ℕ → Bool
 room size n = nat_le size 4050 && nat_lt n 18446744073709551615
 
--- what a whole field asks for, and where the next one starts, where its line has room
-abbrev pub step_of : Field → Bool → Option Step
-step_of f r = if (is_whole f && r) (Some (record { asked = request_of f; next = next_of f })) None
+-- what a field asks for, and where the next one starts: Ok where it is whole and its line has room
+abbrev pub step_of : Field → Bool → Result Step Step
+step_of f r = let step : Step = record { asked = request_of f; next = next_of f } in if (is_whole f && r) (Ok step) (Err step)
 
 -- ── what follows them, where the input may have ended ──
 abbrev pub follows : Bool → Field → Next

@@ -1,5 +1,6 @@
 // The input in pieces: what has come and is not used yet stands in a buffer.
-ghost use Rattle.std.specs.Prelude.{◌≡◌, ◌-◌, ◌≤◌, false, ◌++◌, length, take, drop, IfOk, OnErr};
+ghost use Rattle.std.specs.Prelude.{◌≡◌, ◌-◌, ◌≤◌, false, ◌++◌, length, take, drop, Ok, Err, IfOk, OnErr};
+ghost use Rattle.tables.specs.Base.{if};
 ghost use Rattle.fields.specs.Fields.{field_at};
 ghost use Rattle.replay.specs.Input.{past as Input·past, unread, Refilled, cut as Input·cut, room, step_of, follows};
 
@@ -86,28 +87,38 @@ pub fn cut() -> Request
     }
 }
 
-// What a whole field asks for, and where the next one starts.
+// What a field asks for, and where the next one starts; of one that is not whole a cut, and 0.
 #[derive(Drop)]
 pub struct Step {
     pub asked: Request,
     pub next: usize,
 }
 
-// The field at a place, if it is whole and its line has room: n events are done and their lines take `size` bytes.
-pub fn step_at(input: &[u8], place: usize, size: usize, n: u64) -> Option<Step>
+// A whole field's step, if its line has room.
+fn roomy(room: bool, step: Step) -> Result<Step, Step>
+    ensures { result ≡ if room (Ok step) (Err step) }
+{
+    if room { Ok(step) } else { Err(step) }
+}
+
+// The field at a place, Ok if it is whole and its line has room: n events are done and their lines take `size` bytes.
+pub fn step_at(input: &[u8], place: usize, size: usize, n: u64) -> Result<Step, Step>
     ensures { result ≡ step_of (field_at input.now place) (room size n) }
 {
     let room = (size <= 4050) & (n < u64::MAX);
-    if !room {
-        return None;
-    }
     match fields::field_at(input, place) {
-        Field::Whole { request, next } => Some(Step {
-            asked: request,
-            next,
+        Field::Whole { request, next } => roomy(
+            room,
+            Step {
+                asked: request,
+                next,
+            },
+        ),
+        Field::Cut { next } => roomy(room, Step { asked: cut(), next }),
+        Field::End | Field::Short | Field::Wrong => Err(Step {
+            asked: cut(),
+            next: 0,
         }),
-        Field::Cut { next } => Some(Step { asked: cut(), next }),
-        Field::End | Field::Short | Field::Wrong => None,
     }
 }
 

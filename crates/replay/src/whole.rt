@@ -60,7 +60,7 @@ pub fn whole_fields(
     let mut place = from;
     let mut size = 0;
     let mut n = count;
-    while let Some(step) = step_at(input, place, size, n) {
+    while let Ok(step) = step_at(input, place, size, n) {
         n += 1;
         let asked = step.asked;
         held = carry(
