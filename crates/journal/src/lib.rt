@@ -8,6 +8,8 @@ ghost use Rattle.journal.specs.Layout.{next_sequence, area_at, home_at, commit_w
 ghost use Rattle.journal.specs.Steps.{asked, looked, recovers};
 
 const MAGIC: u32 = 0x4A524E4C;
+// how many home sectors a commit sector has words for
+const MOST_HOMES: usize = 125;
 
 // What the firmware is to do next for a store. Contents and home sectors are named by their number in the store.
 #[derive(Drop)]
@@ -73,16 +75,24 @@ pub fn journal_home(most: u32, x: u32) -> u32
     1 + most + most + x
 }
 
-// The commit sector of store `sequence` with these home sectors, zeros behind the last.
+// An entry, and 0 past the end.
+fn entry_or_zero(entries: &[u32], i: usize) -> u32
+    ensures { result ≡ at entries.now i }
+{
+    if i < entries.len() { entries[i] } else { 0 }
+}
+
+// The commit sector of store `sequence` with these home sectors, zeros behind the last. No std copy: the library for C would need memmove for it alone.
 pub fn journal_commit(words: &mut [u32; 128], sequence: u32, homes: &[u32])
     requires { length homes.now ≤ 125 }
     ensures { words.new ≡ commit_words sequence homes.now }
 {
-    words.fill(0);
+    for i in 0..MOST_HOMES {
+        words[3 + i] = entry_or_zero(homes, i);
+    }
     words[0] = MAGIC;
     words[1] = sequence;
     words[2] = homes.len() as u32;
-    words[3..3 + homes.len()].copy_from_slice(homes);
 }
 
 // What a recovery finds in the commit sector, once it has synced: a store that is whole in its area.

@@ -1,10 +1,10 @@
 -- Laws of commit sectors: 128 words, what each is, and that a valid one is the commit sector of the store that it names.
 use Rattle.std.specs.Prelude.{◌≡◌, ℕ, zero, suc, ◌+◌, ◌-◌, ◌<◌, ◌≤◌, true, ◌&&◌, T, List, [], ◌∷◌, ◌++◌, length, ◌==◌, nat_le, slice_set, refl}
-use Rattle.std.proofs.Common.{ap, sym, ◌∙◌, arith, leb→le, length-append, ext_get_or}
+use Rattle.std.proofs.Common.{ap, sym, ◌∙◌, arith, not-suc-le-zero, leb→le, length-append, length-set, ext_get_or, get_or-set_same, get_or-set_other}
 use Rattle.std.specs.Prelude.{replicate, drop}
 use borrow.Rule.Slice.PartMut.{put_mid}
 use Rattle.std.proofs.Math.Path.{subst}
-use Rattle.std.proofs.Math.Decide.{dec_lt}
+use Rattle.std.proofs.Math.Decide.{dec_lt, ℕ_discrete}
 use Rattle.std.proofs.Math.Dec.{eqb→eq}
 use Rattle.tables.specs.Base.{at, tab}
 use Rattle.tables.specs.Laws.{T→true, and_left, and_right, and_intro, at_tab0, length_tab}
@@ -57,7 +57,38 @@ commit_is n homes c small long magic number count each-home = ext_get_or 0 c (co
     go (suc (suc zero)) l = count
     go (suc (suc (suc i))) l = let e : suc (suc (suc i)) ≡ 3 + i = omega arith in ap (at c) e ∙ each-home i (omega (arith, l, long)) ∙ sym (at_home n homes i) ∙ ap (at (commit_words n homes)) (sym e)
 
--- ── a commit sector as it is written: zeros, then the three words, then the home sectors ──
+-- ── a commit sector as it is written: the first i home sectors' words stand ──
+pub record Filled (homes : List ℕ) (i : ℕ) (words : List ℕ) : Type 0 where
+  pub long : length words ≡ sector_words
+  pub stands : (k : ℕ) → k < i → at words (3 + k) ≡ at homes k
+
+pub filled_none : (homes words : List ℕ) → length words ≡ sector_words → Filled homes 0 words
+filled_none homes words e = record { long = e; stands = λ k l. absurd (not-suc-le-zero l) }
+
+pub filled_next : (homes : List ℕ) (i : ℕ) (words : List ℕ) → Filled homes i words → 3 + i < sector_words → Filled homes (i + 1) (slice_set words (3 + i) (at homes i))
+filled_next homes i words s h = record {
+  long = length-set words (3 + i) (at homes i) ∙ s.long;
+  stands = λ k l. elim (ℕ_discrete k i) [
+    | yes e ↦ rw e (get_or-set_same words (3 + i) (at homes i) 0 (omega (arith, s.long)))
+    | no e ↦ get_or-set_other words (3 + i) (3 + k) (at homes i) 0 (omega arith) ∙ s.stands k (omega arith)
+  ];
+}
+
+-- .. and the three words before them
+pub filled_whole : (n : ℕ) (homes words : List ℕ) (i : ℕ) → most_homes ≤ i → length homes ≤ most_homes → Filled homes i words → slice_set (slice_set (slice_set words 0 MAGIC) 1 n) 2 (length homes) ≡ commit_words n homes
+filled_whole n homes words i h small s =
+    let a = slice_set words 0 MAGIC in
+    let b = slice_set a 1 n in
+    let count = length homes in
+    let la : length a ≡ length words = length-set words 0 MAGIC in
+    let lb : length b ≡ length words = length-set a 1 n ∙ la in
+    commit_is n homes (slice_set b 2 count) small (length-set b 2 count ∙ lb ∙ s.long)
+    (get_or-set_other b 2 0 count 0 (omega arith) ∙ get_or-set_other a 1 0 n 0 (omega arith) ∙ get_or-set_same words 0 MAGIC 0 (omega (arith, s.long)))
+    (get_or-set_other b 2 1 count 0 (omega arith) ∙ get_or-set_same a 1 n 0 (omega (arith, la, s.long)))
+    (get_or-set_same b 2 count 0 (omega (arith, lb, s.long)))
+    (λ k l. get_or-set_other b 2 (3 + k) count 0 (omega arith) ∙ get_or-set_other a 1 (3 + k) n 0 (omega arith) ∙ get_or-set_other words 0 (3 + k) MAGIC 0 (omega arith) ∙ s.stands k (omega arith))
+
+-- .. or zeros, then the three words, then the home sectors at once
 zeros_are : (n : ℕ) → replicate n 0 ≡ zeros n
 unfolding zeros
 zeros_are zero = refl
