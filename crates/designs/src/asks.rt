@@ -23,12 +23,13 @@ use model::sizes::Sizes;
 pub fn number_new(slots: usize, numbers: &[u32], number: u32) -> bool
     ensures { result ≡ test (new_number slots numbers.now number) }
 {
-    for s in 0..slots {
-        if at(numbers, s) == number {
+    for other in &numbers[..slots.min(numbers.len())] {
+        if *other == number {
             return false;
         }
     }
-    true
+    // Past the table each is 0.
+    number != 0 || slots <= numbers.len()
 }
 
 // Questions 3, 32, 5, 6 and 33.

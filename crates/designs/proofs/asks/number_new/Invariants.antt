@@ -3,5 +3,5 @@ use Prim.Native.Nat.{ℕ, ◌<◌}
 use Rattle.tables.specs.Base.{at}
 use Rattle.designs.proofs.asks.number_new.Given as goal
 
-abbrev pub invariant-loop-s : goal.invariant-loop-s
-invariant-loop-s l = (i : ℕ) → i < l.s → ¬ (at l.numbers i ≡ l.number)
+abbrev pub invariant-loop-other : goal.invariant-loop-other
+invariant-loop-other l = (i : ℕ) → i < l.other-index → ¬ (at l.numbers i ≡ l.number)
