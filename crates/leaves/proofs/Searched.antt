@@ -230,6 +230,9 @@ module _ (map : List ℕ) where
     ]
 
 -- ── the lower of two numbers ──
+pub least_left : (a b r : ℕ) → r ≡ if (ltb a b) a b → r ≤ a
+least_left a b r e = elim (dec_lt a b) [ yes h ↦ omega (arith, e ∙ if_true (ltb a b) a b (lt→ltb a b h)) | no h ↦ omega (arith, e ∙ if_false (ltb a b) a b (λ t. h (ltb→lt a b t))) ]
+
 pub least_right : (a b r : ℕ) → r ≡ if (ltb a b) a b → r ≤ b
 least_right a b r e = elim (dec_lt a b) [ yes h ↦ omega (arith, e ∙ if_true (ltb a b) a b (lt→ltb a b h)) | no h ↦ omega (arith, e ∙ if_false (ltb a b) a b (λ t. h (ltb→lt a b t))) ]
 

@@ -1,11 +1,12 @@
 -- How often records are named, counted up to 2; and of which slots the number stands in a lower one, while the pass goes on.
-use Rattle.std.specs.Prelude.{◌≡◌, refl, Bool, List, ℕ, zero, suc, ◌+◌, ◌<◌, eqb, length, set, replicate}
+use Rattle.std.specs.Prelude.{◌≡◌, refl, Bool, List, ℕ, zero, suc, ◌+◌, ◌<◌, ◌≤◌, eqb, length, set, replicate}
 use Rattle.std.proofs.Common.{ap, sym, ◌∙◌, inl, inr, arith, eqb→eq, length-set, get_or-set_same, get_or-set_other}
 use Rattle.std.proofs.Math.Decide.{ℕ_discrete}
 use Rattle.tables.specs.Base.{at, find}
 use Rattle.tables.specs.Laws.{Found, found, eq→T}
 use Rattle.tables.specs.Rule.{Rule, Holds, same, below, non, ◌and◌, each, some}
 use Rattle.tables.specs.Store.{Split, choose, at_choose}
+use Rattle.tables.specs.Turn.{Passed}
 use Rattle.tables.specs.StoreLoops.{Turned, stored, turned_at}
 use Rattle.mending.specs.Passes.{zeroed}
 
@@ -92,6 +93,11 @@ twice_tally t r h w = twice_seen (t.seen r h) w
 -- ── doubled slots: the pass looks at the numbers that are left so far ──
 abbrev pub doubled_in : List ℕ → ℕ → Rule
 doubled_in ns s = non (same (at ns s) 0) and some s λ t. same (at ns t) (at ns s)
+
+-- no slot below has the number
+pub never_doubled : (ns : List ℕ) (s t : ℕ) → Passed t (λ k. non (same (at ns k) (at ns s))) → s ≤ t → ¬ (Holds (doubled_in ns s))
+unfolding Passed
+never_doubled ns s t p h (nz, (k, l, e)) = p k (omega arith) e
 
 -- what stands at an entry that the loop has passed
 passed_at : {l m : List ℕ} {t : ℕ → Rule} {k : ℕ} → Turned l t zeroed k m → (i : ℕ) → i < length l → i < k → Split (Holds (t i)) (at m i) 0 (at l i)

@@ -41,6 +41,9 @@ module _ (s : List ℕ) (w n least i : ℕ) where
   pub page_low : page_at s i < least → false ≡ test (field_fits s w n least i)
   page_low l = sym (untold (field_fits s w n least i) (λ h. h.1.1.0 l))
 
+  pub page_blank : test (blank w (word_at s i)) ≡ true → false ≡ test (field_fits s w n least i)
+  page_blank e = sym (untold (field_fits s w n least i) (λ h. h.1.1.1 (says_yes (blank w (word_at s i)) e)))
+
   -- the rest decides where its head, its page and its place are of the form
   pub page_told : test (headed s i 2 (2 + 4 * w)) ≡ true → page_at s i < n → ¬ (page_at s i < least) → (b : Bool) → b ≡ test (blank w (word_at s i)) → not b ≡ test (field_fits s w n least i)
   unfolding test

@@ -1,5 +1,5 @@
 -- Laws of a sector's bytes: back is the same words, and the same bytes; and what loops of code cite.
-use Rattle.std.specs.Prelude.{◌≡◌, refl, List, ℕ, ◌+◌, ◌*◌, ◌/◌, ◌%◌, ◌<◌, ◌≤◌, suc, length}
+use Rattle.std.specs.Prelude.{◌≡◌, refl, List, ℕ, ◌+◌, ◌*◌, ◌/◌, ◌%◌, ◌<◌, ◌≤◌, suc, length, set}
 use Rattle.std.proofs.Common.{ap, sym, ◌∙◌, arith}
 use Rattle.std.specs.Int.{w32, to_le_bytes}
 use borrow.Rule.Slice.PartMut.{put_mid}
@@ -37,9 +37,23 @@ byte_at c k = byte_of (at c (k / 4)) (k % 4)
 byte_of_holds : (c : Content) (i b : ℕ) → b < 4 → byte_of (at c i) b ≡ byte_at c (4 * i + b)
 byte_of_holds c i b h = let e : (4 * i + b) / 4 ≡ i = omega arith in let d : (4 * i + b) % 4 ≡ b = omega arith in rw (e, d)
 
-pub written_next : (c : Content) (i k : ℕ) (bytes copied : List ℕ) → copied ≡ to_le_bytes w32 (at c i) → k ≡ 4 → i < sector_words → Filling sector_bytes (byte_at c) (4 * i) bytes
+pub written_next : (c : Content) (i v : ℕ) (bytes : List ℕ) → v ≡ at c i → i < sector_words → Filling sector_bytes (byte_at c) (4 * i) bytes
+    → Filling sector_bytes (byte_at c) (4 * (i + 1)) (set (set (set (set bytes (4 * i) (v % 256)) (4 * i + 1) (v / 256 % 256)) (4 * i + 2) (v / 65536 % 256)) (4 * i + 3) (v / 16777216 % 256))
+written_next c i v bytes e h s =
+    let p = 4 * i in
+    let v0 : v % 256 ≡ byte_at c p = rw e (sym (byte_0 (at c i)) ∙ byte_of_holds c i 0 (omega arith) ∙ ap (byte_at c) (omega arith)) in
+    let v1 : v / 256 % 256 ≡ byte_at c (p + 1) = rw e (sym (byte_1 (at c i)) ∙ byte_of_holds c i 1 (omega arith)) in
+    let v2 : v / 65536 % 256 ≡ byte_at c (p + 2) = rw e (sym (byte_2 (at c i)) ∙ byte_of_holds c i 2 (omega arith)) in
+    let v3 : v / 16777216 % 256 ≡ byte_at c (p + 3) = rw e (sym (byte_3 (at c i)) ∙ byte_of_holds c i 3 (omega arith)) in
+    let s1 = filling_next p _ (omega arith) v0 s in
+    let s2 = filling_to (p + 2) (omega arith) (filling_next (p + 1) _ (omega arith) v1 s1) in
+    let s3 = filling_to (p + 3) (omega arith) (filling_next (p + 2) _ (omega arith) v2 s2) in
+    filling_to (4 * (i + 1)) (omega arith) (filling_next (p + 3) _ (omega arith) v3 s3)
+
+-- .. or copied at once
+pub written_copied : (c : Content) (i k : ℕ) (bytes copied : List ℕ) → copied ≡ to_le_bytes w32 (at c i) → k ≡ 4 → i < sector_words → Filling sector_bytes (byte_at c) (4 * i) bytes
     → Filling sector_bytes (byte_at c) (4 * (i + 1)) (put_mid (4 * i) k bytes copied)
-written_next c i k bytes copied e f h s =
+written_copied c i k bytes copied e f h s =
     let p = 4 * i in
     let v = at c i in
     let v0 : v % 256 ≡ byte_at c p = sym (byte_0 v) ∙ byte_of_holds c i 0 (omega arith) ∙ ap (byte_at c) (omega arith) in

@@ -2,7 +2,7 @@
 use mathlib.Core.Path.{◌∙◌}
 use native.Mathlib.Omega.{arith}
 use Rattle.disk.specs.Laws.Filling.{filling_none}
-use Rattle.disk.specs.Laws.Bytes.{written_next, written_whole}
+use Rattle.disk.specs.Laws.Bytes.{written_copied, written_whole}
 use Rattle.disk.proofs.bytes.fill_bytes.Goals as goal
 
 pub loop-i-init : goal.loop-i-init
@@ -11,7 +11,7 @@ loop-i-init c =
 
 pub loop-i-preserved : goal.loop-i-preserved
 loop-i-preserved c =
-    written_next c.args.words.now c.loop-i.i _ c.loop-i.bytes c.copy_from_slice.new.self (c.copy_from_slice.ensures.after ∙ c.to_le_bytes.ensures) (omega arith) (omega (arith, c.loop-i-test.true)) c.loop-i.invariant
+    written_copied c.args.words.now c.loop-i.i _ c.loop-i.bytes c.copy_from_slice.new.self (c.copy_from_slice.ensures.after ∙ c.to_le_bytes.ensures) (omega arith) (omega (arith, c.loop-i-test.true)) c.loop-i.invariant
 
 pub returns : goal.returns
 returns c =
