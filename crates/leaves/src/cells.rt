@@ -25,7 +25,7 @@ impl Entry for u8 {
     }
 
     fn is_zero(self) -> bool {
-        self == 0
+        self == 0 // of 8 bits
     }
 }
 
@@ -39,7 +39,7 @@ impl Entry for u16 {
     }
 
     fn is_zero(self) -> bool {
-        self == 0
+        self == 0 // of 16 bits
     }
 }
 
@@ -53,7 +53,7 @@ impl Entry for u32 {
     }
 
     fn is_zero(self) -> bool {
-        self == 0
+        self == 0 // of 32 bits
     }
 }
 
@@ -67,7 +67,7 @@ impl Entry for u64 {
     }
 
     fn is_zero(self) -> bool {
-        self == 0
+        self == 0 // of 64 bits
     }
 }
 
