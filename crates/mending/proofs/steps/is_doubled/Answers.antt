@@ -1,32 +1,30 @@
 -- `is_doubled` meets its contract: the numbers below slot s are asked for its own.
-use Rattle.std.proofs.Common.{◌≡◌, refl, Bool, not, ◌||◌, List, take, length, ℕ, zero, suc, ◌≤◌, sym, ap, ◌∙◌, arith, add-one, eq-eqb, ne_eqb}
-use Rattle.std.proofs.Math.Dec.{eqb}
-use Rattle.std.specs.List.{list_any}
-use Rattle.std.proofs.lemmas.List.Folds.{list_any_more}
-use Rattle.tables.specs.Base.{at, any}
-use Rattle.tables.specs.Rule.{test}
-use Rattle.tables.specs.Turn.{not_so}
+use Rattle.std.proofs.Common.{◌≡◌, ℕ, ◌<◌, List, length, take, sym, ◌∙◌, arith, length-take, slice_index_or}
+use Rattle.std.proofs.lemmas.List.{get_or-take, get_or_default}
+use Rattle.tables.specs.Base.{at}
+use Rattle.tables.specs.Turn.{yes_so, not_so}
 use Rattle.mending.specs.Names.{doubled_in}
 use Rattle.mending.proofs.steps.is_doubled.Goals as goal
 
-module _ (ns : List ℕ) (x : ℕ) where
-  among : (s : ℕ) → s ≤ length ns → list_any (λ y. eqb y x) (take s ns) ≡ any s (λ t. eqb (at ns t) x)
-  unfolding any
-  among zero h = refl
-  among (suc s) h =
-      ap (λ (n : ℕ). list_any (λ y. eqb y x) (take n ns)) (sym (add-one s))
-      ∙ list_any_more (λ y. eqb y x) ns s 0 (omega arith) ∙ ap (λ (b : Bool). b || eqb (at ns s) x) (among s (omega arith))
+-- an entry of the first n is one of the table
+nth : (s : List ℕ) (n k d : ℕ) → k < length (take n s) → slice_index_or (take n s) k d ≡ at s k
+nth s n k d h =
+    let inside : k < n = omega (arith, h, length-take n s) in
+    let below : k < length s = omega (arith, h, length-take n s) in
+    get_or-take n s k d inside ∙ get_or_default s k d 0 below
 
-doubled_by : (ns : List ℕ) (s : ℕ) → ¬ (at ns s ≡ 0) → any s (λ t. eqb (at ns t) (at ns s)) ≡ test (doubled_in ns s)
-unfolding test
-doubled_by ns s d = rw (ne_eqb (at ns s) 0 d)
+pub returns-then-number-eq0 : goal.returns-then-number-eq0
+returns-then-number-eq0 c =
+    not_so (doubled_in c.args.numbers.now c.args.s) (λ h. h.0 c.if-number-eq0.true)
 
-pub returns-then-number-ne0 : goal.returns-then-number-ne0
-returns-then-number-ne0 c =
-    let ns = c.args.numbers.now in
-    c.contains.ensures.value ∙ among ns (at ns c.args.s) c.args.s (omega arith) ∙ doubled_by ns c.args.s c.if-number-ne0.true
+pub returns-then-other-number : goal.returns-then-other-number
+returns-then-other-number c =
+    let a = c.args in
+    let k = c.loop-other.other-index in
+    let inside : k < a.s = omega (arith, c.loop-other-test.true, length-take a.s a.numbers.now) in
+    yes_so (doubled_in a.numbers.now a.s) (c.if-number-eq0.false, (k, inside, sym (nth a.numbers.now a.s k _ c.loop-other-test.true) ∙ c.if-other-number.true))
 
-pub returns-else-number-ne0 : goal.returns-else-number-ne0
-returns-else-number-ne0 c =
-    let ns = c.args.numbers.now in
-    ap not (eq-eqb (at ns c.args.s) 0 c.if-number-ne0.false) ∙ not_so (doubled_in ns c.args.s) (λ h. h.0 c.if-number-ne0.false)
+pub returns : goal.returns
+returns c =
+    let a = c.args in
+    not_so (doubled_in a.numbers.now a.s) (λ (nz, (k, l, e)). c.loop-other.invariant k (omega (arith, l, c.loop-other-test.false, length-take a.s a.numbers.now)) e)
